@@ -4,7 +4,9 @@
 mod held;
 mod list;
 mod look;
+mod op;
 
 pub use held::Held;
 pub use list::List;
 pub use look::item_at;
+pub use op::{Answer, Op2, apply, negate};
