@@ -1,5 +1,5 @@
 -- A sink in memory with a room and writes that fail.
-use Rattle.std.specs.Prelude.{◌≡◌, ℕ, ◌+◌, ◌-◌, Bool, ◌||◌, not, if◌then◌else◌, List, [], ◌++◌, length, take, nat_eq, nat_le}
+use Rattle.std.specs.Prelude.{ℕ, ◌+◌, ◌-◌, Bool, ◌||◌, not, if◌then◌else◌, List, [], ◌++◌, length, take, nat_eq, nat_le}
 use Rattle.std.specs.List.{list_any}
 use Rattle.ipg_outside.specs.Faults.{counted_up}
 use Rattle.ipg_outside.specs.Sink.{Output}
@@ -25,5 +25,5 @@ abbrev pub after_write : Tray → List ℕ → Tray
 after_write tray piece = record tray {
   bytes = tray.bytes ++ take (tray.room - length tray.bytes) piece;
   writes = counted_up tray.writes;
-  faults = if write_fails tray piece then counted_up tray.faults else tray.faults
+  faults = if write_fails tray piece then counted_up tray.faults else tray.faults;
 }

@@ -31,12 +31,7 @@ impl<R: std::rt::Files + Drop> Files for DiskFiles<R> {
 
     ghost faults = { λ files _. files.faults };
 
-    fn read_all(
-        &mut self,
-        alloc: Global,
-        name: &str,
-        limit: u64,
-    ) -> Result<Vec<u8>, FileFault> {
+    fn read_all(&mut self, alloc: Global, name: &str, limit: u64) -> Result<Vec<u8>, FileFault> {
         let answer = read_file(&self.rt, alloc, name, limit);
         if matches!(answer, Err(FileFault::Failed)) {
             self.faults = self.faults.saturating_add(1);

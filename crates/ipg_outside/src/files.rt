@@ -35,12 +35,7 @@ pub trait Files {
     ghost faults: { Self → List ℕ → ℕ };
 
     /// Reads a whole file of at most `limit` bytes.
-    fn read_all(
-        &mut self,
-        alloc: Global,
-        name: &str,
-        limit: u64,
-    ) -> Result<Vec<u8>, FileFault>
+    fn read_all(&mut self, alloc: Global, name: &str, limit: u64) -> Result<Vec<u8>, FileFault>
         requires { limit < 2 ^ 62 }
         ensures whole { IfOk result (λ bytes. ReadWhole (told self.old name.now) limit bytes.items) }
         ensures cut { IfErr result (λ fault. IfTooLarge fault (ReadCut (told self.old name.now) limit)) }

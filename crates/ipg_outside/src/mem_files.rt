@@ -78,11 +78,7 @@ fn find<'a>(files: &'a [StoredFile], name: &str) -> Option<&'a [u8]>
     found
 }
 
-fn read_limited(
-    alloc: Global,
-    bytes: &[u8],
-    limit: u64,
-) -> Result<Vec<u8>, FileFault>
+fn read_limited(alloc: Global, bytes: &[u8], limit: u64) -> Result<Vec<u8>, FileFault>
     requires { limit < 2 ^ 62 }
     ensures { Gives result (reading_of (holds bytes.now) limit) }
 {
@@ -90,20 +86,12 @@ fn read_limited(
     if bytes.len() <= limit {
         Ok(Vec::from_slice(alloc, bytes)?)
     } else {
-        Err(FileFault::TooLarge(Vec::from_slice(
-            alloc,
-            &bytes[..limit + 1],
-        )?))
+        Err(FileFault::TooLarge(Vec::from_slice(alloc, &bytes[..limit + 1])?))
     }
 }
 
 impl MemFiles {
-    fn answer(
-        &self,
-        alloc: Global,
-        name: &str,
-        limit: u64,
-    ) -> Result<Vec<u8>, FileFault>
+    fn answer(&self, alloc: Global, name: &str, limit: u64) -> Result<Vec<u8>, FileFault>
         requires { limit < 2 ^ 62 }
         ensures { Gives result (reading self.now name.now limit) }
     {
@@ -143,12 +131,7 @@ impl Files for MemFiles {
 
     ghost faults = { λ shelf name. shelf.faults };
 
-    fn read_all(
-        &mut self,
-        alloc: Global,
-        name: &str,
-        limit: u64,
-    ) -> Result<Vec<u8>, FileFault>
+    fn read_all(&mut self, alloc: Global, name: &str, limit: u64) -> Result<Vec<u8>, FileFault>
         requires { limit < 2 ^ 62 }
         ensures whole { IfOk result (λ bytes. ReadWhole (told_in name.now self.old.files) limit bytes.items) }
         ensures cut { IfErr result (λ fault. IfTooLarge fault (ReadCut (told_in name.now self.old.files) limit)) }

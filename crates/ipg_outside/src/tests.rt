@@ -1,7 +1,6 @@
 //! Happy calls of each public function, and the adapters over readers and writers that fail.
 use crate::{DiskFiles, FileFault, Files, MemFiles, MemSink, Sink, SinkFault, StdSink};
-use std::fs;
-use std::io;
+use std::{fs, io};
 
 fn answer(read: &Result<Vec<u8>, FileFault>) -> (&str, &[u8]) {
     match read {
@@ -43,7 +42,7 @@ fn writes_to_memory_up_to_its_room(rt: HostRuntime) -> anyhow::Result<()> {
         assert_eq!(rt; sink.write(piece), want);
     }
     assert_eq!(rt; sink.flush(), Ok(()));
-    assert_eq!(rt; sink.bytes(), b"abcde");
+    assert_eq!(rt; sink.bytes(), b"abcde".as_slice());
     Ok(())
 }
 

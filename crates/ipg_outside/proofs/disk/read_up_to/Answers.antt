@@ -8,7 +8,7 @@ pub loop-bytes-init : goal.loop-bytes-init
 loop-bytes-init g c = record {
   room = omega (arith, c.in_ok-bytes.ensures.len);
   chunk = grind (arith, common_steps);
-  so_far = rw c.in_ok-bytes.ensures.items (consumes-none _)
+  so_far = rw c.in_ok-bytes.ensures.items (consumes-none _);
 }
 
 pub returns-clause-cut : goal.returns-clause-cut
@@ -32,5 +32,5 @@ loop-bytes-preserved g c =
     record {
       room = omega (arith, length-take {A = ℕ});
       chunk = c.loop-bytes.invariant.chunk;
-      so_far = moves-more _ _ _ _ _ c.loop-bytes.invariant.so_far c.in_ok-read_more.ensures.moved
+      so_far = moves-more _ _ _ _ _ c.loop-bytes.invariant.so_far c.in_ok-read_more.ensures.moved;
     }

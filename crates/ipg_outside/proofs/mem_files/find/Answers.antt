@@ -7,8 +7,8 @@ use Rattle.ipg_outside.proofs.mem_files.find.Goals.{then-eq, else-eq}
 pub loop-file-preserved : goal.loop-file-preserved
 loop-file-preserved c =
     elim c.if-eq.branch [
-      then-eq w ↦ rw w.found-is (told-found _ _ _ _ _ _ _ c.loop-file-test.true c.file-item.is (rw c.as_str.ensures.value at (sym w.if-eq.ensures)) w.as_slice.ensures.value c.loop-file.invariant)
-    | else-eq w ↦ rw w.found-is (told-passed _ _ _ _ _ _ c.loop-file-test.true c.file-item.is (rw c.as_str.ensures.value at (sym w.if-eq.ensures)) c.loop-file.invariant)
+      | then-eq w ↦ rw w.found-is (told-found _ _ _ _ _ _ _ c.loop-file-test.true c.file-item.is (rw c.as_str.ensures.value at (sym w.if-eq.ensures)) w.as_slice.ensures.value c.loop-file.invariant)
+      | else-eq w ↦ rw w.found-is (told-passed _ _ _ _ _ _ c.loop-file-test.true c.file-item.is (rw c.as_str.ensures.value at (sym w.if-eq.ensures)) c.loop-file.invariant)
     ]
 
 pub returns : goal.returns

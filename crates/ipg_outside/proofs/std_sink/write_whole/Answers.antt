@@ -1,6 +1,6 @@
-use Rattle.std.proofs.Common.{rules, ◌≡◌, [], arith}
+use Rattle.std.proofs.Common.{◌≡◌, [], arith}
 use Rattle.std.proofs.lemmas.Grind.{common_steps}
-use Rattle.ipg_outside.proofs.Known.{Split, split-more, split-same, part-from_split, whole-from_split}
+use Rattle.ipg_outside.proofs.Known.{split-more, split-same, part-from_split, whole-from_split}
 use Rattle.ipg_outside.proofs.std_sink.write_whole.Goals as goal
 
 pub loop-rest-preserved : goal.loop-rest-preserved

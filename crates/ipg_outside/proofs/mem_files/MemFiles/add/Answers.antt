@@ -1,4 +1,4 @@
-use Rattle.std.proofs.Common.{map, refl}
+use Rattle.std.proofs.Common.{refl}
 use Rattle.std.proofs.lemmas.List.{map-append}
 use Rattle.ipg_outside.proofs.Told.{told-append}
 use Rattle.ipg_outside.proofs.mem_files.MemFiles.add.Goals as goal

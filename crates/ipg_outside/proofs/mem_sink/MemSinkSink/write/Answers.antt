@@ -1,4 +1,4 @@
-use Rattle.std.proofs.Common.{◌≡◌, length, arith, sym, ap, ◌∙◌, ◌++◌, take}
+use Rattle.std.proofs.Common.{◌≡◌, length, arith, ap, ◌∙◌, ◌++◌, take}
 use Rattle.std.proofs.Math.Seq.{take-length}
 use Rattle.std.proofs.lemmas.Grind.{common_steps}
 use Rattle.ipg_outside.proofs.Outputs.{breaks-at, takes-whole}
