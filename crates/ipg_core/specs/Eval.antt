@@ -1,8 +1,10 @@
 -- The value of an expression: a number of 64 bits, Fail or Range.
 use Rattle.std.specs.Prelude.{ℕ, Option, Some, None, Bool, true, false, ℤ, pos, negsuc, nat_eq, nat_lt, max, not, if◌then◌else◌}
-use Rattle.ipg_core.specs.declared.grammar.CoreExpr.{CoreExpr, fold-CoreExpr}
+use Rattle.ipg_core.specs.declared.grammar.CoreExpr.{CoreExpr, fold-CoreExpr, map-CoreExpr, out-CoreExpr}
 use Rattle.ipg_core.specs.declared.grammar.CoreExpr.TheOpen.{CoreExpr-F}
-use Rattle.ipg_core.specs.Number.{Answer, Val, Fail, Range, limited, apply_of, negate_of}
+use Rattle.ipg_core.specs.Number.{limited, apply_of, negate_of}
+use Rattle.ipg_core.specs.declared.number.Answer.{Answer}
+use Rattle.ipg_core.specs.declared.number.Answer.TheVariants.{Val, Fail, Range}
 use Rattle.ipg_core.specs.Tree.{Kid, Kids, no_kids, kid, kid_at}
 use Rattle.ipg_core.specs.Touch.{ends_of, touches, Ends}
 use Rattle.ipg_core.specs.Environment.{Environment, value_at, done_at, items_so_far, seen, field_of_item}
@@ -75,3 +77,7 @@ limited_reading e env = on_value (reading e env) limited
 -- the value of an expression in an environment
 unfoldable pub eval : CoreExpr → Reading
 eval = fold-CoreExpr Reading limited_reading
+
+-- one level of an expression, its parts as readings
+abbrev pub opened : CoreExpr → CoreExpr-F Reading
+opened e = map-CoreExpr CoreExpr Reading eval (out-CoreExpr e)

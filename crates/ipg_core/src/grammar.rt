@@ -2,11 +2,7 @@
 
 use sqlite_items::{Boxed as Held, Items as List};
 
-#[derive(Clone, Copy, Debug, PartialEq, Eq)]
-pub enum Op2 {
-    Add,
-    Sub,
-}
+use crate::number::Op2;
 
 /// A name, as its bytes.
 pub type Name = List<u8>;

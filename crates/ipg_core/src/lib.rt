@@ -3,4 +3,5 @@
 
 pub mod accepted;
 pub mod grammar;
+pub mod number;
 pub mod laws;
