@@ -12,8 +12,8 @@ use Rattle.ipg_core.specs.declared.grammar.CoreTerm.{CoreTerm}
 use Rattle.ipg_core.specs.declared.grammar.CoreTerm.TheVariants.{Slot, Set, Test, Repeat, Pick}
 use Rattle.ipg_core.specs.declared.grammar.CoreAlt.{CoreAlt}
 use Rattle.ipg_core.specs.declared.grammar.CoreRule.{CoreRule}
-use Rattle.ipg_core.specs.declared.number.Answer.{Answer}
-use Rattle.ipg_core.specs.declared.number.Answer.TheVariants.{Val, Fail, Range}
+use Rattle.ipg_num.specs.declared.op.Answer.{Answer}
+use Rattle.ipg_num.specs.declared.op.Answer.TheVariants.{Val, Fail, Range}
 use Rattle.ipg_core.specs.Grammar.{Grammar, rule_at, holder_of}
 use Rattle.ipg_core.specs.Part.{part, interval}
 use Rattle.ipg_core.specs.Tree.{Kid, Array, kids_of}

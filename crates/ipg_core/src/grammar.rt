@@ -1,8 +1,6 @@
 //! The core grammar: references resolved, intervals complete, terms in order.
 
-use sqlite_items::{Boxed as Held, Items as List};
-
-use crate::number::Op2;
+use ipg_num::{Held, List, Op2};
 
 /// A name, as its bytes.
 pub type Name = List<u8>;

@@ -3,5 +3,4 @@
 
 pub mod accepted;
 pub mod grammar;
-pub mod number;
 pub mod laws;

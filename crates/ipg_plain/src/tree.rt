@@ -1,7 +1,7 @@
 //! Trees with owned children. Bytes are lent by the grammar and the input.
 
 use ipg_core::grammar::{Primitive, Sym};
-use sqlite_items::Items as List;
+use ipg_num::List;
 
 /// A child, with its interval in its parent's part.
 #[derive(Drop)]

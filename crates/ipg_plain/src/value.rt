@@ -2,13 +2,13 @@
 
 ghost use Rattle.std.specs.Prelude.{◌≡◌};
 ghost use Rattle.ipg_core.specs.Eval as spec;
-ghost use Rattle.ipg_core.specs.Number.{limited};
+ghost use Rattle.ipg_num.specs.Number.{limited};
 ghost use Rattle.ipg_plain.specs.View.{env_view};
 
 use crate::environment::Environment;
 use crate::lookup::value_at;
 use ipg_core::grammar::CoreExpr;
-use ipg_core::number::{Answer, apply, negate};
+use ipg_num::{Answer, apply, negate};
 
 /// A number is within its type.
 fn kept(answer: Answer) -> Answer
