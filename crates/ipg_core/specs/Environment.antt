@@ -35,10 +35,12 @@ pub record Environment : Type 0 where
   -- the names of attributes, by their numbers
   pub names : List (List ℕ)
 
+abbrev pub if_done : Option (Option Done) → Option Done
+if_done None = None
+if_done (Some d) = d
+
 abbrev pub done_at : List (Option Done) → ℕ → Option Done
-done_at [] term = None
-done_at (d ∷ ds) zero = d
-done_at (d ∷ ds) (suc term) = done_at ds term
+done_at done term = if_done (slice_get done term)
 
 -- the items of an array so far, which are none before it has begun
 abbrev pub items_so_far : Option Done → Kids

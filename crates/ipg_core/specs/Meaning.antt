@@ -83,7 +83,7 @@ halves Bytes bytes = (0, 0)
 
 -- a terminal, where the bytes begin with it
 unfoldable pub token_on : ℕ → ℕ → List ℕ → List ℕ → Run Kid
-token_on from to bytes token = if bytes_eq (take (length token) bytes) token then finish (Token from to token) else stop NoTree
+token_on from to bytes token = if bytes_eq token (take (length token) bytes) then finish (Token from to token) else stop NoTree
 
 -- a number, where there are enough bytes
 unfoldable pub number_on : ℕ → ℕ → List ℕ → Primitive → Run Kid

@@ -1,1 +1,4 @@
 pub mod Views
+pub mod Done
+pub mod KidLists
+pub mod Inside

@@ -1,5 +1,5 @@
 -- The tree that a plain tree stands for, and the environment that one of the code does.
-use Rattle.std.specs.Prelude.{ℕ, ◌-◌, List, map, Option, Some, None, option_map, slice_set, false}
+use Rattle.std.specs.Prelude.{ℕ, ◌-◌, List, map, Option, Some, None, option_map, slice_set, false, ℤ, pos}
 use Rattle.ipg_plain.specs.declared.tree.PlainKid.{PlainKid, fold-PlainKid}
 use Rattle.ipg_plain.specs.declared.tree.PlainKid.TheOpen.{PlainKid-F}
 use Rattle.ipg_plain.specs.declared.tree.PlainTree.{PlainTree}
@@ -7,9 +7,11 @@ use Rattle.ipg_plain.specs.declared.environment.Done as plain
 use Rattle.ipg_plain.specs.declared.environment.Running.{Running}
 use Rattle.ipg_plain.specs.declared.environment.Environment as code
 use Rattle.ipg_plain.specs.declared.touch.Ends as plain_ends
-use Rattle.ipg_core.specs.Touch.{Ends}
+use Rattle.ipg_core.specs.Touch.{Ends, ends_of}
 use Rattle.ipg_core.specs.Tree.{Tree, Node, Kid, Sub, Token, Number, Raw, Array, Kids, kids_of}
-use Rattle.ipg_core.specs.Environment.{Done, Environment}
+use Rattle.ipg_core.specs.Environment.{Done, Environment, attr_of}
+use Rattle.ipg_core.specs.declared.grammar.CoreField.{CoreField}
+use Rattle.ipg_core.specs.declared.grammar.CoreField.TheVariants.{Attr, Start, End}
 
 abbrev pub kid_step : PlainKid-F Kid → Kid
 kid_step (PlainKid-F.Sub from to rule attrs start end kids) = Sub from to (Node rule (to - from) attrs start end (kids_of kids))
@@ -42,3 +44,9 @@ env_view e = record { eoi = e.eoi; own = e.own.now; outer = e.outer.now; item = 
 
 abbrev pub ends_view : plain_ends.Ends → Ends
 ends_view e = record { start = e.start; end = e.end }
+
+-- a field of what is no array
+abbrev pub any_field : List (List ℕ) → CoreField → Kid → Option ℤ
+any_field names (Attr a) k = attr_of names a k
+any_field names Start k = Some (pos (ends_of k).start)
+any_field names End k = Some (pos (ends_of k).end)

@@ -1,8 +1,13 @@
-//! A plain evaluator: it walks a grammar as the meaning says, and prints trees.
+//! A plain evaluator: it walks a grammar as the meaning says.
 #![tactic(auto)]
 
-pub mod tree;
 pub mod environment;
-pub mod value;
-pub mod lookup;
-pub mod touch;
+mod field;
+pub mod frame;
+mod node;
+mod slot;
+mod lookup;
+mod touch;
+pub mod tree;
+mod value;
+pub mod walk;

@@ -3,7 +3,7 @@
 ghost use Rattle.std.specs.Prelude.{◌≡◌, ◌-◌, ◌≤◌};
 ghost use Rattle.ipg_core.specs.Touch as spec;
 ghost use Rattle.ipg_plain.specs.View.{kid_view, kid_views, ends_view};
-ghost use Rattle.ipg_plain.specs.Placed.{IsPlaced, ArePlaced};
+ghost use Rattle.ipg_plain.specs.Placed.{IsPlaced};
 ghost use Rattle.ipg_core.specs.Tree.{kids_of};
 
 use crate::tree::PlainKid;

@@ -26,7 +26,7 @@ pub returns-in-Token : goal.returns-in-Token
 returns-in-Token c = rw (c.in-Token.is, view_token) c.first_of.ensures
 
 pub returns-in-Number : goal.returns-in-Number
-returns-in-Number c = rw (c.in-Number.is, view_number) ?
+returns-in-Number c = rw (c.in-Number.is, view_number, ← c.width.ensures.value) c.first_of-in-Number.ensures
 
 pub returns-in-Raw : goal.returns-in-Raw
 returns-in-Raw c = rw (c.in-Raw.is, view_raw) refl
