@@ -1,12 +1,12 @@
 -- What an expression is evaluated in: the values and results that stand when it is.
-use Rattle.std.specs.Prelude.{ℕ, zero, suc, List, [], ◌∷◌, Option, Some, None, Bool, ℤ, pos, nat_eq, if◌then◌else◌, slice_get, bytes_eq, codes, ◌&&◌, ◌||◌, not}
+use Rattle.std.specs.Prelude.{ℕ, List, [], ◌∷◌, Option, Some, None, Bool, ℤ, pos, nat_eq, if◌then◌else◌, slice_get, bytes_eq, codes, ◌&&◌, ◌||◌}
 use Rattle.ipg_core.specs.declared.grammar.Primitive.{Primitive}
 use Rattle.ipg_core.specs.declared.grammar.Primitive.TheVariants.{U8, U16LE, U16BE, U32LE, U32BE, U64LE, U64BE, Bytes}
 use Rattle.ipg_core.specs.declared.grammar.CoreField.{CoreField}
 use Rattle.ipg_core.specs.declared.grammar.CoreField.TheVariants.{Attr, Start, End}
 use Rattle.ipg_core.specs.declared.grammar.Sym.{Sym}
 use Rattle.ipg_core.specs.Grammar.{name_at, same_sym, is_text}
-use Rattle.ipg_core.specs.Tree.{Tree, Kid, Sub, Token, Number, Raw, Array, Kids, no_kids, items_of, sym_of, attrs_of, kid_at}
+use Rattle.ipg_core.specs.Tree.{Kid, Sub, Token, Number, Raw, Array, Kids, no_kids, items_of, sym_of, attrs_of}
 use Rattle.ipg_core.specs.Touch.{ends_of}
 
 -- attributes with their values, the first entry of a name counting

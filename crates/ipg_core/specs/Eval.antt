@@ -1,5 +1,5 @@
 -- The value of an expression: a number of 64 bits, Fail or Range.
-use Rattle.std.specs.Prelude.{ℕ, Option, Some, None, Bool, true, false, ℤ, pos, negsuc, nat_eq, nat_lt, max, not, if◌then◌else◌}
+use Rattle.std.specs.Prelude.{ℕ, Option, Some, None, Bool, true, false, ℤ, pos, negsuc, nat_eq, max, not, if◌then◌else◌}
 use Rattle.ipg_core.specs.declared.grammar.CoreExpr.{CoreExpr, fold-CoreExpr, map-CoreExpr, out-CoreExpr}
 use Rattle.ipg_core.specs.declared.grammar.CoreExpr.TheOpen.{CoreExpr-F}
 use Rattle.ipg_num.specs.Number.{limited, flag, apply_of, negate_of}

@@ -8,7 +8,7 @@ use Rattle.ipg_core.specs.Environment.{items_so_far}
 use Rattle.ipg_plain.specs.declared.environment.Environment.{Environment}
 use Rattle.ipg_plain.specs.declared.environment.Running.{Running}
 use Rattle.ipg_plain.specs.View.{with_running, env_view, done_views}
-use Rattle.ipg_plain.specs.Placed.{IsPlaced, AreItems, IsDonePlaced, AreDonePlaced, IsRunningIn, IsReady}
+use Rattle.ipg_plain.specs.Placed.{IsPlaced, AreItems, IsDonePlaced, AreDonePlaced, IsRunningIn, IsReady, IsDoneWithin, AreDoneWithin}
 
 pub done_at-same : (ds : List (Option Done)) (u : ℕ) (d : Option Done) → u < length ds → done_at (slice_set ds u d) u ≡ d
 done_at-same [] u d h = absurd (omega arith)
@@ -49,3 +49,8 @@ items_placed (Some d) h = kid_items_placed d.kid h
 
 pub ready_items : (env : Environment) (t : ℕ) → IsReady env → AreItems (items_so_far (done_at (env_view env).done t))
 ready_items env t h = items_placed _ (placed_at _ t (running_placed (done_views env.done.now) env.running h.done _ h.running))
+
+pub within_set : (n : ℕ) (ds : List (Option Done)) (t : ℕ) (d : Option Done) → AreDoneWithin n ds → IsDoneWithin n d → AreDoneWithin n (slice_set ds t d)
+within_set n [] t d h k = tt
+within_set n (x ∷ ds) zero d h k = (k, h.1)
+within_set n (x ∷ ds) (suc t) d h k = (h.0, within_set n ds t d h.1 k)

@@ -1,7 +1,7 @@
 //! A slot: its interval and its symbol, but for the calls of rules.
 
-ghost use Rattle.std.specs.Prelude.{◌≡◌, ◌-◌, ◌≤◌, length, IfOk, ℤ};
-ghost use Rattle.std.specs.Int.{w32, from_le_bytes, from_be_bytes};
+ghost use Rattle.std.specs.Prelude.{◌≡◌, ◌-◌, ◌≤◌, length, IfOk, ℤ, FitsSigned};
+ghost use Rattle.std.specs.Int.{w32, w64, from_le_bytes, from_be_bytes};
 ghost use Rattle.ipg_core.specs.Touch.{width as wide};
 ghost use Rattle.ipg_core.specs.Part as part;
 ghost use Rattle.ipg_core.specs.Meaning as spec;
@@ -38,7 +38,8 @@ pub fn value_in<'e, 'o, 'a>(
 ) -> Result<i64, Halt>
     requires placed { AreDonePlaced (done_views state.now.done.items) }
     requires running { IsRunningIn (length state.now.done.items) running }
-    ensures { Gives (λ (z : ℤ). z) result (spec.value_in (frame_view f.now) (running_in (state_view state.now) running.entry) (loop_of running.entry) e.now).answer }
+    ensures number { IfOk result (λ z. FitsSigned w64 z) }
+    ensures gives { Gives (λ (z : ℤ). z) result (spec.value_in (frame_view f.now) (running_in (state_view state.now) running.entry) (loop_of running.entry) e.now).answer }
 {
     let env = Environment {
         eoi: f.size,

@@ -1,6 +1,6 @@
 //! The walk: a rule on a part, as the meaning says.
 
-ghost use Rattle.std.specs.Prelude.{◌≡◌, ◌≤◌, ◌<◌, ◌^◌, ℤ, ◌-ℤ◌, pos, [], length, IfOk, ℕ, IsTrue, ◌↔◌};
+ghost use Rattle.std.specs.Prelude.{◌≡◌, ◌≤◌, ◌<◌, ◌^◌, ℤ, ◌-ℤ◌, pos, [], length, IfOk, ℕ, IsTrue, ◌↔◌, false};
 ghost use Rattle.ipg_core.specs.Meaning as spec;
 ghost use Rattle.ipg_core.specs.Grammar.{holder_of, rule_at};
 ghost use Rattle.ipg_plain.specs.View.{kid_view, kid_views, done_views, tree_view};
@@ -56,7 +56,7 @@ fn symbol_on<'a>(
         Sym::Text(token) => token_on(from, to, bytes, token.as_slice()),
         Sym::Prim(prim) => primitive_on(from, to, bytes, *prim),
         Sym::Rule(callee) => {
-            let outer = outer_for(f, own, *callee);
+            let outer = outer_for(&*f, &*own, *callee);
             let tree = rule_on(alloc, height, f.rules, f.names, *callee, bytes, outer)?;
             Ok(PlainKid::Sub {
                 from,
@@ -145,7 +145,7 @@ fn items_on<'a>(
     let mut items = Vec::new(alloc);
     let mut i = span.first;
     while i < span.last {
-        let item = item_on(alloc, height, f, term, state, slot, items.as_slice(), i)?;
+        let item = item_on(alloc, height, f, term, &*state, slot, items.as_slice(), i)?;
         items.push(item)?;
         i += 1;
     }
