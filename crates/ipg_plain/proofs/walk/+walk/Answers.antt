@@ -1,6 +1,7 @@
-use Rattle.std.proofs.Common.{◌≡◌, refl, sym, ◌∙◌, ap, subst, arith, rules, Ok, Err, Some, None, drop, suc, zero, ◌+◌, ◌<◌, length, ◌-◌, List, ℕ}
+use Rattle.std.proofs.Common.{◌≡◌, refl, sym, ◌∙◌, ap, subst, arith, rules, to_z, of_z, w64, Ok, Err, Some, None, drop, suc, zero, ◌+◌, ◌<◌, length, ◌-◌, List, ℕ}
 use Rattle.std.proofs.lemmas.Result.{err_from_is_err_and}
-use Rattle.std.specs.Prelude.{slice_get}
+use Rattle.std.proofs.lemmas.Int.{to_z-of_z}
+use Rattle.std.specs.Prelude.{slice_get, option_copied, option_map}
 use Rattle.ipg_core.specs.Part.{part, interval}
 use Rattle.ipg_core.specs.Run.{Stop, Run, finish, stop, ◌>>=◌, some_of, NoTree}
 use Rattle.ipg_core.specs.Tree.{Tree, Kid, Sub, Array, kids_of}
@@ -17,9 +18,12 @@ pub slot_on-returns-clause-gives : goal.slot_on-returns-clause-gives
 unfolding slot_on
 slot_on-returns-clause-gives t c =
     let P = Gives kid_view c.symbol_on.result in
-    rest P _ _ c.in_ok-from.from c.in_ok-from.ensures
-      (rest P _ _ c.in_ok-to.to c.in_ok-to.ensures
-        (rest P _ _ c.in-Some.ends (some_is _ _ (ap (λ n. interval n c.in_ok-from.from c.in_ok-to.to) c.args.f.now.sized ∙ sym c.in-Some.ensures)) ?))
+    let zl = to_z-of_z w64 c.in_ok-from.from c.in_ok-from.ensures.number in
+    let zr = to_z-of_z w64 c.in_ok-to.to c.in_ok-to.ensures.number in
+    let i = ap (λ n. interval n c.in_ok-from.from c.in_ok-to.to) c.args.f.now.sized ∙ sym (c.in-Some.ensures ∙ ap (λ z. interval c.args.f.now.size z (to_z w64 (of_z w64 c.in_ok-to.to))) zl ∙ ap (interval c.args.f.now.size c.in_ok-from.from) zr) in
+    rest P (value_in (frame_view c.args.f.now) (running_in (state_view c.args.state.now) c.args.running) (loop_of c.args.running) c.args.slot.from.now) _ c.in_ok-from.from c.in_ok-from.ensures.gives
+      (rest P (value_in (frame_view c.args.f.now) (running_in (state_view c.args.state.now) c.args.running) (loop_of c.args.running) c.args.slot.to.now) _ c.in_ok-to.to c.in_ok-to.ensures.gives
+        (rest P (some_of (interval (length c.args.f.now.bytes.now) c.in_ok-from.from c.in_ok-to.to)) _ c.in-Some.ends (some_is _ _ i) ?))
 
 pub slot_on-returns-in_default-clause-gives : goal.slot_on-returns-in_default-clause-gives
 slot_on-returns-in_default-clause-gives t c = ?
@@ -28,13 +32,15 @@ pub slot_on-returns-in_err-from-clause-gives : goal.slot_on-returns-in_err-from-
 unfolding slot_on
 slot_on-returns-in_err-from-clause-gives t c =
     let p = err_from_is_err_and c.from_residual.result c.from_residual.ensures.1 in
-    rw (p.1, p.2) (bind_halts _ _ _ c.in_err-from.ensures)
+    rw (p.1, p.2) (bind_halts (value_in (frame_view c.args.f.now) (running_in (state_view c.args.state.now) c.args.running) (loop_of c.args.running) c.args.slot.from.now) _ _ c.in_err-from.ensures.gives)
 
 pub slot_on-returns-in_err-to-clause-gives : goal.slot_on-returns-in_err-to-clause-gives
 unfolding slot_on
 slot_on-returns-in_err-to-clause-gives t c =
     let p = err_from_is_err_and c.from_residual-in_err-to.result c.from_residual-in_err-to.ensures.1 in
-    rw (p.1, p.2) (rest (Halts _) _ _ c.in_ok-from.from c.in_ok-from.ensures (bind_halts _ _ _ c.in_err-to.ensures))
+    rw (p.1, p.2)
+      (rest (Halts _) (value_in (frame_view c.args.f.now) (running_in (state_view c.args.state.now) c.args.running) (loop_of c.args.running) c.args.slot.from.now) _ c.in_ok-from.from c.in_ok-from.ensures.gives
+        (bind_halts (value_in (frame_view c.args.f.now) (running_in (state_view c.args.state.now) c.args.running) (loop_of c.args.running) c.args.slot.to.now) _ _ c.in_err-to.ensures.gives))
 
 pub alt_on-returns-clause-gives : goal.alt_on-returns-clause-gives
 unfolding alt_on
@@ -79,7 +85,10 @@ symbol_on-returns-in_ok-tree-in-Rule-clause-within t c = rw view_sub c.requires.
 
 pub term_on-returns-in_ok-kid-in-Slot-clause-gives : goal.term_on-returns-in_ok-kid-in-Slot-clause-gives
 term_on-returns-in_ok-kid-in-Slot-clause-gives t c =
-    rw c.in-Slot.is (rest (λ r. r ≡ Ok _) _ _ _ c.in_ok-kid-in-Slot.ensures.gives (finished _ ∙ ap Ok (sym c.with_kid.ensures.state)))
+    let call = den (frame_view c.args.f.now).grammar c.args.height in
+    let run = λ s. slot_on call (frame_view c.args.f.now) (record { term = c.args.number; branch = 0 }) (state_view c.args.state) None s in
+    let e = ap (λ s. (run s).answer) (sym c.slot_of.ensures) ∙ c.in_ok-kid-in-Slot.ensures.gives in
+    rw c.in-Slot.is (bind_ok (run c.in-Slot.slot) _ _ e ∙ finished _ ∙ ap Ok (sym c.with_kid.ensures.state))
 
 pub term_on-returns-in_ok-kid-in-Slot-clause-sound : goal.term_on-returns-in_ok-kid-in-Slot-clause-sound
 term_on-returns-in_ok-kid-in-Slot-clause-sound t c = ?
