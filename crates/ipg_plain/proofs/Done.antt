@@ -1,7 +1,6 @@
 -- Results by the numbers of terms, where one of them is set.
 use Rattle.std.proofs.Common.{◌≡◌, ◌≢◌, refl, ap, arith, ℕ, zero, suc, ◌<◌, List, [], ◌∷◌, Option, Some, None, length}
-use Rattle.std.specs.Prelude.{slice_get, slice_set}
-use Rattle.std.specs.List.{AllByRecursion}
+use Rattle.std.specs.Prelude.{slice_set}
 use Rattle.ipg_core.specs.Environment.{Done, done_at}
 use Rattle.ipg_core.specs.Tree.{Kid, Sub, Token, Number, Raw, Array, items_of}
 use Rattle.ipg_core.specs.Environment.{items_so_far}

@@ -1,8 +1,8 @@
 -- What results within a part touch together lies in it.
-use Rattle.std.proofs.Common.{◌≡◌, refl, arith, ℕ, ◌+◌, ◌-◌, ◌≤◌, Bool, true, false, if◌then◌else◌, List, [], ◌∷◌, Option, Some, None, length, min, max}
-use Rattle.std.specs.Prelude.{nat_eq, nat_lt}
-use Rattle.ipg_core.specs.Tree.{Tree, Node, Kid, Sub, Token, Number, Raw, Array, Kids, no_kids, kid, kids_of}
-use Rattle.ipg_core.specs.Touch.{Ends, touches, untouched, moved, first_of, tree_ends, ends_of, together, kids_touch, kid_touches, width}
+use Rattle.std.proofs.Common.{arith, ℕ, ◌-◌, ◌≤◌, Bool, true, false, if◌then◌else◌, List, [], ◌∷◌, Option, Some, None, length}
+use Rattle.std.specs.Prelude.{nat_eq}
+use Rattle.ipg_core.specs.Tree.{Node, Kid, Sub, Token, Number, Raw, Array, Kids, no_kids, kid, kids_of}
+use Rattle.ipg_core.specs.Touch.{Ends, touches, untouched, moved, first_of, ends_of, together, kids_touch, kid_touches, width}
 use Rattle.ipg_core.specs.Environment.{Done}
 use Rattle.ipg_core.specs.Meaning.{kids_done}
 use Rattle.ipg_plain.specs.Placed.{IsItem, AreItems, IsPlaced, ArePlaced, IsWithin, AreAllWithin, AreDonePlaced, AreDoneWithin}
@@ -23,8 +23,8 @@ first_inside : (from to w n : ℕ) → from ≤ to → to ≤ n → w ≤ to - f
 unfolding moved first_of untouched
 first_inside from to w n h k l =
     elim (nat_eq w 0) as (λ b. Inside n (moved from (if b then untouched (to - from) else record { start = 0; end = w }))) [
-      true ↦ record { start = omega arith; end = omega arith }
-    | false ↦ record { start = omega arith; end = omega arith }
+      | true ↦ record { start = omega arith; end = omega arith }
+      | false ↦ record { start = omega arith; end = omega arith }
     ]
 
 item_inside : (k : Kid) (n : ℕ) → IsItem k → IsWithin n k → Inside n (ends_of k)

@@ -1,11 +1,11 @@
 -- Children as lists and as the children of a tree.
-use Rattle.std.proofs.Common.{◌≡◌, refl, sym, ◌∙◌, ap, arith, ℕ, zero, suc, ◌<◌, ◌≤◌, ◌-◌, List, [], ◌∷◌, ◌++◌, Option, Some, None, length, get_or, map, drop, subst}
+use Rattle.std.proofs.Common.{◌≡◌, refl, sym, ◌∙◌, ap, arith, ℕ, zero, suc, ◌<◌, ◌≤◌, ◌-◌, List, [], ◌∷◌, ◌++◌, Some, length, get_or, drop, subst}
 use Rattle.std.proofs.Math.Seq.{drop-cons}
 use Rattle.std.specs.Prelude.{slice_get, option_map}
 use Rattle.ipg_core.specs.Tree.{Kid, Sub, Token, Number, Raw, Array, Kids, no_kids, kid, kids_of, kid_at}
 use Rattle.ipg_plain.specs.declared.tree.PlainKid.{PlainKid}
 use Rattle.ipg_plain.specs.View.{kid_view, kid_views}
-use Rattle.ipg_plain.specs.Placed.{IsItem, AreItems, IsPlaced, ArePlaced}
+use Rattle.ipg_plain.specs.Placed.{IsItem, AreItems, IsPlaced, ArePlaced, IsWithin, AreAllWithin}
 
 pub kid_at-views : (ks : List PlainKid) (n : ℕ) → kid_at (kids_of (kid_views ks)) n ≡ option_map kid_view (slice_get ks n)
 kid_at-views [] n = refl
@@ -45,3 +45,11 @@ pub item_kid_at : (ks : Kids) (n : ℕ) (k : Kid) → kid_at ks n ≡ Some k →
 item_kid_at no_kids n k e h = cc
 item_kid_at (kid x ks) zero k e h = let f : x ≡ k = cc in subst IsItem f h.0
 item_kid_at (kid x ks) (suc n) k e h = item_kid_at ks n k e h.1
+
+pub views_push : (ks : List PlainKid) (k : PlainKid) → kid_views (ks ++ k ∷ []) ≡ kid_views ks ++ kid_view k ∷ []
+views_push [] k = refl
+views_push (x ∷ ks) k = ap (λ ys. kid_view x ∷ ys) (views_push ks k)
+
+pub within_push : (n : ℕ) (ks : List PlainKid) (k : PlainKid) → AreAllWithin n (kids_of (kid_views ks)) → IsWithin n (kid_view k) → AreAllWithin n (kids_of (kid_views (ks ++ k ∷ [])))
+within_push n [] k h w = (w, tt)
+within_push n (x ∷ ks) k h w = (h.0, within_push n ks k h.1 w)

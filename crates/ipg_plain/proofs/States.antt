@@ -1,10 +1,12 @@
 -- States of the code, and what they stand for.
-use Rattle.std.proofs.Common.{◌≡◌, refl, ap, ◌∙◌, ℕ, zero, suc, ◌+◌, add-one, List, [], ◌∷◌, ◌++◌, Option, Some, None, replicate, length}
+use Rattle.std.proofs.Common.{◌≡◌, refl, ap, sym, subst, Bool, ◌∙◌, ℕ, zero, suc, ◌+◌, add-one, List, [], ◌∷◌, ◌++◌, Option, None, replicate}
 use Rattle.std.specs.Prelude.{option_map, slice_set}
 use Rattle.ipg_core.specs.Environment.{Values, Done as Result}
-use Rattle.ipg_core.specs.Meaning.{State}
+use Rattle.ipg_core.specs.Tree.{Kid}
+use Rattle.ipg_core.specs.Meaning.{State, with_kid}
+use Rattle.ipg_plain.proofs.Done.{placed_set, within_set}
 use Rattle.ipg_plain.specs.declared.environment.Done.{Done}
-use Rattle.ipg_plain.specs.Placed.{AreDonePlaced, AreDoneWithin, IsSound}
+use Rattle.ipg_plain.specs.Placed.{AreDonePlaced, AreDoneWithin, IsSound, IsPlaced, IsWithin}
 use Rattle.ipg_plain.specs.View.{done_view, done_views}
 
 abbrev pub state_of : Values → List (Option Result) → State
@@ -30,3 +32,9 @@ none_placed (suc n) = (tt, none_placed n)
 pub none_within : (n m : ℕ) → AreDoneWithin m (replicate {A = Option Result} n None)
 none_within zero m = tt
 none_within (suc n) m = (tt, none_within n m)
+
+-- a sound state with one more result in its place is sound
+pub sound_with : (n : ℕ) (old new : State) (u : ℕ) (is_switch : Bool) (k : Kid) → new ≡ with_kid old u is_switch k → IsSound n old.done → IsPlaced k → IsWithin n k → IsSound n new.done
+unfolding with_kid
+sound_with n old new u is_switch k e h p w =
+    subst (λ (s : State). IsSound n s.done) (sym e) (record { placed = placed_set old.done u _ h.placed p; within = within_set n old.done u _ h.within w })

@@ -1,5 +1,5 @@
 -- What a function of the walk answers, beside the meaning: want of memory is free.
-use Rattle.std.specs.Prelude.{◌≡◌, ℕ, List, Option, Some, None, option_map, Result, Ok, Err, Bool, false, ℤ}
+use Rattle.std.specs.Prelude.{◌≡◌, ◌≤◌, ℕ, Option, Some, None, option_map, Result, Ok, Err, false, ℤ}
 use Rattle.ipg_plain.specs.declared.frame.Halt as halt
 use Rattle.ipg_plain.specs.declared.frame.Halt.TheVariants as halts
 use Rattle.ipg_plain.specs.declared.frame.Frame as plain_frame
@@ -8,11 +8,12 @@ use Rattle.ipg_plain.specs.declared.frame.Place as plain_place
 use Rattle.ipg_plain.specs.declared.frame.Slot as plain_slot
 use Rattle.ipg_plain.specs.declared.environment.Running.{Running}
 use Rattle.ipg_core.specs.declared.grammar.CoreSlot.{CoreSlot}
-use Rattle.ipg_core.specs.Grammar.{Grammar}
-use Rattle.ipg_core.specs.Tree.{Array, kids_of}
+use Rattle.ipg_plain.specs.declared.walk.Walked as walked
+use Rattle.ipg_plain.specs.declared.walk.Walked.TheVariants as walks
+use Rattle.ipg_core.specs.Tree.{Tree, Array, kids_of}
 use Rattle.ipg_core.specs.Run.{Stop, NoTree, OutOfRange, Deep}
 use Rattle.ipg_core.specs.Meaning.{Frame, State, Place, with_kid}
-use Rattle.ipg_plain.specs.View.{kid_views, done_views}
+use Rattle.ipg_plain.specs.View.{kid_views, done_views, tree_view}
 
 abbrev pub Halts : {B : Type 0} → halt.Halt → Result B Stop → Type 0
 Halts halts.NoTree answer = answer ≡ Err NoTree
@@ -44,3 +45,15 @@ running_in state (Some r) = with_kid state r.term false (Array r.sym.now (kids_o
 
 abbrev pub loop_of : Option Running → Option ℤ
 loop_of r = option_map (λ r. r.item) r
+
+-- what the answer of the walk stands for
+abbrev pub answer_of : walked.Walked → Result Tree Stop
+answer_of (walks.Tree t) = Ok (tree_view t)
+answer_of walks.NoTree = Err NoTree
+answer_of walks.Range = Err OutOfRange
+
+-- the root of a tree is the whole input, and touches nothing outside of it
+abbrev pub IsWhole : ℕ → walked.Walked → Type 0
+IsWhole n (walks.Tree t) = (t.size ≡ n) × ((t.start ≤ n) × (t.end ≤ n))
+IsWhole n walks.NoTree = Unit {0}
+IsWhole n walks.Range = Unit {0}

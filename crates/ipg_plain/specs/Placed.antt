@@ -1,5 +1,5 @@
 -- Results that lie within their intervals, so that sums of their places stay within 32 bits.
-use Rattle.std.specs.Prelude.{ℕ, ◌-◌, ◌^◌, ◌<◌, ◌≤◌, List, [], ◌∷◌, length, Option, Some, None}
+use Rattle.std.specs.Prelude.{ℕ, ◌-◌, ◌^◌, ◌<◌, ◌≤◌, List, length, Option, Some, None}
 use Rattle.std.specs.List.{AllByRecursion}
 use Rattle.ipg_plain.specs.declared.environment.Environment.{Environment}
 use Rattle.ipg_plain.specs.declared.environment.Running.{Running}

@@ -8,7 +8,7 @@ use Rattle.ipg_plain.specs.declared.environment.Running.{Running}
 use Rattle.ipg_plain.specs.declared.environment.Environment as code
 use Rattle.ipg_plain.specs.declared.touch.Ends as plain_ends
 use Rattle.ipg_core.specs.Touch.{Ends, ends_of}
-use Rattle.ipg_core.specs.Tree.{Tree, Node, Kid, Sub, Token, Number, Raw, Array, Kids, kids_of}
+use Rattle.ipg_core.specs.Tree.{Tree, Node, Kid, Sub, Token, Number, Raw, Array, kids_of}
 use Rattle.ipg_core.specs.Environment.{Done, Environment, attr_of}
 use Rattle.ipg_core.specs.declared.grammar.CoreField.{CoreField}
 use Rattle.ipg_core.specs.declared.grammar.CoreField.TheVariants.{Attr, Start, End}

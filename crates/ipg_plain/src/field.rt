@@ -65,7 +65,10 @@ fn attr_of(names: &[Name], attr: u32, kid: &PlainKid) -> Option<i64>
     match kid {
         PlainKid::Sub { attrs, .. } => value_at(attrs.as_slice(), attr),
         PlainKid::Number {
-            prim, high, low, ..
+            prim,
+            high,
+            low,
+            ..
         } => number_attr(*prim, name_at(names, attr), *high, *low),
         PlainKid::Token { .. } => None,
         PlainKid::Raw { .. } => None,

@@ -4,9 +4,9 @@
 pub mod environment;
 mod field;
 pub mod frame;
+mod lookup;
 mod node;
 mod slot;
-mod lookup;
 mod touch;
 pub mod tree;
 mod value;

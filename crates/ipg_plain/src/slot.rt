@@ -113,12 +113,7 @@ fn big(bytes: &[u8]) -> u32
 
 /// A number, where there are enough bytes.
 #[tactic(auto, using(crate::proofs::Views::views), unfolding(ipg_core::specs::Meaning::token_on, ipg_core::specs::Meaning::number_on, ipg_core::specs::Run::finish, ipg_core::specs::Run::stop))]
-fn number_on<'a>(
-    from: u32,
-    to: u32,
-    bytes: &'a [u8],
-    prim: Primitive,
-) -> Result<PlainKid<'a>, Halt>
+fn number_on<'a>(from: u32, to: u32, bytes: &'a [u8], prim: Primitive) -> Result<PlainKid<'a>, Halt>
     requires { (from ≤ to) × (length bytes.now ≡ to - from) }
     ensures gives { Gives kid_view result (spec.number_on from to bytes.now prim).answer }
     ensures item { IfOk result (λ k. IsItem (kid_view k)) }

@@ -9,8 +9,8 @@ ghost use Rattle.ipg_plain.specs.Placed.{IsReady, AreItems};
 ghost use Rattle.ipg_core.specs.Tree.{kids_of};
 
 use crate::environment::{Environment, items_so_far, seen};
-use crate::lookup::value_at;
 use crate::field::field_of;
+use crate::lookup::value_at;
 use crate::touch::{Ends, ends_of};
 use crate::tree::PlainKid;
 use ipg_core::grammar::{CoreExpr, CoreField};

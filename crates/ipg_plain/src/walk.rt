@@ -1,10 +1,11 @@
 //! The walk: a rule on a part, as the meaning says.
 
-ghost use Rattle.std.specs.Prelude.{◌≡◌, ◌≤◌, ◌<◌, ◌^◌, ℤ, ◌-ℤ◌, pos, [], length, IfOk, ℕ, IsTrue, ◌↔◌, false};
+ghost use Rattle.std.specs.Prelude.{◌≡◌, ◌+◌, ◌*◌, ◌≤◌, ◌<◌, ◌^◌, ℤ, ◌-ℤ◌, pos, [], length, IfOk, ℕ, IsTrue, ◌↔◌, false};
 ghost use Rattle.ipg_core.specs.Meaning as spec;
 ghost use Rattle.ipg_core.specs.Grammar.{holder_of, rule_at};
 ghost use Rattle.ipg_plain.specs.View.{kid_view, kid_views, done_views, tree_view};
-ghost use Rattle.ipg_plain.specs.Gives.{Gives, frame_view, state_view, place_view, slot_view, running_in, loop_of};
+ghost use Rattle.ipg_core.specs.Meaning.{Means};
+ghost use Rattle.ipg_plain.specs.Gives.{answer_of, IsWhole, Gives, frame_view, state_view, place_view, slot_view, running_in, loop_of};
 ghost use Rattle.ipg_plain.specs.Placed.{IsItem, AreItems, IsWithin, AreAllWithin, IsSound, IsRunningIn};
 ghost use Rattle.ipg_core.specs.Tree.{kids_of, Array};
 
@@ -14,9 +15,46 @@ use crate::node::node_of;
 use crate::slot::{interval, primitive_on, token_on, value_in};
 use crate::tree::{PlainKid, PlainTree};
 use crate::value::is_zero;
+use ipg_core::accepted::Checked;
 use ipg_core::grammar::{CoreAlt, CoreExpr, CoreRule, CoreSlot, CoreTerm, Name, Sym};
 use ipg_num::{List, item_at};
 use std::alloc::{AllocError, Global};
+
+/// What a parse by a grammar gives.
+#[derive(Drop)]
+pub enum Walked<'a> {
+    Tree(PlainTree<'a>),
+    NoTree,
+    Range,
+}
+
+/// The height that suffices: as many calls nest as there are rules, at each length of a part.
+fn height_for(rules: usize, size: usize) -> u64
+    requires { (rules ≤ 1024) × (size ≤ 2 ^ 30) }
+    ensures { result ≡ (size + 1) * rules }
+{
+    (size as u64 + 1) * rules as u64
+}
+
+/// What the grammar means on the input, which has at most 2^30 bytes: the tree of its first rule, no tree, or a
+/// value outside of 64 bits. The tree borrows its bytes from the grammar and the input. It recurses as deep as the
+/// grammar's calls nest on the input.
+pub fn walk<'a>(alloc: Global, c: &'a Checked, input: &'a [u8]) -> Result<Walked<'a>, AllocError>
+    requires { length input.now ≤ 2 ^ 30 }
+    ensures means { IfOk result (λ w. Means c.now input.now (answer_of w)) }
+    ensures whole { IfOk result (λ w. IsWhole (length input.now) w) }
+{
+    let core = c.core();
+    let rules = core.rules();
+    let height = height_for(rules.len(), input.len());
+    match rule_on(alloc, height, rules, core.names(), 0, input, &[]) {
+        Ok(tree) => Ok(Walked::Tree(tree)),
+        Err(Halt::NoTree) => Ok(Walked::NoTree),
+        Err(Halt::OutOfRange) => Ok(Walked::Range),
+        Err(Halt::Memory) => Err(AllocError),
+        Err(Halt::Deep) => unreachable!(),
+    }
+}
 
 /// The attributes that a rule called from here may read as its holder's.
 fn outer_for<'e>(f: &Frame<'e, '_>, own: &'e [(u32, i64)], callee: u32) -> &'e [(u32, i64)]
@@ -93,7 +131,15 @@ fn slot_on<'e, 'a>(
     let Some(ends) = interval(f.size, from, to) else {
         return Err(Halt::NoTree);
     };
-    symbol_on(alloc, height, f, place, state.own.as_slice(), ends, slot.sym)
+    symbol_on(
+        alloc,
+        height,
+        f,
+        place,
+        state.own.as_slice(),
+        ends,
+        slot.sym,
+    )
 }
 
 /// One item of an array, at a value of the loop variable.
@@ -200,12 +246,7 @@ fn pick_on<'a>(
 }
 
 /// The state with the result of a term.
-fn with_kid<'a>(
-    mut state: State<'a>,
-    term: u32,
-    is_switch: bool,
-    kid: PlainKid<'a>,
-) -> State<'a>
+fn with_kid<'a>(mut state: State<'a>, term: u32, is_switch: bool, kid: PlainKid<'a>) -> State<'a>
     requires { term < length state.done.items }
     ensures state { state_view result ≡ spec.with_kid (state_view state.entry) term is_switch (kid_view kid.entry) }
     ensures terms { length result.done.items ≡ length state.entry.done.items }

@@ -1,4 +1,4 @@
-use Rattle.std.proofs.Common.{◌≡◌, refl, arith, sym, ◌∙◌, ap, length, drop, ◌-◌}
+use Rattle.std.proofs.Common.{◌≡◌, refl, arith, sym, ◌∙◌, ap, drop, ◌-◌}
 use Rattle.std.proofs.Math.Seq.{drop-length}
 use Rattle.ipg_core.specs.Touch.{Ends, kids_touch, kid_touches, ends_of, together}
 use Rattle.ipg_core.specs.Tree.{Kid, Sub, Token, Number, Raw, Array, kids_of}
@@ -26,7 +26,7 @@ loop-at-preserved c =
     let d = drop_back c.args.items.now c.loop-at.at c.index-items-at.result (omega arith) (omega arith) c.index-items-at.is in
     let i : IsItem (kid_view c.index-items-at.result) = rw c.index-items-at.is (item_of_list c.args.items.now (c.loop-at.at - 1) c.index-items-at.result (omega arith) c.requires) in
     c.together-ends.ensures ∙ ap (λ e. together e (ends_view c.loop-at.ends)) (c.ends_of.ensures ∙ alone _ (ends_view c.args.none) i)
-      ∙ ap (together _) c.loop-at.invariant ∙ sym (ap (λ ks. kids_touch (kids_of (kid_views ks)) (ends_view c.args.none)) d)
+    ∙ ap (together _) c.loop-at.invariant ∙ sym (ap (λ ks. kids_touch (kids_of (kid_views ks)) (ends_view c.args.none)) d)
 
 pub returns : goal.returns
 returns c =

@@ -1,4 +1,4 @@
-use Rattle.std.proofs.Common.{◌≡◌, arith, sym, ◌∙◌, ap, length, drop, ◌-◌}
+use Rattle.std.proofs.Common.{◌≡◌, arith, sym, ◌∙◌, ap, drop, ◌-◌}
 use Rattle.std.proofs.Math.Seq.{drop-length}
 use Rattle.ipg_core.specs.Touch.{kids_touch, together}
 use Rattle.ipg_core.specs.Tree.{kids_of}
@@ -16,7 +16,7 @@ pub loop-at-preserved : goal.loop-at-preserved
 loop-at-preserved c =
     let d = drop_back c.args.kids.now c.loop-at.at c.index-kids-at.result (omega arith) (omega arith) c.index-kids-at.is in
     c.together-ends.ensures ∙ ap (λ e. together e (ends_view c.loop-at.ends)) c.kid_touches.ensures
-      ∙ ap (together _) c.loop-at.invariant ∙ sym (ap (λ ks. kids_touch (kids_of (kid_views ks)) (ends_view c.args.none)) d)
+    ∙ ap (together _) c.loop-at.invariant ∙ sym (ap (λ ks. kids_touch (kids_of (kid_views ks)) (ends_view c.args.none)) d)
 
 pub returns : goal.returns
 returns c =

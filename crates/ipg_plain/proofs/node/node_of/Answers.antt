@@ -1,8 +1,8 @@
-use Rattle.std.proofs.Common.{◌≡◌, sym, ◌∙◌, ap, subst, refl}
-use Rattle.ipg_core.specs.Touch.{untouched, kids_touch, Ends}
+use Rattle.std.proofs.Common.{sym, ◌∙◌, ap, subst, refl}
+use Rattle.ipg_core.specs.Touch.{untouched, kids_touch}
 use Rattle.ipg_core.specs.Tree.{kids_of}
 use Rattle.ipg_core.specs.Meaning.{kids_done}
-use Rattle.ipg_plain.specs.Placed.{ArePlaced, AreAllWithin}
+use Rattle.ipg_plain.specs.Placed.{ArePlaced}
 use Rattle.ipg_plain.specs.View.{kid_views, done_views}
 use Rattle.ipg_plain.proofs.Inside.{Inside, kids_inside, done_placed, done_within}
 use Rattle.ipg_plain.proofs.node.node_of.Goals as goal
@@ -10,7 +10,7 @@ use Rattle.ipg_plain.proofs.node.node_of.Goals as goal
 pub kids_touch-ends-requires : goal.kids_touch-ends-requires
 kids_touch-ends-requires c =
     subst (λ ks. ArePlaced (kids_of ks)) (sym (ap kid_views c.as_slice-2.ensures.value ∙ c.in_ok-kids.ensures))
-      (done_placed (done_views c.args.state.done.items) c.requires.placed)
+    (done_placed (done_views c.args.state.done.items) c.requires.placed)
 
 pub returns-clause-inside : goal.returns-clause-inside
 unfolding untouched

@@ -1,4 +1,4 @@
-use Rattle.std.proofs.Common.{refl, arith, sym, ◌∙◌}
+use Rattle.std.proofs.Common.{refl, arith}
 use Rattle.ipg_core.specs.Touch.{moved}
 use Rattle.ipg_plain.proofs.Views.{view_sub, view_token, view_number, view_raw, view_array}
 use Rattle.ipg_plain.proofs.touch.ends_of.Goals as goal

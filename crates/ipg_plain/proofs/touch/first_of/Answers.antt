@@ -1,4 +1,4 @@
-use Rattle.std.proofs.Common.{◌≡◌, ◌+◌, ◌-◌, refl, ap, arith, cond, true, false}
+use Rattle.std.proofs.Common.{arith}
 use Rattle.std.proofs.lemmas.Grind.{common_steps}
 use Rattle.ipg_core.specs.Touch.{moved, first_of, untouched}
 use Rattle.ipg_plain.proofs.touch.first_of.Goals as goal

@@ -1,4 +1,4 @@
-use Rattle.std.proofs.Common.{◌≡◌, sym, ◌∙◌, ap}
+use Rattle.std.proofs.Common.{sym, ◌∙◌, ap}
 use Rattle.ipg_num.specs.Number.{limited}
 use Rattle.ipg_core.specs.Eval.{on_value}
 use Rattle.ipg_core.proofs.EvalLemmas.{eval-opened}

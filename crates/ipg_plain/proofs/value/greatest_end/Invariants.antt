@@ -1,4 +1,4 @@
-use Rattle.std.proofs.Common.{◌≡◌, ◌≤◌, drop, length}
+use Rattle.std.proofs.Common.{◌≡◌, drop}
 use Rattle.ipg_core.specs.Eval as spec
 use Rattle.ipg_core.specs.Tree.{kids_of}
 use Rattle.ipg_plain.specs.View.{kid_views}

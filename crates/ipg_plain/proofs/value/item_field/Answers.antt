@@ -1,4 +1,4 @@
-use Rattle.std.proofs.Common.{◌≡◌, sym, ◌∙◌, ap, subst, ℤ, pos, negsuc, Some}
+use Rattle.std.proofs.Common.{◌≡◌, sym, subst, ℤ, pos, negsuc, Some}
 use Rattle.ipg_core.specs.Tree.{Kid, Kids}
 use Rattle.ipg_core.specs.Eval.{item_at}
 use Rattle.ipg_plain.specs.Placed.{IsPlaced, AreItems}

@@ -1,8 +1,8 @@
-use Rattle.std.proofs.Common.{◌≡◌, refl, sym, ◌∙◌, ap, ℕ, ℤ, pos, negsuc, Option, Some, None, List, nat_abs, Bool, false, to_z, of_z, w64}
+use Rattle.std.proofs.Common.{◌≡◌, refl, sym, ◌∙◌, ap, ℤ, pos, negsuc, Option, Some, None, List, nat_abs, false, w64}
 use Rattle.std.proofs.lemmas.Int.{to_z-of_z}
 use Rattle.std.specs.Prelude.{slice_get, option_map, option_copied, int_lt}
 use Rattle.std.specs.Borrow.{Bor}
-use Rattle.ipg_core.specs.Tree.{Kid, kids_of}
+use Rattle.ipg_core.specs.Tree.{kids_of}
 use Rattle.ipg_core.specs.Eval.{item_at}
 use Rattle.ipg_plain.specs.declared.tree.PlainKid.{PlainKid}
 use Rattle.ipg_plain.specs.View.{kid_view, kid_views}
@@ -21,4 +21,4 @@ pub returns : goal.returns
 returns c =
     let z = to_z-of_z w64 c.args.index c.ranges.index in
     copied c.item_at.result ∙ ap (option_map kid_view) (c.item_at.ensures ∙ ap (λ i. slice_get c.args.items.now (nat_abs i)) z)
-      ∙ sym (at_index c.args.items.now c.args.index (ap (λ i. int_lt i (pos 0)) (sym z) ∙ c.if-index-lt0.false))
+    ∙ sym (at_index c.args.items.now c.args.index (ap (λ i. int_lt i (pos 0)) (sym z) ∙ c.if-index-lt0.false))

@@ -16,7 +16,7 @@ abbrev pub invariant-pick_on-loop-branch : goal.invariant-pick_on-loop-branch
 invariant-pick_on-loop-branch l =
     let call = spec.den (frame_view l.f).grammar l.height in
     (spec.pick_on call (frame_view l.f) (record { term = l.term; branch = l.branch }) (state_view l.state) (drop l.branch l.cases) l.other).answer
-      ≡ (spec.pick_on call (frame_view l.f) (record { term = l.term; branch = 0 }) (state_view l.state) l.cases l.other).answer
+    ≡ (spec.pick_on call (frame_view l.f) (record { term = l.term; branch = 0 }) (state_view l.state) l.cases l.other).answer
 
 abbrev pub invariant-items_on-loop-i : goal.invariant-items_on-loop-i
 invariant-items_on-loop-i l =

@@ -1,7 +1,6 @@
-use Rattle.std.proofs.Common.{◌≡◌, sym, ◌∙◌, ap, subst, arith, replicate, length, None, Option, List, ◌++◌, ◌∷◌, []}
+use Rattle.std.proofs.Common.{◌≡◌, sym, ◌∙◌, ap, subst, arith, replicate, length, None, Option, ◌++◌, ◌∷◌, []}
 use Rattle.std.proofs.lemmas.List.{length-replicate}
 use Rattle.ipg_core.specs.Environment.{Done as Result}
-use Rattle.ipg_plain.specs.declared.environment.Done.{Done}
 use Rattle.ipg_plain.specs.Placed.{IsSound}
 use Rattle.ipg_plain.specs.View.{done_views}
 use Rattle.ipg_plain.proofs.States.{state_of, none_push, none_views, none_placed, none_within}
