@@ -5,3 +5,5 @@ pub mod ReachLemmas
 pub mod WalkLemmas
 pub mod PlaceLemmas
 pub mod LeftLemmas
+pub mod SearchLemmas
+pub mod MoveLemmas

@@ -4,7 +4,7 @@ use Rattle.std.proofs.lemmas.Bool.{cases_eq, cases_lt, cases_order}
 use Rattle.ipg_graph.specs.Graph.{Graph}
 use Rattle.ipg_graph.specs.Cycle.{StandsUpTo, StandsBefore}
 use Rattle.ipg_graph.specs.Walk.{Now, Fresh, Open, Closed, Lost, step, run, Closes, IsBarren}
-use Rattle.ipg_graph.specs.Place.{IsSame}
+use Rattle.ipg_graph.specs.Place.{IsSame, IsBehind}
 use Rattle.ipg_graph.proofs.WalkLemmas.{run-closed}
 
 pub same-refl : (g : Graph) (p : List ℕ) → IsSame g p p
@@ -127,11 +127,6 @@ next-back j [] [] h = h
 next-back j [] (y ∷ c) h = elim h [ inl lt ↦ inl (omega arith) | inr e ↦ inl (omega (arith, e.0)) ]
 next-back j (x ∷ p) [] h = h
 next-back j (x ∷ p) (y ∷ c) h = elim h [ inl lt ↦ inl lt | inr e ↦ inr (e.0, next-back j p c e.1) ]
-
--- the cycles behind a found one are those from the next place on
-pub record IsBehind (g : Graph) (last place : List ℕ) : Type 0 where
-  pub on : (c : List ℕ) → Closes g c → StandsBefore last c → StandsUpTo place c
-  pub back : (c : List ℕ) → Closes g c → StandsUpTo place c → StandsBefore last c
 
 pub behind-found : (g : Graph) (p : List ℕ) (j k' : ℕ) → step g (run g Fresh p) j ≡ Closed → j < k' → ((i : ℕ) → j < i → i < k' → IsBarren g (step g (run g Fresh p) i)) → IsBehind g (p ++ j ∷ []) (p ++ k' ∷ [])
 behind-found g p j k' found after skipped =

@@ -11,3 +11,4 @@ pub mod Place
 pub mod Chain
 pub mod Marks
 pub mod Reach
+pub mod Search

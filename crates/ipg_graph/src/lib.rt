@@ -5,5 +5,6 @@ mod chain;
 mod edge;
 mod links;
 mod reach;
+mod search;
 
 pub use edge::Edge;
