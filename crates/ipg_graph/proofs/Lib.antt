@@ -6,4 +6,6 @@ pub mod WalkLemmas
 pub mod PlaceLemmas
 pub mod LeftLemmas
 pub mod SearchLemmas
+pub mod CycleLemmas
 pub mod MoveLemmas
+pub mod AnswersLemmas

@@ -1,12 +1,13 @@
 -- A search's moves, one after another.
 use Rattle.std.proofs.Common.{◌≡◌, ◌<◌, ℕ, List, [], ◌∷◌, ◌++◌, refl, sym, ap, ◌∙◌, subst}
 use Rattle.ipg_graph.specs.Place.{IsSame}
-use Rattle.ipg_graph.specs.Search.{place, left_of, Aims, GoesOn, ClosesAt, IsFound, Finds, FindsNone, Resumes, IsKept, KeepsIn, IsNextFound, HasNothing, spot, spot_in}
+use Rattle.ipg_graph.specs.Search.{place, left_of, Aims, GoesOn, ClosesAt, IsFound, Finds, FindsNone, Resumes, IsKept, KeepsIn, IsNextFound, HasNothing, spot, spot_in, left_in, left_path, listing}
 use Rattle.ipg_graph.specs.declared.search.State.TheVariants as state
-use Rattle.ipg_graph.specs.Answers.{Start, At, End, IsAfter}
+use Rattle.ipg_graph.specs.Answers.{Start, At, End, IsAfter, IsNext, last_of, IsNextAnswer, IsLastAnswer}
 use Rattle.ipg_graph.specs.Cycle.{StandsUpTo, StandsBefore}
 use Rattle.ipg_graph.specs.Walk.{run, step, Fresh, Closes, state_of}
 use Rattle.ipg_graph.proofs.WalkLemmas.{run-push}
+use Rattle.ipg_graph.proofs.CycleLemmas.{closes-simple, simple-closes}
 use Rattle.ipg_graph.proofs.PlaceLemmas.{upto-refl}
 use Rattle.std.proofs.lemmas.Bool.{cases_eq}
 use Rattle.ipg_graph.specs.declared.search.Search.{Search}
@@ -58,13 +59,17 @@ spot-end s is = ap (λ t. spot_in t s.path.items) is
 begun : (old : Search) → old.state ≡ state.Start → IsKept old → place old ≡ 0 ∷ []
 begun old is kept = (let k : KeepsIn state.Start old = subst (λ t. KeepsIn t old) is kept in k).1
 
+less-in : (old new : Search) (n : ℕ) → left_in old.state old ≡ n → new.state ≡ state.Found → left_path new < n → left_in new.state new < left_in old.state old
+less-in old new n is found h = subst (λ t. left_in t new < left_in old.state old) (sym found) (subst (λ k. left_path new < k) (sym is) h)
+
 pub next-start : (old new : Search) → old.state ≡ state.Start → IsKept old → Finds old new → IsNextFound old new
 next-start old new is kept f = record {
   links = f.links; state = f.state;
   kept = kept-found new f.state f.found;
   closes = closes-over old new f.links f.found;
   after = subst (λ t. IsAfter t new.path.items) (sym (spot-start old is)) tt;
-  first = λ d closes after. f.same.on d closes (rw (begun old is kept) (root-upto old.links d closes)) }
+  first = λ d closes after. f.same.on d closes (rw (begun old is kept) (root-upto old.links d closes));
+  less = less-in old new (left_of old + 1) (ap (λ t. left_in t old) is) f.state (omega (arith, f.less)) }
 
 pub none-start : (old new : Search) → old.state ≡ state.Start → IsKept old → FindsNone old new → HasNothing old new
 none-start old new is kept f = record {
@@ -80,7 +85,8 @@ next-found old mid new is r f =
   kept = kept-found new f.state f.found;
   closes = closes;
   after = subst (λ t. IsAfter t new.path.items) (sym (spot-found old is)) (r.behind.back new.path.items closes (same.back new.path.items closes (upto-refl new.path.items)));
-  first = λ d is_cycle after. same.on d is_cycle (r.behind.on d is_cycle (subst (λ t. IsAfter t d) (spot-found old is) after)) }
+  first = λ d is_cycle after. same.on d is_cycle (r.behind.on d is_cycle (subst (λ t. IsAfter t d) (spot-found old is) after));
+  less = less-in old new (left_path old) (ap (λ t. left_in t old) is) f.state (omega (arith, f.less, r.less)) }
 
 pub none-found : (old mid new : Search) → old.state ≡ state.Found → Resumes old mid → FindsNone mid new → HasNothing old new
 none-found old mid new is r f = record {
@@ -89,3 +95,21 @@ none-found old mid new is r f = record {
 
 pub none-end : (old : Search) → old.state ≡ state.End → HasNothing old old
 none-end old is = record { links = refl; state = is; none = λ d closes after. subst (λ t. IsAfter t d) (spot-end old is) after }
+
+-- in the words of callers
+pub next-answer : (old new : Search) → IsNextFound old new → IsNextAnswer (listing old) (listing new)
+next-answer old new f =
+  let at : spot new ≡ At new.path.items = spot-found new f.state in
+  let last : last_of (spot new) ≡ new.path.items = ap last_of at in
+  record {
+    at = at ∙ ap At (sym last);
+    next = subst (λ l. IsNext old.links (spot old) l) (sym last) record {
+      cycle = closes-simple old.links new.path.items f.closes;
+      after = f.after;
+      first = λ d is after. f.first d (simple-closes old.links d is) after };
+    less = f.less }
+
+pub last-answer : (old new : Search) → HasNothing old new → IsLastAnswer (listing old) (listing new)
+last-answer old new f = record {
+  at = spot-end new f.state;
+  none = record { none = λ d is after. f.none d (simple-closes old.links d is) after } }

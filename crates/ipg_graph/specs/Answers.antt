@@ -1,5 +1,5 @@
 -- What the answers are, one by one, and over a whole run.
-use Rattle.std.specs.Prelude.{◌≡◌, ℕ, List, [], ◌∷◌, All, Contains}
+use Rattle.std.specs.Prelude.{◌≡◌, ℕ, ◌<◌, List, [], ◌∷◌, All, Contains}
 use Rattle.ipg_graph.specs.Graph.{Graph}
 use Rattle.ipg_graph.specs.Cycle.{IsSimpleCycle, StandsUpTo, StandsBefore}
 
@@ -24,16 +24,28 @@ pub record IsNext (g : Graph) (from : Spot) (c : List ℕ) : Type 0 where
 pub record HasNoNext (g : Graph) (from : Spot) : Type 0 where
   pub none : (d : List ℕ) → IsSimpleCycle g d → IsAfter from d → ⊥
 
--- what `Cycles` is to its callers
+-- what `Cycles` is to its callers; `left` falls with each answer, for loops over all of them
 pub record Listing : Type 0 where
   pub graph : Graph
   pub at : Spot
+  pub left : ℕ
 
 -- the last answer, or nothing
 abbrev pub last_of : Spot → List ℕ
 last_of Start = []
 last_of (At c) = c
 last_of End = []
+
+-- the next simple cycle is the last answer now
+pub record IsNextAnswer (old new : Listing) : Type 0 where
+  pub at : new.at ≡ At (last_of new.at)
+  pub next : IsNext old.graph old.at (last_of new.at)
+  pub less : new.left < old.left
+
+-- there is no further simple cycle
+pub record IsLastAnswer (old new : Listing) : Type 0 where
+  pub at : new.at ≡ End
+  pub none : HasNoNext old.graph old.at
 
 -- the answers from a spot on, up to the first that is none
 abbrev pub IsRun : Graph → Spot → List (List ℕ) → Type 0

@@ -3,7 +3,7 @@ use Rattle.std.specs.Prelude.{◌≡◌, ℕ, ◌+◌, ◌<◌, ◌≤◌, ◌�
 use Rattle.ipg_graph.specs.Graph.{Graph, caller, callee, IsLive, IsWhole}
 use Rattle.ipg_graph.specs.Marks.{marked}
 use Rattle.ipg_graph.specs.Cycle.{StandsUpTo}
-use Rattle.ipg_graph.specs.Answers.{Spot, Start, At, End, IsAfter}
+use Rattle.ipg_graph.specs.Answers.{Spot, Start, At, End, IsAfter, Listing, last_of}
 use Rattle.ipg_graph.specs.Walk.{Now, Fresh, Open, Closed, Lost, run, step, enter, state_of, Closes}
 use Rattle.ipg_graph.specs.Place.{IsSame, IsBehind, left}
 use Rattle.ipg_graph.specs.Reach.{IsSized, IsClosed}
@@ -20,6 +20,9 @@ now s = state_of s.path.items s.start s.tip s.seen.items
 -- what is left of the search
 abbrev pub left_of : Search → ℕ
 left_of s = left (length s.links.callers) (s.links.rules + 2) (place s)
+
+abbrev pub left_path : Search → ℕ
+left_path s = left (length s.links.callers) (s.links.rules + 2) s.path.items
 
 -- the flags and the room for a walk over these edges
 pub record IsWalk (s : Search) (path : List ℕ) : Type 0 where
@@ -94,6 +97,7 @@ pub record Resumes (old new : Search) : Type 0 where
   pub links : new.links ≡ old.links
   pub ready : IsReady new
   pub behind : IsBehind old.links old.path.items (place new)
+  pub less : left_of new < left_path old
 
 -- the path is the first cycle from the old place on
 pub record Finds (old new : Search) : Type 0 where
@@ -101,6 +105,7 @@ pub record Finds (old new : Search) : Type 0 where
   pub state : new.state ≡ state.Found
   pub found : IsFound new
   pub same : IsSame old.links (place old) new.path.items
+  pub less : left_path new ≤ left_of old
 
 pub record FindsNone (old new : Search) : Type 0 where
   pub links : new.links ≡ old.links
@@ -125,6 +130,14 @@ spot_in state.End path = End
 abbrev pub spot : Search → Spot
 spot s = spot_in s.state s.path.items
 
+abbrev pub left_in : State → Search → ℕ
+left_in state.Start s = left_of s + 1
+left_in state.Found s = left_path s
+left_in state.End s = 0
+
+abbrev pub listing : Search → Listing
+listing s = record { graph = s.links; at = spot s; left = left_in s.state s }
+
 -- the path is the next cycle
 pub record IsNextFound (old new : Search) : Type 0 where
   pub links : new.links ≡ old.links
@@ -133,6 +146,7 @@ pub record IsNextFound (old new : Search) : Type 0 where
   pub closes : Closes old.links new.path.items
   pub after : IsAfter (spot old) new.path.items
   pub first : (d : List ℕ) → Closes old.links d → IsAfter (spot old) d → StandsUpTo new.path.items d
+  pub less : left_in new.state new < left_in old.state old
 
 -- there is no further one
 pub record HasNothing (old new : Search) : Type 0 where

@@ -2,9 +2,11 @@
 #![tactic(auto)]
 
 mod chain;
+mod cycles;
 mod edge;
 mod links;
 mod reach;
 mod search;
 
+pub use cycles::{Cycles, runs_are_whole};
 pub use edge::Edge;

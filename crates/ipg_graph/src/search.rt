@@ -2,8 +2,8 @@ ghost use Rattle.std.specs.Prelude.{◌≡◌, ℕ, ◌+◌, ◌<◌, ◌≤◌,
 ghost use Rattle.ipg_graph.specs.Graph.{caller, callee, IsLive, IsWhole};
 ghost use Rattle.ipg_graph.specs.Marks.{IsUnseen};
 ghost use Rattle.ipg_graph.specs.Walk.{is_free, enter, step, Now, Open, Closed, IsBarren};
-ghost use Rattle.ipg_graph.specs.Search.{now, place, IsWalk, IsChoice, IsReady, IsFollowing, GoesOn, IsTrying, Aims, HasMore, IsFound, ClosesAt, Resumes, Finds, FindsNone, IsKept, IsNextFound, HasNothing};
-ghost use Rattle.ipg_graph.specs.Cycle.{StandsUpTo};
+ghost use Rattle.ipg_graph.specs.Search.{now, place, IsWalk, IsChoice, IsReady, IsFollowing, GoesOn, IsTrying, Aims, HasMore, IsFound, ClosesAt, Resumes, Finds, FindsNone, IsKept, IsNextFound, HasNothing, spot};
+ghost use Rattle.ipg_graph.specs.Answers.{last_of};
 
 use crate::links::Links;
 use crate::reach::Reach;
@@ -59,17 +59,14 @@ impl Search {
         })
     }
 
-    /// The edges walked so far.
-    pub fn path(&self) -> &[u32]
-        ensures { result.now ≡ self.now.path.items }
+    /// The edges of the cycle that was found last, if it was.
+    pub fn found(&self) -> &[u32]
+        ensures { result.now ≡ last_of (spot self.now) }
     {
-        self.path.as_slice()
-    }
-
-    pub fn state(&self) -> State
-        ensures { result ≡ self.now.state }
-    {
-        self.state
+        match self.state {
+            State::Found => self.path.as_slice(),
+            State::Start | State::End => &[],
+        }
     }
 
     /// Finds the next cycle; it is the path then.

@@ -1,7 +1,9 @@
-use Rattle.std.proofs.Common.{◌≡◌, ◌<◌, ◌∙◌, sym, ap, subst, length, arith, refl}
+use Rattle.std.proofs.Common.{◌≡◌, ◌<◌, ◌+◌, ◌∙◌, sym, ap, subst, length, arith, refl}
 use Rattle.std.proofs.lemmas.List.{same_from_push}
 use Rattle.ipg_graph.specs.Marks.{marked}
 use Rattle.ipg_graph.specs.Walk.{state_of, step, run, Fresh, Closed}
+use Rattle.ipg_graph.proofs.MarksLemmas.{marked-le}
+use Rattle.ipg_graph.proofs.LeftLemmas.{left-skip}
 use Rattle.ipg_graph.proofs.SearchLemmas.{same-behind}
 use Rattle.ipg_graph.proofs.search.Search.resume.Goals as goal
 
@@ -29,4 +31,6 @@ returns-in-Some c =
           tip = subst (λ l. 0 < length l → s.tip < s.links.rules) parts.0 walk.tip;
           closed = walk.closed };
         choice = record { within = next.choice.within; at_tip = next.choice.at_tip } };
-      behind = rw c.in-Some.ensures.items (same-behind s.links p (state_of p s.start s.tip s.seen.items) c.in-Some.edge c.following-self.result runs closes next.after next.skipped) }
+      behind = rw c.in-Some.ensures.items (same-behind s.links p (state_of p s.start s.tip s.seen.items) c.in-Some.edge c.following-self.result runs closes next.after next.skipped);
+      less = rw c.in-Some.ensures.items (left-skip (length s.links.callers) c.in-Some.edge c.following-self.result next.after next.choice.within (s.links.rules + 2) p
+        (omega (arith, subst (λ l. length l ≡ marked s.seen.items) parts.0 walk.count, walk.flags, marked-le s.seen.items))) }
