@@ -1,5 +1,5 @@
 -- How much of the search is left falls with each move.
-use Rattle.std.proofs.Common.{◌≡◌, ℕ, zero, suc, ◌+◌, ◌-◌, ◌*◌, ◌^◌, ◌<◌, ◌≤◌, List, [], ◌∷◌, ◌++◌, length, refl, sym, ap, arith, length-append}
+use Rattle.std.proofs.Common.{◌≡◌, ℕ, zero, suc, ◌+◌, ◌-◌, ◌*◌, ◌^◌, ◌<◌, ◌≤◌, List, [], ◌∷◌, ◌++◌, length, arith}
 use Rattle.std.proofs.Math.Nat.{mul-le-mul_right, pow-zero, pow-suc, pow-succ'}
 use Rattle.ipg_graph.specs.Place.{left}
 
@@ -9,7 +9,7 @@ pow-pos b (suc d) h = rw pow-suc (omega (arith, mul-le-mul_right b (let one : 1 
 
 less-digit : (m k k' b r : ℕ) → k < k' → k' ≤ m → 0 < b → r ≤ b → (m - k') * b + r < (m - k) * b + b
 less-digit m k k' b r lt le pos small =
-  omega (arith, mul-le-mul_right b (let h : (m - k') + 1 ≤ m - k = omega arith in h))
+    omega (arith, mul-le-mul_right b (let h : (m - k') + 1 ≤ m - k = omega arith in h))
 
 carry : (m k b : ℕ) → 0 < b → (m - k) * b + b < (m + 2) * b
 carry m k b pos = omega (arith, mul-le-mul_right b (let h : (m - k) + 2 ≤ m + 2 = omega arith in h))

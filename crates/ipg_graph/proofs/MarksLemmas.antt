@@ -1,8 +1,8 @@
 -- Flags, set one at a time.
-use Rattle.std.proofs.Common.{◌≡◌, ◌≢◌, ℕ, zero, suc, ◌+◌, ◌<◌, ◌≤◌, List, [], ◌∷◌, Bool, true, false, length, get_or, set, replicate, refl, sym, ap, ◌∙◌, subst, inl, inr, arith, get_or-set_same, get_or-set_other, set-set}
-use Rattle.std.proofs.lemmas.Bool.{cases_eq, false≢true, true≢false}
-use Rattle.std.proofs.lemmas.List.{set-get_or, get_or_default, get_or_past}
-use Rattle.ipg_graph.specs.Marks.{marked, IsUnseen, IsMarked, Grows}
+use Rattle.std.proofs.Common.{◌≡◌, ℕ, zero, suc, ◌+◌, ◌<◌, ◌≤◌, List, [], ◌∷◌, Bool, true, false, length, get_or, set, replicate, refl, sym, ap, ◌∙◌, subst, inl, inr, arith, get_or-set_other, set-set}
+use Rattle.std.proofs.lemmas.Bool.{cases_eq, true≢false}
+use Rattle.std.proofs.lemmas.List.{set-get_or}
+use Rattle.ipg_graph.specs.Marks.{marked, IsUnseen, Grows}
 
 pub marked-le : (flags : List Bool) → marked flags ≤ length flags
 marked-le [] = omega arith
@@ -27,14 +27,17 @@ unseen-in (b ∷ seen) zero h = omega arith
 unseen-in (b ∷ seen) (suc v) h = omega (arith, unseen-in seen v h)
 
 pub grows-set : (seen : List Bool) (v : ℕ) → Grows seen (set seen v true)
-grows-set seen v = record { kept = λ u h. elim (cases_eq u v) [
-    inl e ↦ absurd (let h' : IsUnseen (set seen v true) v = subst (IsUnseen (set seen v true)) e h in set-seen seen v h')
-  | inr ne ↦ rw (← get_or-set_other seen v u true true ne) h ] }
+grows-set seen v = record {
+  kept = λ u h. elim (cases_eq u v) [
+    | inl e ↦ absurd (let h' : IsUnseen (set seen v true) v = subst (IsUnseen (set seen v true)) e h in set-seen seen v h')
+    | inr ne ↦ rw (← get_or-set_other seen v u true true ne) h
+  ];
+}
   where
-  set-seen : (seen : List Bool) (v : ℕ) → IsUnseen (set seen v true) v → ⊥
-  set-seen [] v h = true≢false h
-  set-seen (b ∷ seen) zero h = true≢false h
-  set-seen (b ∷ seen) (suc v) h = set-seen seen v h
+    set-seen : (seen : List Bool) (v : ℕ) → IsUnseen (set seen v true) v → ⊥
+    set-seen [] v h = true≢false h
+    set-seen (b ∷ seen) zero h = true≢false h
+    set-seen (b ∷ seen) (suc v) h = set-seen seen v h
 
 pub grows-refl : (seen : List Bool) → Grows seen seen
 grows-refl seen = record { kept = λ v h. h }

@@ -1,9 +1,9 @@
 -- Walks edge by edge: what a step does, what can never close, and what a step came from.
-use Rattle.std.proofs.Common.{◌≡◌, ◌≢◌, ℕ, zero, suc, ◌+◌, ◌<◌, ◌≤◌, ◌⊎◌, List, [], ◌∷◌, ◌++◌, Bool, true, false, cond, not, ◌&&◌, ltb, eqb, length, get_or, set, refl, sym, ap, ◌∙◌, subst, inl, inr, arith}
-use Rattle.std.proofs.lemmas.Bool.{cases_eq, cases_lt, cases_Bool, cond-true, cond-false, eq-eqb, ne_eqb, eqb-true, eqb-false, lt-ltb, le-ltb, ltb-true, ltb-false, and_parts, not-true, and_from, not_from_false, true≢false, false≢true}
+use Rattle.std.proofs.Common.{◌≡◌, ℕ, ◌<◌, ◌≤◌, ◌⊎◌, List, [], ◌∷◌, ◌++◌, Bool, true, false, cond, not, ◌&&◌, ltb, get_or, set, refl, sym, ap, ◌∙◌, subst, inl, inr, arith}
+use Rattle.std.proofs.lemmas.Bool.{cases_eq, cases_lt, cases_Bool, cond-true, cond-false, eq-eqb, ne_eqb, lt-ltb, le-ltb, and_from, not_from_false, false≢true}
 use Rattle.ipg_graph.specs.Graph.{Graph, caller, callee, IsLive}
 use Rattle.ipg_graph.specs.Marks.{IsUnseen, IsMarked, Grows}
-use Rattle.ipg_graph.specs.Walk.{Now, Fresh, Open, Closed, Lost, blank, is_free, enter, step, run, Closes, IsBarren, state_of}
+use Rattle.ipg_graph.specs.Walk.{Now, Fresh, Open, Closed, Lost, blank, enter, step, run, IsBarren}
 use Rattle.ipg_graph.specs.Reach.{Counts, IsClosed}
 use Rattle.ipg_graph.proofs.MarksLemmas.{grows-set, grows-trans}
 
@@ -70,12 +70,15 @@ pub data Kinds (g : Graph) (start : ℕ) (seen : List Bool) (v : ℕ) : Type 0 w
 
 pub kinds : (g : Graph) (start : ℕ) (seen : List Bool) (v : ℕ) → Kinds g start seen v
 kinds g start seen v = elim (cases_eq v start) [
-    inl e ↦ Closing e (enter-closed g start seen v e)
+  | inl e ↦ Closing e (enter-closed g start seen v e)
   | inr ne ↦ elim (cases_lt start v) [
-      inr le ↦ Losing (enter-below g start seen v (omega arith))
+    | inr le ↦ Losing (enter-below g start seen v (omega arith))
     | inl lt ↦ elim (cases_Bool (get_or seen v true)) [
-        inl is ↦ Losing (enter-seen g start seen v ne is)
-      | inr is ↦ Opening lt is (enter-open g start seen v lt is) ] ] ]
+      | inl is ↦ Losing (enter-seen g start seen v ne is)
+      | inr is ↦ Opening lt is (enter-open g start seen v lt is)
+    ]
+  ]
+]
 
 pub step-at : (g : Graph) (start tip : ℕ) (seen : List Bool) (e : ℕ) → caller g e ≡ tip → step g (Open start tip seen) e ≡ enter g start seen (callee g e)
 unfolding step
@@ -98,17 +101,20 @@ pub no-way : (g : Graph) (start : ℕ) (seen marks : List Bool) → IsClosed g s
 unfolding run
 no-way g start seen marks closed [] v later grows above unseen unmarked h = cc
 no-way g start seen marks closed (e ∷ c) v later grows above unseen unmarked h =
-  elim (cases_eq (caller g e) v) [
-    inr ne ↦ run-lost g c (subst (λ s. run g s c ≡ Closed) (step-off g start v later e ne) h)
-  | inl at ↦
-    let counts : Counts g start seen e = record { above = rw at above; unseen = rw at unseen } in
-    let h' : run g (enter g start later (callee g e)) c ≡ Closed = subst (λ s. run g s c ≡ Closed) (step-at g start v later e at) h in
-    let marked : ((callee g e ≡ start) ⊎ IsMarked marks (callee g e)) → ⊥ = λ to. false≢true (sym unmarked ∙ (rw (← at) (closed.callers e counts to))) in
-    elim (kinds g start later (callee g e)) [
-      Losing is ↦ run-lost g c (subst (λ s. run g s c ≡ Closed) is h')
-    | Closing same is ↦ marked (inl same)
-    | Opening over free is ↦ elim (cases_Bool (get_or marks (callee g e) false)) [
-        inl is ↦ marked (inr is)
-      | inr un ↦ no-way g start seen marks closed c (callee g e) (set later (callee g e) true)
-          (grows-trans _ _ _ grows (grows-set later (callee g e))) over (grows.kept (callee g e) free) un
-          (subst (λ s. run g s c ≡ Closed) is h') ] ] ]
+    elim (cases_eq (caller g e) v) [
+      | inr ne ↦ run-lost g c (subst (λ s. run g s c ≡ Closed) (step-off g start v later e ne) h)
+      | inl at ↦
+          let counts : Counts g start seen e = record { above = rw at above; unseen = rw at unseen } in
+          let h' : run g (enter g start later (callee g e)) c ≡ Closed = subst (λ s. run g s c ≡ Closed) (step-at g start v later e at) h in
+          let marked : ((callee g e ≡ start) ⊎ IsMarked marks (callee g e)) → ⊥ = λ to. false≢true (sym unmarked ∙ (rw (← at) (closed.callers e counts to))) in
+          elim (kinds g start later (callee g e)) [
+            | Losing is ↦ run-lost g c (subst (λ s. run g s c ≡ Closed) is h')
+            | Closing same is ↦ marked (inl same)
+            | Opening over free is ↦ elim (cases_Bool (get_or marks (callee g e) false)) [
+              | inl is ↦ marked (inr is)
+              | inr un ↦ no-way g start seen marks closed c (callee g e) (set later (callee g e) true)
+                  (grows-trans _ _ _ grows (grows-set later (callee g e))) over (grows.kept (callee g e) free) un
+                  (subst (λ s. run g s c ≡ Closed) is h')
+            ]
+          ]
+    ]

@@ -1,5 +1,5 @@
 -- Edges by number, from caller to callee; a dead edge leads from and to no rule.
-use Rattle.std.specs.Prelude.{◌≡◌, ℕ, ◌<◌, ◌^◌, length, List, [], ◌∷◌, Bool, slice_index_or, if◌then◌else◌, All}
+use Rattle.std.specs.Prelude.{◌≡◌, ℕ, ◌<◌, ◌^◌, length, List, [], ◌∷◌, Bool, slice_index_or, if◌then◌else◌}
 use Rattle.ipg_graph.specs.declared.edge.Edge.{Edge}
 
 -- `rules` in the place of a rule's number says that there is none
@@ -28,7 +28,8 @@ abbrev pub graph_of : ℕ → List Edge → List Bool → Graph
 graph_of rules edges dead = record {
   rules = rules;
   callers = ends rules (λ e. e.caller) edges dead;
-  callees = ends rules (λ e. e.callee) edges dead }
+  callees = ends rules (λ e. e.callee) edges dead;
+}
 
 -- both ends are rules
 abbrev pub IsInside : ℕ → Edge → Type 0

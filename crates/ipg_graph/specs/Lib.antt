@@ -2,11 +2,9 @@
 pub mod Graph
 pub mod Cycle
 pub mod Answers
-
 -- cycles read edge by edge, and the place that a search has reached
 pub mod Walk
 pub mod Place
-
 -- what the parts inside promise each other
 pub mod Chain
 pub mod Marks

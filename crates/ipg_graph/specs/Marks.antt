@@ -1,5 +1,5 @@
 -- Flags of vertices.
-use Rattle.std.specs.Prelude.{◌≡◌, ℕ, zero, suc, List, [], ◌∷◌, Bool, true, false, slice_index_or}
+use Rattle.std.specs.Prelude.{◌≡◌, ℕ, suc, List, [], ◌∷◌, Bool, true, false, slice_index_or}
 
 -- how many are set
 abbrev pub marked : List Bool → ℕ

@@ -1,5 +1,5 @@
 -- A place among the lists of edges, in lexicographic order, and the cycles that stand at or after it.
-use Rattle.std.specs.Prelude.{◌≡◌, ℕ, ◌<◌, ◌⊎◌, List, [], ◌∷◌, ◌^◌, ◌*◌, ◌+◌, ◌-◌, zero, suc}
+use Rattle.std.specs.Prelude.{ℕ, List, [], ◌∷◌, ◌^◌, ◌*◌, ◌+◌, ◌-◌, zero, suc}
 use Rattle.ipg_graph.specs.Graph.{Graph}
 use Rattle.ipg_graph.specs.Cycle.{StandsUpTo, StandsBefore}
 use Rattle.ipg_graph.specs.Walk.{Closes}

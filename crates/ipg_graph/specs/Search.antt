@@ -1,10 +1,10 @@
 -- The search's state: a walk, and the next edge to try behind it.
 use Rattle.std.specs.Prelude.{◌≡◌, ℕ, ◌+◌, ◌<◌, ◌≤◌, ◌⊎◌, List, [], ◌∷◌, ◌++◌, length, vec_capacity}
-use Rattle.ipg_graph.specs.Graph.{Graph, caller, callee, IsLive, IsWhole}
+use Rattle.ipg_graph.specs.Graph.{caller, callee, IsLive, IsWhole}
 use Rattle.ipg_graph.specs.Marks.{marked}
 use Rattle.ipg_graph.specs.Cycle.{StandsUpTo}
-use Rattle.ipg_graph.specs.Answers.{Spot, Start, At, End, IsAfter, Listing, last_of}
-use Rattle.ipg_graph.specs.Walk.{Now, Fresh, Open, Closed, Lost, run, step, enter, state_of, Closes}
+use Rattle.ipg_graph.specs.Answers.{Spot, Start, At, End, IsAfter, Listing}
+use Rattle.ipg_graph.specs.Walk.{Now, Fresh, Closed, Lost, run, step, enter, state_of, Closes}
 use Rattle.ipg_graph.specs.Place.{IsSame, IsBehind, left}
 use Rattle.ipg_graph.specs.Reach.{IsSized, IsClosed}
 use Rattle.ipg_graph.specs.declared.search.Search.{Search}

@@ -20,9 +20,9 @@ is_free start seen v = nat_lt start v && not (slice_index_or seen v true)
 -- over an edge to its callee
 unfoldable pub enter : Graph → ℕ → List Bool → ℕ → Now
 enter g start seen v =
-  if v == start then Closed
-  else if is_free start seen v then Open start v (slice_set seen v true)
-  else Lost
+    if v == start then Closed
+    else if is_free start seen v then Open start v (slice_set seen v true)
+    else Lost
 
 unfoldable pub step : Graph → Now → ℕ → Now
 step g Fresh e = if nat_lt (caller g e) g.rules then enter g (caller g e) (blank g) (callee g e) else Lost

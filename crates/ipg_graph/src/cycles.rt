@@ -58,5 +58,4 @@ impl Cycles {
 /// else, each once and in ascending order.
 pub fn runs_are_whole()
     ensures { RunsAreWhole }
-{
-}
+{}

@@ -142,7 +142,8 @@ impl Search {
         if let Some(edge) = self.path.pop() {
             self.seen[self.tip as usize] = false;
             self.tip = self.links.caller(edge);
-            self.reach.fill(&self.links, self.start, self.seen.as_slice());
+            self.reach
+                .fill(&self.links, self.start, self.seen.as_slice());
             self.cursor = self.following(edge);
         }
     }

@@ -1,4 +1,4 @@
-use Rattle.std.proofs.Common.{◌≤◌, vec_len, length}
+use Rattle.std.proofs.Common.{◌≤◌, length}
 use Rattle.ipg_graph.specs.Chain.{IsLinked}
 use Rattle.ipg_graph.proofs.chain.Chain.new.Given as goal
 

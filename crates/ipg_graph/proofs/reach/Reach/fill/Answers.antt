@@ -1,4 +1,4 @@
-use Rattle.ipg_graph.proofs.ReachLemmas.{spreading-step, spreading-less, spreading-end}
+use Rattle.ipg_graph.proofs.ReachLemmas.{spreading-step, spreading-less}
 use Rattle.ipg_graph.proofs.reach.Reach.fill.Goals as goal
 
 pub loop-rule-smaller : goal.loop-rule-smaller
@@ -7,4 +7,5 @@ loop-rule-smaller c = spreading-less _ _ _ _ _ _ _ _ c.in-Some.ensures.items c.m
 pub loop-rule-preserved : goal.loop-rule-preserved
 loop-rule-preserved c = record {
   sized = c.mark_callers.ensures.sized;
-  spreading = spreading-step _ _ _ _ _ _ _ _ _ c.in-Some.ensures.items c.loop-rule.invariant.spreading c.mark_callers.ensures.spreads c.mark_callers.ensures.scanned }
+  spreading = spreading-step _ _ _ _ _ _ _ _ _ c.in-Some.ensures.items c.loop-rule.invariant.spreading c.mark_callers.ensures.spreads c.mark_callers.ensures.scanned;
+}

@@ -1,4 +1,4 @@
-use Rattle.std.proofs.Common.{◌≡◌, ◌≤◌, ◌∷◌, ◌++◌, [], sym, ap, subst, length, arith, refl}
+use Rattle.std.proofs.Common.{◌≤◌, ◌∷◌, ◌++◌, [], subst, length, arith, refl}
 use Rattle.ipg_graph.specs.Graph.{Graph}
 use Rattle.ipg_graph.specs.Cycle.{StandsUpTo}
 use Rattle.ipg_graph.proofs.SearchLemmas.{none-past, past-end}
@@ -14,5 +14,6 @@ returns-clause-none c = λ _.
       links = c.loop-self.invariant.links;
       state = refl;
       none = λ d closes from.
-        let at : StandsUpTo (s.path.items ++ s.cursor ∷ []) d = c.loop-self.invariant.same.on d closes from in
-        none-past g s.cursor (λ i after. past-end g i (omega arith)) d closes (subst (λ p. StandsUpTo (p ++ s.cursor ∷ []) d) ended.1 at) }
+          let at : StandsUpTo (s.path.items ++ s.cursor ∷ []) d = c.loop-self.invariant.same.on d closes from in
+          none-past g s.cursor (λ i after. past-end g i (omega arith)) d closes (subst (λ p. StandsUpTo (p ++ s.cursor ∷ []) d) ended.1 at);
+    }

@@ -8,7 +8,8 @@ invariant-loop-self l = record {
   links : l.self.links ≡ l.initial.self.links;
   ready : IsReady l.self;
   same : IsSame l.initial.self.links (place l.initial.self) (place l.self);
-  less : left_of l.self ≤ left_of l.initial.self }
+  less : left_of l.self ≤ left_of l.initial.self;
+}
 
 abbrev pub decreases-loop-self : goal.decreases-loop-self
 decreases-loop-self l = left_of l.self

@@ -13,7 +13,9 @@ returns c =
     record {
       choice = record {
         within = c.next_out.ensures.within;
-        at_tip = λ _ lt. c.next_out.ensures.here lt ∙ at };
+        at_tip = λ _ lt. c.next_out.ensures.here lt ∙ at;
+      };
       after = omega (arith, c.next_out.ensures.from);
       skipped = λ j from below. ap (λ x. step s.links x j) (state-open s.path.items s.start s.tip s.seen.items some)
-        ∙ step-off s.links s.start s.tip s.seen.items j (λ is. c.next_out.ensures.none j (omega arith) below (is ∙ sym at)) }
+          ∙ step-off s.links s.start s.tip s.seen.items j (λ is. c.next_out.ensures.none j (omega arith) below (is ∙ sym at));
+    }

@@ -1,4 +1,4 @@
-use Rattle.ipg_graph.proofs.MoveLemmas.{next-start, none-start, next-found, none-found, none-end}
+use Rattle.ipg_graph.proofs.MoveLemmas.{next-start, none-start, next-found, none-found}
 use Rattle.ipg_graph.proofs.search.Search.next.Goals as goal
 
 pub returns-in-Start-clause-found : goal.returns-in-Start-clause-found
