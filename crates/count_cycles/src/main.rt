@@ -22,7 +22,7 @@ fn shape_of(name: &str, size: u32) -> Result<Shape> {
 
 fn count(cycles: &mut Cycles) -> u64 {
     let mut found = 0u64;
-    while cycles.next() {
+    while let Some(_) = cycles.next() {
         found = found.saturating_add(1);
     }
     found

@@ -2,6 +2,7 @@
 pub mod Graph
 pub mod Cycle
 pub mod Answers
+pub mod Lending
 -- cycles read edge by edge, and the place that a search has reached
 pub mod Walk
 pub mod Place

@@ -1,7 +1,9 @@
-ghost use Rattle.std.specs.Prelude.{◌≡◌, ℕ, ◌<◌, ◌^◌, All, length, IfOk, true, false};
+ghost use Rattle.std.specs.Prelude.{◌≡◌, ℕ, ◌<◌, ◌^◌, All, length, IfOk, IfSome, IfNone, true, false};
 ghost use Rattle.ipg_graph.specs.Graph.{graph_of, IsInside};
-ghost use Rattle.ipg_graph.specs.Answers.{Listing, Start, IsNextAnswer, IsLastAnswer, last_of, RunsAreWhole};
+ghost use Rattle.ipg_graph.specs.Answers.{Start, IsNext, HasNoNext, IsNextAnswer, IsLastAnswer, RunsAreWhole};
 ghost use Rattle.ipg_graph.specs.Search.{IsKept, listing};
+ghost use Rattle.std.specs.Borrow.{sem};
+ghost use Rattle.ipg_graph.specs.Lending.{LendsAnswer};
 
 use crate::edge::Edge;
 use crate::links::Links;
@@ -16,6 +18,9 @@ pub struct Cycles {
 }
 
 impl Model for Cycles {
+    ghost use Rattle.ipg_graph.specs.Answers.{Listing};
+    ghost use Rattle.ipg_graph.specs.Search.{IsKept, listing};
+
     ghost Value = { Listing };
 
     ghost view = { λ c. listing c.search };
@@ -37,24 +42,28 @@ impl Cycles {
         Ok(Cycles { search })
     }
 
-    /// Goes on to the next simple cycle: false where there is none, and from then on.
-    pub fn next(&mut self) -> bool
+    /// The edges of the next simple cycle: None where there is none, and from then on. Takes no memory.
+    pub fn next(&mut self) -> Option<&[u32]>
+        ensures* goes_on { sem 𝓛 (LendsAnswer self.entry result) }
+        ensures found { IfSome result (λ c. IsNext self.old.graph self.old.at c.now) }
+        ensures none { IfNone result (HasNoNext self.old.graph self.old.at) }
+    {
+        if self.advance() {
+            return Some(self.search.found());
+        }
+        None
+    }
+
+    fn advance(&mut self) -> bool
         ensures graph { self.new.graph ≡ self.old.graph }
         ensures found { result ≡ true → IsNextAnswer self.old self.new }
         ensures none { result ≡ false → IsLastAnswer self.old self.new }
     {
         self.search.next()
     }
-
-    /// The edges of the cycle that `next` found last; none before the first and after the last one.
-    pub fn cycle(&self) -> &[u32]
-        ensures { result.now ≡ last_of self.now.at }
-    {
-        self.search.found()
-    }
 }
 
-/// The law over whole runs: the answers up to the first `false` are all simple cycles, and nothing
+/// The law over whole runs: the answers up to the first None are all simple cycles, and nothing
 /// else, each once and in ascending order.
 pub fn runs_are_whole()
     ensures { RunsAreWhole }

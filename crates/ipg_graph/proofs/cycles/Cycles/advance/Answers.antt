@@ -2,7 +2,7 @@ use Rattle.std.proofs.Common.{subst}
 use Rattle.ipg_graph.specs.Answers.{Listing, IsNextAnswer, IsLastAnswer}
 use Rattle.ipg_graph.specs.Search.{listing}
 use Rattle.ipg_graph.proofs.MoveLemmas.{next-answer, last-answer}
-use Rattle.ipg_graph.proofs.cycles.Cycles.next.Goals as goal
+use Rattle.ipg_graph.proofs.cycles.Cycles.advance.Goals as goal
 
 pub returns-clause-found : goal.returns-clause-found
 returns-clause-found c = λ is. subst (λ (o : Listing). IsNextAnswer o (listing c.next.new.self)) c.self.view_is
