@@ -1,1 +1,4 @@
 pub mod Slots
+pub mod Written
+pub mod ThinGood
+pub mod Terms

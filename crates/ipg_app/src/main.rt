@@ -1,6 +1,10 @@
 //! Parses files by grammars.
 #![tactic(auto)]
 
+mod grammar;
+mod settle;
+mod status;
 mod thin;
+mod writing;
 
 fn main(_rt: HostRuntime) {}

@@ -75,7 +75,7 @@ fn capped_value(digits: &[u8]) -> u64
     value
 }
 
-fn number(text: &[u8]) -> Option<(u64, &[u8])>
+fn number(text: &[u8]) -> Option<(u32, &[u8])>
     ensures { seen_number result ≡ number_at text.now }
 {
     let (digits, rest) = split(Kind::Digit, split(Kind::Blank, text).1);
@@ -83,7 +83,7 @@ fn number(text: &[u8]) -> Option<(u64, &[u8])>
     if digits.is_empty() || value > MAX_NUMBER {
         return None;
     }
-    Some((value, rest))
+    Some((value as u32, rest))
 }
 
 fn after_sign<'a>(sign: &[u8], text: &'a [u8]) -> Option<&'a [u8]>
@@ -117,8 +117,8 @@ fn ends(text: &[u8]) -> bool
 #[derive(Drop)]
 pub struct ThinSlot<'a> {
     pub bytes: &'a [u8],
-    pub from: u64,
-    pub to: u64,
+    pub from: u32,
+    pub to: u32,
 }
 
 #[derive(Drop)]
