@@ -40,6 +40,12 @@ parse_said g (Err NoTree) = Some (line_said status.NoParse (codes "no parse"))
 parse_said g (Err OutOfRange) = Some (line_said status.Range (codes "range"))
 parse_said g (Err Deep) = None
 
+-- what is said of the parse of an input by a thin rule
+pub record Parses (rule : Thin) (input : List ℕ) (said : Said) : Type 0 where
+  pub answer : Result Tree Stop
+  pub means : Means (grammar_of rule) input answer
+  pub is : parse_said (grammar_of rule) answer ≡ Some said
+
 -- the words of a parse: the grammar's name and the input's
 pub record Parse (words : List (List ℕ)) (grammar input : List ℕ) : Type 0 where
   pub are : words ≡ codes "parse" ∷ grammar ∷ input ∷ []
@@ -63,8 +69,8 @@ pub data Reply (told : List ℕ → Told) (words : List (List ℕ)) (said : Said
       → said ≡ read_fault → Reply told words said
   to_input : (grammar input bytes : List ℕ) (rule : Thin) → Parse words grammar input → ReadsAs (told grammar) rule → MayHold (told input) bytes
       → max_input < length bytes → said ≡ too_large → Reply told words said
-  to_parse : (grammar input bytes : List ℕ) (rule : Thin) (answer : Result Tree Stop) → Parse words grammar input → ReadsAs (told grammar) rule → MayHold (told input) bytes
-      → length bytes ≤ max_input → Means (grammar_of rule) bytes answer → parse_said (grammar_of rule) answer ≡ Some said → Reply told words said
+  to_parse : (grammar input bytes : List ℕ) (rule : Thin) → Parse words grammar input → ReadsAs (told grammar) rule → MayHold (told input) bytes
+      → length bytes ≤ max_input → Parses rule bytes said → Reply told words said
 
 -- the order of answers comes to the reading of a name
 abbrev pub Turn : (List ℕ → Told) → List (List ℕ) → List ℕ → Type 0

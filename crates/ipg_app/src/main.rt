@@ -2,6 +2,8 @@
 #![tactic(auto)]
 
 mod grammar;
+mod parse;
+mod run;
 mod settle;
 mod status;
 mod thin;

@@ -1,5 +1,5 @@
 //! The plainest grammar texts: one rule with one alternative of terminals on intervals.
-ghost use Rattle.std.specs.Prelude.{◌≡◌, ℕ, min, ◌+◌, ◌^◌, map, Some, None, IfOk, IsErrOf, bytes_eq};
+ghost use Rattle.std.specs.Prelude.{◌≡◌, ℕ, min, ◌+◌, ◌<◌, ◌≤◌, map, vec_len, Some, None, IfOk, IsErrOf, bytes_eq};
 ghost use Rattle.std.specs.List.{list_any};
 ghost use Rattle.std.specs.Option.{option_map, option_copied};
 ghost use Rattle.ipg_app.specs.Token.{is_letter, belongs_to, front, past, value_of, max_number, name_front, name_at, number_front, number_at, sign_front, sign_at, string_at, ends_at, seen_name, seen_number};
@@ -183,6 +183,7 @@ fn slot(text: &[u8]) -> Option<(ThinSlot<'_>, &[u8])>
 fn slots(alloc: Global, text: &[u8]) -> Result<Vec<ThinSlot<'_>>, ThinFault>
     ensures ok { IfOk result (λ slots. slots_at max_terms text.now ≡ Some (map slot_seen slots.items)) }
     ensures form { IsErrOf result ThinFault.Form → slots_at max_terms text.now ≡ None }
+    ensures count { IfOk result (λ slots. (0 < vec_len slots) × (vec_len slots ≤ max_terms)) }
 {
     let mut slots = Vec::new(alloc);
     let mut rest = text;
@@ -206,6 +207,7 @@ fn slots(alloc: Global, text: &[u8]) -> Result<Vec<ThinSlot<'_>>, ThinFault>
 pub fn read(alloc: Global, text: &[u8]) -> Result<ThinRule<'_>, ThinFault>
     ensures ok { IfOk result (λ rule. thin_of text.now ≡ Some (thin_seen rule)) }
     ensures form { IsErrOf result ThinFault.Form → thin_of text.now ≡ None }
+    ensures count { IfOk result (λ rule. (0 < vec_len rule.slots) × (vec_len rule.slots ≤ max_terms)) }
 {
     if text.len() > MAX_TEXT {
         return Err(ThinFault::Form);
