@@ -1,27 +1,28 @@
 -- Where each call goes to a later rule, the height falls with the rules that are left.
-use Rattle.std.proofs.Common.{◌≡◌, ◌≢◌, ℕ, zero, suc, ◌+◌, ◌*◌, ◌<◌, ◌≤◌, ℤ, ◌+ℤ◌, ◌-ℤ◌, pos, refl, arith, List, [], ◌∷◌, ◌++◌, Option, Some, None, Result, Err, Bool, true, false, if◌then◌else◌, length}
+use Rattle.std.proofs.Common.{◌≡◌, ℕ, zero, suc, ◌+◌, ◌*◌, ◌<◌, ◌≤◌, ℤ, ◌+ℤ◌, ◌-ℤ◌, pos, refl, arith, List, [], ◌∷◌, ◌++◌, Option, Some, None, Bool, true, false, if◌then◌else◌, length}
 use Rattle.std.specs.Prelude.{slice_get}
 use Rattle.std.specs.List.{AllByRecursion}
 use Rattle.ipg_core.specs.declared.grammar.Sym.{Sym}
 use Rattle.ipg_core.specs.declared.grammar.Sym.TheVariants.{Text, Prim, Rule}
 use Rattle.ipg_core.specs.declared.grammar.Primitive.{Primitive}
-use Rattle.ipg_core.specs.declared.grammar.Primitive.TheVariants.{U8, U16LE, U16BE, U32LE, U32BE, U64LE, U64BE, Bytes}
+use Rattle.ipg_core.specs.declared.grammar.Primitive.TheVariants.{Bytes}
 use Rattle.ipg_core.specs.declared.grammar.CoreExpr.{CoreExpr}
 use Rattle.ipg_core.specs.declared.grammar.CoreSlot.{CoreSlot}
 use Rattle.ipg_core.specs.declared.grammar.CoreTerm.{CoreTerm}
 use Rattle.ipg_core.specs.declared.grammar.CoreTerm.TheVariants.{Slot, Set, Test, Repeat, Pick}
 use Rattle.ipg_core.specs.declared.grammar.CoreAlt.{CoreAlt}
 use Rattle.ipg_core.specs.declared.grammar.CoreRule.{CoreRule}
-use Rattle.ipg_core.specs.Number.{Answer, Val, Fail, Range}
-use Rattle.ipg_core.specs.Grammar.{Grammar, rule_at, holder_of}
-use Rattle.ipg_core.specs.Part.{part, interval}
-use Rattle.ipg_core.specs.Tree.{Kid, Array, kids_of}
+use Rattle.ipg_num.specs.declared.op.Answer.{Answer}
+use Rattle.ipg_num.specs.declared.op.Answer.TheVariants.{Val, Fail, Range}
+use Rattle.ipg_core.specs.Grammar.{Grammar, rule_at}
+use Rattle.ipg_core.specs.Part.{interval}
+use Rattle.ipg_core.specs.Tree.{Kid}
 use Rattle.ipg_core.specs.Environment.{Values}
 use Rattle.ipg_core.specs.Eval.{is_zero, eval}
-use Rattle.ipg_core.specs.Run.{Stop, NoTree, OutOfRange, Deep, Run, finish, stop, some_of, value_of}
-use Rattle.ipg_core.specs.Meaning.{Call, Frame, State, Place, environment, value_in, outer_for, ask, token_on, number_on, primitive_on, symbol_on, slot_on, with_kid, with_value, items_on, times, pick_on, term_on, terms_on, start, node_of, alt_on, alts_on, rule_run, rule_on, den}
+use Rattle.ipg_core.specs.Run.{NoTree, Run, finish, stop, some_of, value_of}
+use Rattle.ipg_core.specs.Meaning.{Call, Frame, State, Place, environment, value_in, ask, token_on, number_on, primitive_on, symbol_on, slot_on, items_on, times, pick_on, term_on, terms_on, start, alt_on, alts_on, rule_run, rule_on, den}
 use Rattle.ipg_core.specs.Mention.{EachSym}
-use Rattle.ipg_core.specs.Total.{IsForward, IsLater, Total}
+use Rattle.ipg_core.specs.Total.{IsForward, IsLater}
 use Rattle.ipg_core.specs.Laws.{ForwardIsTotal}
 use Rattle.ipg_core.proofs.Settled.{Settled, settled_ok, settled_no_tree, settled_range, settled_bind, settled_else}
 

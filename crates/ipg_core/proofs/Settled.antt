@@ -1,5 +1,5 @@
 -- Answers that the height sufficed for, and how runs pass them on.
-use Rattle.std.proofs.Common.{◌≡◌, ◌≢◌, refl, ap, sym, ◌∙◌, List, Result, Ok, Err, ◌++◌}
+use Rattle.std.proofs.Common.{◌≡◌, ◌≢◌, refl, ap, ◌∙◌, List, Result, Ok, Err}
 use Rattle.ipg_core.specs.Run.{Stop, NoTree, OutOfRange, Deep, Asked, Run, finish, stop, after, go_on, ◌>>=◌, or_next, or_else}
 
 pub record Settled {A : Type 0} (answer : Result A Stop) : Type 0 where

@@ -1,12 +1,12 @@
 -- What an expression is evaluated in: the values and results that stand when it is.
-use Rattle.std.specs.Prelude.{ℕ, zero, suc, List, [], ◌∷◌, Option, Some, None, Bool, ℤ, pos, nat_eq, if◌then◌else◌, slice_get, bytes_eq, codes, ◌&&◌, ◌||◌, not}
+use Rattle.std.specs.Prelude.{ℕ, List, [], ◌∷◌, Option, Some, None, Bool, ℤ, pos, nat_eq, if◌then◌else◌, slice_get, bytes_eq, codes, ◌&&◌, ◌||◌}
 use Rattle.ipg_core.specs.declared.grammar.Primitive.{Primitive}
 use Rattle.ipg_core.specs.declared.grammar.Primitive.TheVariants.{U8, U16LE, U16BE, U32LE, U32BE, U64LE, U64BE, Bytes}
 use Rattle.ipg_core.specs.declared.grammar.CoreField.{CoreField}
 use Rattle.ipg_core.specs.declared.grammar.CoreField.TheVariants.{Attr, Start, End}
 use Rattle.ipg_core.specs.declared.grammar.Sym.{Sym}
 use Rattle.ipg_core.specs.Grammar.{name_at, same_sym, is_text}
-use Rattle.ipg_core.specs.Tree.{Tree, Kid, Sub, Token, Number, Raw, Array, Kids, no_kids, items_of, sym_of, attrs_of, kid_at}
+use Rattle.ipg_core.specs.Tree.{Kid, Sub, Token, Number, Raw, Array, Kids, no_kids, items_of, sym_of, attrs_of}
 use Rattle.ipg_core.specs.Touch.{ends_of}
 
 -- attributes with their values, the first entry of a name counting
@@ -35,10 +35,12 @@ pub record Environment : Type 0 where
   -- the names of attributes, by their numbers
   pub names : List (List ℕ)
 
+abbrev pub if_done : Option (Option Done) → Option Done
+if_done None = None
+if_done (Some d) = d
+
 abbrev pub done_at : List (Option Done) → ℕ → Option Done
-done_at [] term = None
-done_at (d ∷ ds) zero = d
-done_at (d ∷ ds) (suc term) = done_at ds term
+done_at done term = if_done (slice_get done term)
 
 -- the items of an array so far, which are none before it has begun
 abbrev pub items_so_far : Option Done → Kids

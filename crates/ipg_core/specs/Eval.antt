@@ -1,8 +1,10 @@
 -- The value of an expression: a number of 64 bits, Fail or Range.
-use Rattle.std.specs.Prelude.{ℕ, Option, Some, None, Bool, true, false, ℤ, pos, negsuc, nat_eq, nat_lt, max, not, if◌then◌else◌}
-use Rattle.ipg_core.specs.declared.grammar.CoreExpr.{CoreExpr, fold-CoreExpr}
+use Rattle.std.specs.Prelude.{ℕ, Option, Some, None, Bool, true, false, ℤ, pos, negsuc, nat_eq, max, not, if◌then◌else◌}
+use Rattle.ipg_core.specs.declared.grammar.CoreExpr.{CoreExpr, fold-CoreExpr, map-CoreExpr, out-CoreExpr}
 use Rattle.ipg_core.specs.declared.grammar.CoreExpr.TheOpen.{CoreExpr-F}
-use Rattle.ipg_core.specs.Number.{Answer, Val, Fail, Range, limited, apply_of, negate_of}
+use Rattle.ipg_num.specs.Number.{limited, flag, apply_of, negate_of}
+use Rattle.ipg_num.specs.declared.op.Answer.{Answer}
+use Rattle.ipg_num.specs.declared.op.Answer.TheVariants.{Val, Fail, Range}
 use Rattle.ipg_core.specs.Tree.{Kid, Kids, no_kids, kid, kid_at}
 use Rattle.ipg_core.specs.Touch.{ends_of, touches, Ends}
 use Rattle.ipg_core.specs.Environment.{Environment, value_at, done_at, items_so_far, seen, field_of_item}
@@ -21,9 +23,6 @@ found (Some z) = Val z
 abbrev pub is_zero : ℤ → Bool
 is_zero (pos n) = nat_eq n 0
 is_zero (negsuc n) = false
-
-abbrev pub truth : Bool → Answer
-truth b = Val (if b then pos 1 else pos 0)
 
 -- the item at an index, which is none at a negative one
 abbrev pub item_at : Kids → ℤ → Option Kid
@@ -60,12 +59,12 @@ reading (CoreExpr-F.Item term index field) env =
     on_value (index env) (λ i. found (field_of_item env.names field (item_at (items_so_far (done_at env.done term)) i)))
 reading (CoreExpr-F.After term left) env = behind (greatest_end (items_so_far (done_at env.done term))) (left env)
 reading (CoreExpr-F.Neg a) env = on_value (a env) negate_of
-reading (CoreExpr-F.Not a) env = on_value (a env) (λ x. truth (is_zero x))
+reading (CoreExpr-F.Not a) env = on_value (a env) (λ x. flag (is_zero x))
 reading (CoreExpr-F.Two op a b) env = on_value (a env) (λ x. on_value (b env) (λ y. apply_of op x y))
 reading (CoreExpr-F.Both a b) env =
-    on_value (a env) (λ x. if is_zero x then truth false else on_value (b env) (λ y. truth (not (is_zero y))))
+    on_value (a env) (λ x. if is_zero x then flag false else on_value (b env) (λ y. flag (not (is_zero y))))
 reading (CoreExpr-F.Either a b) env =
-    on_value (a env) (λ x. if is_zero x then on_value (b env) (λ y. truth (not (is_zero y))) else truth true)
+    on_value (a env) (λ x. if is_zero x then on_value (b env) (λ y. flag (not (is_zero y))) else flag true)
 reading (CoreExpr-F.Cond c a b) env = on_value (c env) (λ x. if is_zero x then b env else a env)
 
 -- each value is a number, also one that is only read
@@ -75,3 +74,7 @@ limited_reading e env = on_value (reading e env) limited
 -- the value of an expression in an environment
 unfoldable pub eval : CoreExpr → Reading
 eval = fold-CoreExpr Reading limited_reading
+
+-- one level of an expression, its parts as readings
+abbrev pub opened : CoreExpr → CoreExpr-F Reading
+opened e = map-CoreExpr CoreExpr Reading eval (out-CoreExpr e)

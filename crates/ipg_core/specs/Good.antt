@@ -1,10 +1,8 @@
 -- When a core grammar is good: what holds of each one that was resolved, completed and ordered.
-use Rattle.std.specs.Prelude.{◌≡◌, ◌≢◌, ℕ, ◌+◌, ◌*◌, ◌^◌, ◌<◌, ◌≤◌, List, [], ◌∷◌, Option, Some, None, slice_get, sum_by, length, bytes_eq, Contains, ◌⊎◌}
+use Rattle.std.specs.Prelude.{◌≡◌, ◌≢◌, ℕ, ◌+◌, ◌^◌, ◌<◌, ◌≤◌, List, [], Option, Some, None, slice_get, sum_by, length, bytes_eq, ◌⊎◌}
 use Rattle.std.specs.List.{AllByRecursion, IsDistinct}
 use Rattle.ipg_core.specs.declared.grammar.Sym.{Sym}
 use Rattle.ipg_core.specs.declared.grammar.Sym.TheVariants.{Text, Prim, Rule}
-use Rattle.ipg_core.specs.declared.grammar.CoreExpr.{CoreExpr}
-use Rattle.ipg_core.specs.declared.grammar.CoreSlot.{CoreSlot}
 use Rattle.ipg_core.specs.declared.grammar.CoreTerm.{CoreTerm}
 use Rattle.ipg_core.specs.declared.grammar.CoreTerm.TheVariants.{Slot, Set, Test, Repeat, Pick}
 use Rattle.ipg_core.specs.declared.grammar.CoreAlt.{CoreAlt}

@@ -1,5 +1,5 @@
 -- A core grammar as contracts see it, and the words that look things up in it.
-use Rattle.std.specs.Prelude.{ℕ, zero, suc, List, [], ◌∷◌, Option, Some, None, Bool, true, false, nat_eq, bytes_eq, slice_get, ◌&&◌}
+use Rattle.std.specs.Prelude.{ℕ, List, [], Option, Some, None, Bool, true, false, nat_eq, bytes_eq, slice_get, ◌&&◌}
 use Rattle.ipg_core.specs.declared.grammar.Primitive.{Primitive}
 use Rattle.ipg_core.specs.declared.grammar.Primitive.TheVariants.{U8, U16LE, U16BE, U32LE, U32BE, U64LE, U64BE, Bytes}
 use Rattle.ipg_core.specs.declared.grammar.Sym.{Sym}
@@ -19,11 +19,13 @@ abbrev pub holder_of : Option CoreRule → Option (ℕ × ℕ)
 holder_of None = None
 holder_of (Some rule) = rule.holder
 
+abbrev pub or_empty : Option (List ℕ) → List ℕ
+or_empty None = []
+or_empty (Some name) = name
+
 -- the name at a number, which is empty where there is none
 abbrev pub name_at : List (List ℕ) → ℕ → List ℕ
-name_at [] n = []
-name_at (name ∷ names) zero = name
-name_at (name ∷ names) (suc n) = name_at names n
+name_at names n = or_empty (slice_get names n)
 
 -- the places of the primitives in their list
 abbrev pub primitive_number : Primitive → ℕ

@@ -1,5 +1,4 @@
 -- what a grammar is, and the words that look things up in it
-pub mod Number
 pub mod Grammar
 -- what it means: parts, trees, what they touch, values, and the answer of a rule on a part
 pub mod Part

@@ -1,5 +1,5 @@
 -- What a grammar means: the tree that a rule has on a part, found to a height.
-use Rattle.std.specs.Prelude.{◌≡◌, ◌≢◌, ℕ, zero, suc, ◌+◌, ◌-◌, List, [], ◌∷◌, ◌++◌, Result, Ok, Err, Option, Some, None, Bool, true, false, ℤ, pos, negsuc, ◌+ℤ◌, ◌-ℤ◌, drop, length, replicate, nat_lt, bytes_eq, take, if◌then◌else◌, slice_get, slice_set}
+use Rattle.std.specs.Prelude.{◌≡◌, ◌≢◌, ℕ, zero, suc, ◌+◌, List, [], ◌∷◌, ◌++◌, Result, Err, Option, Some, None, Bool, true, false, ℤ, pos, negsuc, ◌+ℤ◌, ◌-ℤ◌, drop, length, replicate, nat_lt, bytes_eq, take, if◌then◌else◌, slice_get, slice_set}
 use Rattle.std.specs.Int.{w8, w16, w32, from_le_bytes, from_be_bytes}
 use Rattle.ipg_core.specs.declared.grammar.Primitive.{Primitive}
 use Rattle.ipg_core.specs.declared.grammar.Primitive.TheVariants.{U8, U16LE, U16BE, U32LE, U32BE, U64LE, U64BE, Bytes}
@@ -13,11 +13,11 @@ use Rattle.ipg_core.specs.declared.grammar.CoreAlt.{CoreAlt}
 use Rattle.ipg_core.specs.declared.grammar.CoreRule.{CoreRule}
 use Rattle.ipg_core.specs.Grammar.{Grammar, rule_at, holder_of, same_place}
 use Rattle.ipg_core.specs.Part.{part, interval}
-use Rattle.ipg_core.specs.Tree.{Tree, Node, Kid, Sub, Token, Number, Raw, Array, Kids, kids_of}
-use Rattle.ipg_core.specs.Touch.{Ends, width, untouched, kids_touch}
+use Rattle.ipg_core.specs.Tree.{Tree, Node, Kid, Sub, Token, Number, Raw, Array, kids_of}
+use Rattle.ipg_core.specs.Touch.{width, untouched, kids_touch}
 use Rattle.ipg_core.specs.Environment.{Values, value_at, Done, Environment}
 use Rattle.ipg_core.specs.Eval.{eval, is_zero}
-use Rattle.ipg_core.specs.Run.{Stop, NoTree, OutOfRange, Deep, Asked, Run, finish, stop, ◌>>=◌, or_else, value_of, some_of}
+use Rattle.ipg_core.specs.Run.{Stop, NoTree, Deep, Run, finish, stop, ◌>>=◌, or_else, value_of, some_of}
 
 -- what a call answers: a rule on a part, with the holder's attributes
 abbrev pub Call : Type 0
@@ -83,7 +83,7 @@ halves Bytes bytes = (0, 0)
 
 -- a terminal, where the bytes begin with it
 unfoldable pub token_on : ℕ → ℕ → List ℕ → List ℕ → Run Kid
-token_on from to bytes token = if bytes_eq (take (length token) bytes) token then finish (Token from to token) else stop NoTree
+token_on from to bytes token = if bytes_eq token (take (length token) bytes) then finish (Token from to token) else stop NoTree
 
 -- a number, where there are enough bytes
 unfoldable pub number_on : ℕ → ℕ → List ℕ → Primitive → Run Kid

@@ -1,7 +1,7 @@
 -- The answer of an evaluation, with a log of the calls that it makes.
-use Rattle.std.specs.Prelude.{ℕ, List, [], ◌∷◌, ◌++◌, Result, Ok, Err, Option, Some, None}
-use Rattle.ipg_core.specs.Number.{Answer, Val, Fail, Range}
-use Rattle.ipg_core.specs.Tree.{Tree}
+use Rattle.std.specs.Prelude.{ℕ, List, [], ◌++◌, Result, Ok, Err, Option, Some, None}
+use Rattle.ipg_num.specs.declared.op.Answer.{Answer}
+use Rattle.ipg_num.specs.declared.op.Answer.TheVariants.{Val, Fail, Range}
 use Rattle.ipg_core.specs.Environment.{Values}
 use Rattle.std.specs.Prelude.{ℤ}
 

@@ -5,7 +5,7 @@ ghost use Rattle.ipg_core.specs.Good.{Good};
 ghost use Rattle.ipg_core.specs.Total.{Total};
 
 use crate::grammar::{CoreRule, Name};
-use sqlite_items::Items as List;
+use ipg_num::List;
 use std::marker::Model;
 
 /// A good core grammar: its rules, and the names of its attributes by their numbers.

@@ -1,12 +1,6 @@
 //! The core grammar: references resolved, intervals complete, terms in order.
 
-use sqlite_items::{Boxed as Held, Items as List};
-
-#[derive(Clone, Copy, Debug, PartialEq, Eq)]
-pub enum Op2 {
-    Add,
-    Sub,
-}
+use ipg_num::{Held, List, Op2};
 
 /// A name, as its bytes.
 pub type Name = List<u8>;
