@@ -8,7 +8,7 @@ use crate::thin::{ThinRule, ThinSlot};
 use ipg_core::accepted::{Checked, Core};
 use ipg_core::grammar::{CoreAlt, CoreExpr, CoreRule, CoreSlot, CoreTerm, Sym};
 use ipg_core::laws::forward_is_total;
-use sqlite_items::Items as List;
+use ipg_num::List;
 use std::alloc::{AllocError, Global};
 
 /// The grammar, by which parsing ends: it calls no rule.
