@@ -3,3 +3,4 @@ pub mod Written
 pub mod ThinGood
 pub mod Terms
 pub mod Settling
+pub mod ThinMeaning

@@ -9,3 +9,4 @@ pub mod Reply
 pub mod Run
 -- what functions inside the crate promise each other
 pub mod Lines
+pub mod Stand

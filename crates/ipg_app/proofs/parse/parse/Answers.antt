@@ -1,0 +1,2 @@
+use Rattle.ipg_app.proofs.ThinMeaning.{thin-means}
+use Rattle.ipg_app.proofs.parse.parse.Goals as goal
