@@ -4,3 +4,5 @@ pub mod ThinGood
 pub mod Terms
 pub mod Settling
 pub mod ThinMeaning
+pub mod Touching
+pub mod Printed

@@ -4,15 +4,16 @@ use Rattle.std.proofs.lemmas.Grind.{common_steps}
 use Rattle.ipg_core.specs.declared.grammar.CoreTerm.{CoreTerm}
 use Rattle.ipg_app.specs.Thin.{Slot, slot_seen}
 use Rattle.ipg_app.specs.ThinGrammar.{term_of, numbers}
-use Rattle.ipg_app.specs.declared.thin.ThinSlot.{ThinSlot}
+use Rattle.ipg_app.specs.declared.rule.ThinSlot.{ThinSlot}
 
--- one slot more; the default stands for nothing, since the slot is there
-pub terms-more : (slots : List ThinSlot) (i : ℕ) (default : ThinSlot) (done all : List CoreTerm) → i < length slots → done ++ map term_of (map slot_seen (drop i slots)) ≡ all
-    → (done ++ term_of (slot_seen (get_or slots i default)) ∷ []) ++ map term_of (map slot_seen (drop (i + 1) slots)) ≡ all
-terms-more slots i default done all h f =
-    append_assoc done (term_of (slot_seen (get_or slots i default)) ∷ []) (map term_of (map slot_seen (drop (i + 1) slots)))
-    ∙ ap (λ k. done ++ term_of (slot_seen (get_or slots i default)) ∷ map term_of (map slot_seen (drop k slots))) (add-one i)
-    ∙ sym (ap (λ t. done ++ map term_of (map slot_seen t)) (drop-cons slots i default h)) ∙ f
+-- one slot more
+pub terms-more : (slots : List ThinSlot) (i : ℕ) (slot : ThinSlot) (done all : List CoreTerm) → i < length slots → slot ≡ get_or slots i slot → done ++ map term_of (map slot_seen (drop i slots)) ≡ all
+    → (done ++ term_of (slot_seen slot) ∷ []) ++ map term_of (map slot_seen (drop (i + 1) slots)) ≡ all
+terms-more slots i slot done all h e f =
+    append_assoc done (term_of (slot_seen slot) ∷ []) (map term_of (map slot_seen (drop (i + 1) slots)))
+    ∙ ap (λ k. done ++ term_of (slot_seen slot) ∷ map term_of (map slot_seen (drop k slots))) (add-one i)
+    ∙ ap (λ x. done ++ term_of (slot_seen x) ∷ map term_of (map slot_seen (drop (suc i) slots))) e
+    ∙ sym (ap (λ t. done ++ map term_of (map slot_seen t)) (drop-cons slots i slot h)) ∙ f
 
 past : (slots : List ThinSlot) (i : ℕ) → length slots ≤ i → map slot_seen (drop i slots) ≡ []
 past slots i h = ap (λ t. map slot_seen t) (let e : drop i slots ≡ [] = grind (arith, common_steps) in e)

@@ -1,5 +1,5 @@
 -- What the core grammar of a thin rule means: the tree of its terminals where all of them stand, else none.
-use Rattle.std.proofs.Common.{◌≡◌, ℕ, zero, suc, ◌+◌, ◌<◌, ◌^◌, Bool, true, false, cond, ◌&&◌, nat_le, List, [], ◌∷◌, ◌++◌, length, map, take, Option, None, Some, Result, Ok, Err, ℤ, pos, refl, sym, ap, subst, ◌∙◌, arith, append_assoc, append-nil, add-one, slice_get, slice_set, replicate, nat_lt, length-append, bytes_eq}
+use Rattle.std.proofs.Common.{◌≡◌, ℕ, zero, suc, ◌+◌, ◌<◌, ◌^◌, Bool, true, false, cond, ◌&&◌, nat_le, List, [], ◌∷◌, ◌++◌, length, map, take, Option, None, Some, Result, Ok, Err, ℤ, pos, refl, sym, ap, subst, ◌∙◌, arith, append_assoc, append-nil, add-one, slice_get, slice_set, replicate, nat_lt, length-append, bytes_eq, codes, IfOk}
 use Rattle.std.proofs.lemmas.List.{length-map}
 use Rattle.std.proofs.lemmas.Bool.Decides.{nat_tests}
 use Rattle.std.specs.List.{AllByRecursion, list_all}
@@ -21,7 +21,16 @@ use Rattle.ipg_core.specs.Environment.{Done, Environment, Values}
 use Rattle.ipg_core.specs.Eval.{eval, Reading, limited_reading}
 use Rattle.ipg_core.specs.Run.{Stop, NoTree, Run, finish, stop, after, go_on, ◌>>=◌, or_else, or_next, value_of, some_of}
 use Rattle.ipg_core.specs.Meaning.{Call, Frame, State, Place, value_in, environment, slot_on, term_on, terms_on, token_on, symbol_on, with_kid, start, kids_done, attrs_set, node_of, alt_on, alts_on, rule_on, den, Means}
-use Rattle.ipg_app.specs.Thin.{Slot, Thin}
+use Rattle.ipg_core.specs.Lines as printed
+use Rattle.std.specs.declared.vec.Vec.{Vec}
+use Rattle.std.specs.declared.alloc.Global.{Global}
+use Rattle.ipg_app.specs.Thin.{Slot, Thin, slot_seen, thin_seen}
+use Rattle.ipg_app.specs.Reply.{Parses, line_said}
+use Rattle.ipg_app.specs.Lines.{said_of, text_of}
+use Rattle.ipg_app.specs.declared.rule.ThinSlot.{ThinSlot}
+use Rattle.ipg_app.specs.declared.rule.ThinRule.{ThinRule}
+use Rattle.ipg_app.specs.declared.settle.Settled.{Settled}
+use Rattle.ipg_app.specs.declared.status.Status.TheVariants as status
 use Rattle.ipg_app.specs.ThinGrammar.{term_of, numbers, alt_of, grammar_of}
 use Rattle.ipg_app.specs.Stand.{stands, all_stand, kid_of, kids, tree_on}
 
@@ -165,3 +174,30 @@ thin-den rule s small =
 pub thin-means : (rule : Thin) (s : List ℕ) → AllByRecursion IsSmall rule.slots → (b : Bool) → all_stand s rule.slots ≡ b → Means (grammar_of rule) s (cond b (Ok (tree_on rule (length s))) (Err NoTree))
 thin-means rule s small true e = record { height = 1; is = thin-den rule s small ∙ ap (λ b. cond b (Ok (tree_on rule (length s))) (Err NoTree)) e; settled = λ d. cc }
 thin-means rule s small false e = record { height = 1; is = thin-den rule s small ∙ ap (λ b. cond b (Ok (tree_on rule (length s))) (Err NoTree)) e; settled = λ d. cc }
+
+-- the numbers of a slot that was read are small
+pub all-small : (slots : List ThinSlot) → AllByRecursion IsSmall (map slot_seen slots)
+all-small [] = tt
+all-small (slot ∷ slots) = (record { from = omega (arith, slot.from_small); to = omega (arith, slot.to_small) }, all-small slots)
+
+seen-all : (s : List ℕ) (slots : List ThinSlot) → all_stand s (map slot_seen slots) ≡ list_all (λ slot. stands s (slot_seen slot)) slots
+seen-all s [] = refl
+seen-all s (slot ∷ slots) = ap (λ b. stands s (slot_seen slot) && b) (seen-all s slots)
+
+module _ (rule : ThinRule) (s : List ℕ) where
+  pub no-tree : {E : Type 0} (r : Result Settled E) → false ≡ list_all (λ slot. stands s (slot_seen slot)) rule.slots.items → IfOk r (λ settled. said_of settled ≡ line_said status.NoParse (codes "no parse"))
+      → IfOk r (λ settled. Parses (thin_seen rule) s (said_of settled))
+  no-tree (Ok settled) e h = record {
+    answer = Err NoTree;
+    means = thin-means (thin_seen rule) s (all-small rule.slots.items) false (seen-all s rule.slots.items ∙ sym e);
+    is = ap (λ t. Some t) (sym h)
+  }
+  no-tree (Err x) e h = tt
+
+  pub a-tree : (lines : List (Vec ℕ Global)) → true ≡ list_all (λ slot. stands s (slot_seen slot)) rule.slots.items → text_of lines ≡ printed.lines (grammar_of (thin_seen rule)) (tree_on (thin_seen rule) (length s)) 0
+      → Parses (thin_seen rule) s (record { status = status.Done; text = text_of lines })
+  a-tree lines e h = record {
+    answer = Ok (tree_on (thin_seen rule) (length s));
+    means = thin-means (thin_seen rule) s (all-small rule.slots.items) true (seen-all s rule.slots.items ∙ sym e);
+    is = ap (λ t. Some (record { status = status.Done; text = t })) (sym h)
+  }

@@ -10,3 +10,4 @@ pub mod Run
 -- what functions inside the crate promise each other
 pub mod Lines
 pub mod Stand
+pub mod Ends

@@ -4,8 +4,8 @@ use Rattle.std.specs.List.{list_any}
 use Rattle.std.specs.Option.{option_map}
 use denote.Ref.{Bor}
 use Rattle.ipg_app.specs.Token.{Taken, name_at, number_at, sign_at, string_at, ends_at}
-use Rattle.ipg_app.specs.declared.thin.ThinSlot.{ThinSlot}
-use Rattle.ipg_app.specs.declared.thin.ThinRule.{ThinRule}
+use Rattle.ipg_app.specs.declared.rule.ThinSlot.{ThinSlot}
+use Rattle.ipg_app.specs.declared.rule.ThinRule.{ThinRule}
 
 -- a terminal on the interval from one number to the other
 pub record Slot : Type 0 where

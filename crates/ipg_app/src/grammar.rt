@@ -4,7 +4,7 @@ ghost use Rattle.ipg_core.specs.Total.{Total};
 ghost use Rattle.ipg_app.specs.Thin.{thin_seen, slot_seen};
 ghost use Rattle.ipg_app.specs.ThinGrammar.{grammar_of, term_of, numbers};
 
-use crate::thin::{ThinRule, ThinSlot};
+use crate::rule::{ThinRule, ThinSlot};
 use ipg_core::accepted::{Checked, Core};
 use ipg_core::grammar::{CoreAlt, CoreExpr, CoreRule, CoreSlot, CoreTerm, Sym};
 use ipg_core::laws::forward_is_total;

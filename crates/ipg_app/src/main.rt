@@ -2,7 +2,9 @@
 #![tactic(auto)]
 
 mod grammar;
+mod lines;
 mod parse;
+mod rule;
 mod run;
 mod settle;
 mod status;

@@ -8,7 +8,8 @@ ghost use Rattle.ipg_app.specs.Lines.{said_of, InputSettles};
 
 use crate::parse::parse;
 use crate::status::Status;
-use crate::thin::{self, ThinFault, ThinRule};
+use crate::rule::ThinRule;
+use crate::thin::{self, ThinFault};
 use ipg_outside::{FileFault, Files};
 use std::alloc::{AllocError, Global};
 
@@ -23,7 +24,7 @@ pub struct Settled {
     pub lines: Vec<Vec<u8>>,
 }
 
-fn line(alloc: Global, status: Status, words: &[u8]) -> Result<Settled, AllocError>
+pub fn line(alloc: Global, status: Status, words: &[u8]) -> Result<Settled, AllocError>
     ensures { IfOk result (λ settled. said_of settled ≡ line_said status words.now) }
 {
     let mut line = Vec::from_slice(alloc, words)?;

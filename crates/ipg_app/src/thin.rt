@@ -1,11 +1,12 @@
 //! The plainest grammar texts: one rule with one alternative of terminals on intervals.
-ghost use Rattle.std.specs.Prelude.{◌≡◌, ℕ, min, ◌+◌, ◌<◌, ◌≤◌, map, vec_len, Some, None, IfOk, IsErrOf, bytes_eq};
+ghost use Rattle.std.specs.Prelude.{◌≡◌, ℕ, min, ◌+◌, ◌<◌, ◌≤◌, map, vec_len, Some, None, IfSome, IfOk, IsErrOf, bytes_eq};
 ghost use Rattle.std.specs.List.{list_any};
 ghost use Rattle.std.specs.Option.{option_map, option_copied};
 ghost use Rattle.ipg_app.specs.Token.{is_letter, belongs_to, front, past, value_of, max_number, name_front, name_at, number_front, number_at, sign_front, sign_at, string_at, ends_at, seen_name, seen_number};
 ghost use Rattle.ipg_app.specs.Thin.{is_reserved, slot_at, slots_at, max_terms, thin_of, slot_seen, thin_seen, taken_slot};
 ghost use Rattle.ipg_app.specs.declared.thin.ThinFault.TheVariants.{Memory};
 
+use crate::rule::{ThinRule, ThinSlot};
 use std::alloc::{AllocError, AllocFailed, Global};
 
 const MAX_TEXT: usize = 1 << 20;
@@ -76,7 +77,8 @@ fn capped_value(digits: &[u8]) -> u64
 }
 
 fn number(text: &[u8]) -> Option<(u32, &[u8])>
-    ensures { seen_number result ≡ number_at text.now }
+    ensures value { seen_number result ≡ number_at text.now }
+    ensures small { IfSome result (λ taken. taken.0 ≤ max_number) }
 {
     let (digits, rest) = split(Kind::Digit, split(Kind::Blank, text).1);
     let value = capped_value(digits);
@@ -111,20 +113,6 @@ fn ends(text: &[u8]) -> bool
     ensures { result ≡ ends_at text.now }
 {
     split(Kind::Blank, text).1.is_empty()
-}
-
-/// A terminal on the interval from one number to the other.
-#[derive(Drop)]
-pub struct ThinSlot<'a> {
-    pub bytes: &'a [u8],
-    pub from: u32,
-    pub to: u32,
-}
-
-#[derive(Drop)]
-pub struct ThinRule<'a> {
-    pub name: &'a [u8],
-    pub slots: Vec<ThinSlot<'a>>,
 }
 
 /// Why a text was not read.
