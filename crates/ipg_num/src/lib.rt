@@ -2,11 +2,15 @@
 #![tactic(auto)]
 
 mod held;
+mod laws;
 mod list;
 mod look;
 mod op;
+#[cfg(test)]
+mod tests;
 
 pub use held::Held;
+pub use laws::divides_by_floor;
 pub use list::List;
 pub use look::item_at;
 pub use op::{Answer, Op2, apply, negate};

@@ -1,0 +1,4 @@
+pub mod Texts
+pub mod Exprs
+pub mod Lists
+pub mod Forms

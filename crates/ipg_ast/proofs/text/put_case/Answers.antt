@@ -1,0 +1,13 @@
+use Rattle.std.proofs.Common.{rules, ◌∷◌, []}
+use Rattle.ipg_ast.proofs.Exprs.{text}
+use Rattle.ipg_ast.proofs.Forms.{case_text}
+use Rattle.ipg_ast.proofs.Texts.{Wrote, then, finally}
+use Rattle.ipg_ast.proofs.text.put_case.Goals as goal
+
+pub returns : goal.returns
+returns c =
+    let a : Wrote c.args.out.now.items (99 ∷ 97 ∷ 115 ∷ 101 ∷ 32 ∷ []) c.put.new.out.items = record { is = search rules } in
+    let b : Wrote c.put.new.out.items (40 ∷ 32 ∷ []) c.put-2.new.out.items = record { is = search rules } in
+    let d : Wrote c.put-2.new.out.items (text c.args.case.now.cond) c.put_expr.new.out.items = record { is = search rules } in
+    let e : Wrote c.put_expr.new.out.items (41 ∷ 32 ∷ []) c.put-3.new.out.items = record { is = search rules } in
+    finally _ _ _ _ (then (then (then a b) d) e) (case_text c.args.case.now) c.put_slot.ensures

@@ -1,0 +1,11 @@
+use crate::Name;
+
+/// A token without its place: a name, a reserved word, a number, a string's bytes or a symbol.
+#[derive(Debug, Drop)]
+pub enum TokenKind {
+    Name(Name),
+    Word(Name),
+    Number(i64),
+    Text(Name),
+    Symbol(Name),
+}
