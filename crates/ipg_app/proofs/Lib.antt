@@ -3,6 +3,3 @@ pub mod Written
 pub mod ThinGood
 pub mod Terms
 pub mod Settling
-pub mod ThinMeaning
-pub mod Touching
-pub mod Printed

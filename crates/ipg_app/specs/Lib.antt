@@ -9,5 +9,3 @@ pub mod Reply
 pub mod Run
 -- what functions inside the crate promise each other
 pub mod Lines
-pub mod Stand
-pub mod Ends

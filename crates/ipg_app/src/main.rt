@@ -2,7 +2,6 @@
 #![tactic(auto)]
 
 mod grammar;
-mod lines;
 mod parse;
 mod rule;
 mod run;

@@ -1,15 +1,15 @@
 //! Parses an input by a thin rule.
-ghost use Rattle.std.specs.Prelude.{◌≡◌, ◌≤◌, ◌^◌, length, map, IfOk};
-ghost use Rattle.std.specs.List.{list_all};
-ghost use Rattle.ipg_app.specs.Thin.{thin_seen, slot_seen};
-ghost use Rattle.ipg_app.specs.Stand.{stands};
+ghost use Rattle.std.specs.Prelude.{◌<◌, ◌≤◌, ◌^◌, length, vec_len, IfOk};
+ghost use Rattle.ipg_app.specs.Thin.{thin_seen};
 ghost use Rattle.ipg_app.specs.Reply.{Parses};
 ghost use Rattle.ipg_app.specs.Lines.{said_of};
 
-use crate::lines::lines;
-use crate::rule::{ThinRule, ThinSlot};
+use crate::grammar::checked;
+use crate::rule::ThinRule;
 use crate::settle::{Settled, line};
 use crate::status::Status;
+use ipg_lines::lines_of;
+use ipg_plain::walk::{Walked, walk};
 use std::alloc::{AllocError, Global};
 
 /// What is to be said of the parse.
@@ -18,28 +18,18 @@ pub fn parse(
     rule: &ThinRule<'_>,
     input: &[u8],
 ) -> Result<Settled, AllocError>
-    requires { length input.now ≤ 2 ^ 30 }
+    requires some { 0 < vec_len rule.now.slots }
+    requires few { vec_len rule.now.slots ≤ 256 }
+    requires size { length input.now ≤ 2 ^ 30 }
     ensures { IfOk result (λ settled. Parses (thin_seen rule.now) input.now (said_of settled)) }
 {
-    if !all_stand(&rule.slots, input) {
-        return line(alloc, Status::NoParse, b"no parse");
+    let grammar = checked(alloc, rule)?;
+    match walk(alloc, &grammar, input)? {
+        Walked::Tree(tree) => Ok(Settled {
+            status: Status::Done,
+            lines: lines_of(alloc, grammar.core(), &tree)?,
+        }),
+        Walked::NoTree => line(alloc, Status::NoParse, b"no parse"),
+        Walked::Range => line(alloc, Status::Range, b"range"),
     }
-    Ok(Settled {
-        status: Status::Done,
-        lines: lines(alloc, rule, input.len() as u32)?,
-    })
-}
-
-fn all_stand(slots: &[ThinSlot<'_>], input: &[u8]) -> bool
-    ensures { result ≡ list_all (λ slot. stands input.now (slot_seen slot)) slots.now }
-{
-    slots.iter().all(|slot| stands(slot, input))
-}
-
-/// Whether the terminal stands on its interval.
-fn stands(slot: &ThinSlot<'_>, input: &[u8]) -> bool
-    ensures { result ≡ stands input.now (slot_seen slot.now) }
-{
-    let (from, to) = (slot.from as usize, slot.to as usize);
-    from <= to && to <= input.len() && input[from..to].starts_with(slot.bytes)
 }
