@@ -45,7 +45,7 @@ module _ (told : List ℕ → Told) (before after : List ℕ → ℕ) (grammar i
     name = input;
     turn = (grammar, input, is-parse, inr (refl, (rule, reads)));
     rose = rose;
-    is = e
+    is = e;
   })
 
   moved : (between-told : List ℕ → Told) (between : List ℕ → ℕ) (said : Said) (rule : Thin) → ((n : List ℕ) → between-told n ≡ told n) → ((n : List ℕ) → before n ≤ between n)

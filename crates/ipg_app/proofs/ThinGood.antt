@@ -76,9 +76,9 @@ in-order provides none (suc count) n k taken e low high = (
     below = omega arith;
     fresh = high k (omega arith);
     provided = λ v p. absurd (none k v p);
-    least = λ w h f p. let t = low w h in cc
+    least = λ w h f p. let t = low w h in cc;
   },
-  in-order provides none count n (k + 1) (k ∷ taken) (omega arith) (λ u h. grind (arith, nat_tests, low u)) (λ u h. grind (arith, nat_tests, high u))
+  in-order provides none count n (k + 1) (k ∷ taken) (omega arith) (λ u h. grind (arith, nat_tests, low u)) (λ u h. grind (arith, nat_tests, high u)),
 )
 
 good-term : (g : Grammar) (at : ℕ × ℕ) (slots : List Slot) (u : ℕ) (slot : Slot) → GoodTerm g at None (map term_of slots) u (term_of slot)
@@ -95,7 +95,7 @@ good-alt g at slots some few = record {
       let w = of-slot slots u term e in
       let P : CoreTerm → Type 0 = λ t. GoodTerm g at None (map term_of slots) u t in
       subst P (sym w.1) (good-term g at slots u w.0);
-  order = in-order (Provides g at (map term_of slots)) (provides-none g at slots) (length slots) (length (map term_of slots)) 0 [] (length-map slots term_of ∙ sym (zero-add (length slots))) (λ u h. absurd (omega arith)) (λ u h. refl)
+  order = in-order (Provides g at (map term_of slots)) (provides-none g at slots) (length slots) (length (map term_of slots)) 0 [] (length-map slots term_of ∙ sym (zero-add (length slots))) (λ u h. absurd (omega arith)) (λ u h. refl);
 }
 
 counts : (slots : List Slot) → sum_by slots_in (map term_of slots) ≡ length slots
@@ -131,7 +131,7 @@ thin-good rule some few = record {
   holders = λ r holder e. absurd (no-holder rule r holder e);
   few_names = omega arith;
   names_differ = tt;
-  few_slots = omega (arith, counts rule.slots)
+  few_slots = omega (arith, counts rule.slots);
 }
 
 all-later : (g : Grammar) (r : ℕ) (slots : List Slot) → AllByRecursion (EachSym (IsLater g r)) (map term_of slots)

@@ -17,14 +17,14 @@ takes-none a = record { all = sym (append-nil (given a)); kept = ([], sym (appen
 takes-more : (xs ys : List ℕ) (a b c : Output) → Takes xs a b → Takes ys b c → Takes (xs ++ ys) a c
 takes-more xs ys a b c p q = record {
   all = q.all ∙ ap (λ t. t ++ ys) p.all ∙ append_assoc (given a) xs ys;
-  kept = prefix-more _ _ _ p.kept q.kept
+  kept = prefix-more _ _ _ p.kept q.kept;
 }
 
 breaks-more : (xs ys zs text : List ℕ) (a b c : Output) → text ≡ xs ++ (ys ++ zs) → Takes xs a b → Breaks ys b c → Breaks text a c
 breaks-more xs ys zs text a b c e p q = record {
   part = prefix-more _ _ _ q.part (zs, ap (λ t. given a ++ t) e ∙ sym (append_assoc (given a) xs (ys ++ zs)) ∙ sym (append_assoc (given a ++ xs) ys zs) ∙ ap (λ t. (t ++ ys) ++ zs) (sym p.all));
   kept = prefix-more _ _ _ p.kept q.kept;
-  none_held = q.none_held
+  none_held = q.none_held;
 }
 
 flushed : (xs : List ℕ) (a b c : Output) → Takes xs a b → HandsOn b c → Writes xs a c

@@ -13,11 +13,7 @@ use ipg_plain::walk::{Walked, walk};
 use std::alloc::{AllocError, Global};
 
 /// What is to be said of the parse.
-pub fn parse(
-    alloc: Global,
-    rule: &ThinRule<'_>,
-    input: &[u8],
-) -> Result<Settled, AllocError>
+pub fn parse(alloc: Global, rule: &ThinRule<'_>, input: &[u8]) -> Result<Settled, AllocError>
     requires some { 0 < vec_len rule.now.slots }
     requires few { vec_len rule.now.slots ≤ 256 }
     requires size { length input.now ≤ 2 ^ 30 }

@@ -7,8 +7,8 @@ ghost use Rattle.ipg_app.specs.Run.{Settles};
 ghost use Rattle.ipg_app.specs.Lines.{said_of, InputSettles};
 
 use crate::parse::parse;
-use crate::status::Status;
 use crate::rule::ThinRule;
+use crate::status::Status;
 use crate::thin::{self, ThinFault};
 use ipg_outside::{FileFault, Files};
 use std::alloc::{AllocError, Global};

@@ -18,7 +18,12 @@ const ROW: &[u8] = b"S -> \"ab\"[0,2] ;";
 
 const ROW_TREE: &[u8] = b"0 S 0 2 start=0 end=2\n1 tok 0 2 6162\n";
 
-fn run_words(alloc: Global, words: &[&str], files: &mut MemFiles, out: &mut MemSink) -> Result<Status, AllocError> {
+fn run_words(
+    alloc: Global,
+    words: &[&str],
+    files: &mut MemFiles,
+    out: &mut MemSink,
+) -> Result<Status, AllocError> {
     let mut given = Vec::new(alloc);
     for word in words {
         given.push(String::from_str(alloc, word)?)?;
@@ -109,7 +114,11 @@ fn answers_words(rt: HostRuntime) -> anyhow::Result<()> {
         files.add("f", b"ab")?;
         let mut out = MemSink::new(alloc, 4096, &[])?;
         let status = run_words(alloc, words, &mut files, &mut out)?;
-        assert_eq!(rt; (status, out.bytes()), (Status::Usage, b"usage\n" as &[u8]), "{words:?}");
+        assert_eq!(rt;
+            (status, out.bytes()),
+            (Status::Usage, b"usage\n" as &[u8]),
+            "{words:?}"
+        );
     }
     Ok(())
 }
@@ -120,14 +129,38 @@ fn answers_faults(rt: HostRuntime) -> anyhow::Result<()> {
     let row = plain(ROW, b"ab");
     let fault: (Status, &[u8]) = (Status::ReadFault, b"read fault\n");
     let absent = Try { input: None, ..row };
-    let no_grammar = Try { grammar: None, ..row };
-    let refused = Try { fail_reads: &[1], ..plain(b"S", b"ab") };
+    let no_grammar = Try {
+        grammar: None,
+        ..row
+    };
+    let refused = Try {
+        fail_reads: &[1],
+        ..plain(b"S", b"ab")
+    };
     for (case, want) in [
         (absent, fault),
         (no_grammar, fault),
-        (Try { input: None, ..no_grammar }, fault),
-        (Try { fail_reads: &[0], ..row }, fault),
-        (Try { fail_reads: &[1], ..row }, fault),
+        (
+            Try {
+                input: None,
+                ..no_grammar
+            },
+            fault,
+        ),
+        (
+            Try {
+                fail_reads: &[0],
+                ..row
+            },
+            fault,
+        ),
+        (
+            Try {
+                fail_reads: &[1],
+                ..row
+            },
+            fault,
+        ),
         (refused, (Status::Refused, b"refused Form\n")),
         (Try { room: 0, ..absent }, (Status::WriteFault, b"")),
     ] {
@@ -135,12 +168,24 @@ fn answers_faults(rt: HostRuntime) -> anyhow::Result<()> {
         assert_eq!(rt; (status, out.bytes()), want);
     }
     for room in 0..ROW_TREE.len() {
-        let (status, out) = try_parse(alloc, &Try { room: room as u64, ..row })?;
-        assert_eq!(rt; (status, out.bytes()), (Status::WriteFault, &ROW_TREE[..room]));
+        let (status, out) = try_parse(
+            alloc,
+            &Try {
+                room: room as u64,
+                ..row
+            },
+        )?;
+        assert_eq!(rt;
+            (status, out.bytes()),
+            (Status::WriteFault, &ROW_TREE[..room])
+        );
     }
     for (fail_writes, want) in [(&[0u64], 22), (&[1], ROW_TREE.len())] {
         let (status, out) = try_parse(alloc, &Try { fail_writes, ..row })?;
-        assert_eq!(rt; (status, out.bytes()), (Status::WriteFault, &ROW_TREE[..want]));
+        assert_eq!(rt;
+            (status, out.bytes()),
+            (Status::WriteFault, &ROW_TREE[..want])
+        );
     }
     Ok(())
 }

@@ -139,8 +139,8 @@ impl<T: Drop> From<AllocFailed<T>> for ThinFault {
 }
 
 const RESERVED: [&str; 20] = [
-    "for", "to", "do", "switch", "case", "else", "where", "start", "end", "EOI", "tok", "many", "U8",
-    "U16LE", "U16BE", "U32LE", "U32BE", "U64LE", "U64BE", "Bytes",
+    "for", "to", "do", "switch", "case", "else", "where", "start", "end", "EOI", "tok", "many",
+    "U8", "U16LE", "U16BE", "U32LE", "U32BE", "U64LE", "U64BE", "Bytes",
 ];
 
 fn is_reserved(name: &[u8]) -> bool

@@ -24,7 +24,7 @@ loop-preserved c = record {
   counted = omega (arith, c.in_ok-push.ensures.len);
   so_far =
       rw (c.in_ok-push.ensures.items, map-append)
-      (sym (slots-more _ _ (map slot_seen c.loop.slots.items) _ _ _ c.loop-test.true (sym c.in-Some.ensures) (sym c.in_default-after_sign.ensures)) ∙ c.loop.invariant.so_far)
+      (sym (slots-more _ _ (map slot_seen c.loop.slots.items) _ _ _ c.loop-test.true (sym c.in-Some.ensures) (sym c.in_default-after_sign.ensures)) ∙ c.loop.invariant.so_far);
 }
 
 pub returns-clause-form : goal.returns-clause-form

@@ -21,7 +21,7 @@ loop-line-preserved g c =
     let so_far = rw (next-line _ _ _ c.loop-line-test.true c.line-item.is) at c.loop-line.invariant.so_far in
     record {
       so_far = one-more _ _ _ _ c.line-item.result.items _ so_far (rw c.deref.ensures.value at c.in_ok-write.ensures.taken);
-      counts = omega (arith, c.loop-line.invariant.counts, c.write.ensures.counts)
+      counts = omega (arith, c.loop-line.invariant.counts, c.write.ensures.counts);
     }
 
 pub loop-line-init : goal.loop-line-init

@@ -6,5 +6,5 @@ use Rattle.ipg_app.proofs.writing.put.Given as goal
 abbrev pub invariant-loop-line : goal.invariant-loop-line
 invariant-loop-line g l = record {
   so_far : Progress (g.S.Sink.output l.initial.out) (g.S.Sink.output l.out) (text_of l.lines) (text_of (drop l.line-index l.lines));
-  counts : g.S.Sink.faults l.initial.out ≤ g.S.Sink.faults l.out
+  counts : g.S.Sink.faults l.initial.out ≤ g.S.Sink.faults l.out;
 }
