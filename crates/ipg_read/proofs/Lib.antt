@@ -1,0 +1,4 @@
+pub mod Values
+pub mod Strings
+pub mod Fronts
+pub mod Lexemes

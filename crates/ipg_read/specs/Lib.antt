@@ -1,0 +1,5 @@
+-- What the public contracts rest on.
+pub mod Lexical
+-- What functions inside the crate promise each other.
+pub mod Within
+pub mod Scanning
