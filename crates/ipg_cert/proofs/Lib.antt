@@ -1,0 +1,8 @@
+pub mod Sums
+pub mod Told
+pub mod Sound
+pub mod Root
+pub mod TotalsLemmas
+pub mod SeenLemmas
+pub mod Absurd
+pub mod GoalsLemmas

@@ -1,0 +1,7 @@
+-- What the public contracts rest on.
+pub mod Facts
+pub mod Checks
+-- What functions inside the crate promise each other.
+pub mod Totals
+pub mod Seen
+pub mod Goals

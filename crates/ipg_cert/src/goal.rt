@@ -1,0 +1,16 @@
+use crate::known::Bound;
+use ipg_lin::Formula;
+
+/// What a case adds to the facts.
+#[derive(Clone, Copy)]
+pub enum Added<'a> {
+    Case(Bound),
+    Member(&'a Formula),
+}
+
+/// A case to refute: the first `kept` facts hold, and what it adds.
+#[derive(Clone, Copy)]
+pub struct Goal<'a> {
+    pub kept: usize,
+    pub added: Added<'a>,
+}

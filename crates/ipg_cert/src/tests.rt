@@ -1,0 +1,80 @@
+ghost use Rattle.std.specs.Prelude.{◌≡◌, ◌≤◌, IfOk};
+ghost use Rattle.ipg_lin.specs.Formula.{depth};
+
+use super::*;
+use ipg_lin::{Boxed, Formula, Linear};
+use ipg_num::List;
+use std::alloc::{AllocError, Global};
+use std::test::Fail;
+
+fn atom(alloc: Global, coefficient: i64, constant: i64) -> Result<Formula, Fail>
+    ensures { IfOk result (λ f. depth f ≡ 0) }
+{
+    Ok(Formula::Atom(Linear::new(alloc, &[(0, coefficient)], constant)?))
+}
+
+fn one_box(alloc: Global, low: i64, high: i64) -> Result<Boxed, Fail> {
+    let mut bounds = List::new(alloc);
+    bounds.push((low, high))?;
+    Ok(Boxed { bounds })
+}
+
+fn combine(alloc: Global, entries: &[(u64, u64)]) -> Result<Step, AllocError> {
+    Ok(Step::Combine(List::from_vec(Vec::from_slice(alloc, entries)?)))
+}
+
+/// `2x - 7 <= 0` and `7 - 2x <= 0`.
+fn three_and_a_half(alloc: Global) -> Result<Formula, Fail>
+    ensures { IfOk result (λ f. depth f ≡ 1) }
+{
+    let mut members = List::new(alloc);
+    members.push(atom(alloc, 2, -7)?)?;
+    members.push(atom(alloc, -2, 7)?)?;
+    Ok(Formula::All(members))
+}
+
+/// One of `x - 4 <= 0` and `10 - x <= 0`.
+fn below_or_above(alloc: Global) -> Result<Formula, Fail>
+    ensures { IfOk result (λ f. depth f ≤ 2) }
+{
+    let mut members = List::new(alloc);
+    members.push(atom(alloc, 1, -4)?)?;
+    members.push(atom(alloc, -1, 10)?)?;
+    let mut all = List::new(alloc);
+    all.push(Formula::Any(members))?;
+    Ok(Formula::All(all))
+}
+
+#[test]
+fn a_split_refutes_a_half(rt: HostRuntime) -> Result<(), Fail> {
+    let alloc = rt.alloc();
+    let f = three_and_a_half(alloc)?;
+    let b = one_box(alloc, 0, 10)?;
+    let mut steps = List::new(alloc);
+    steps.push(Step::Split { var: 0, at: 3 })?;
+    steps.push(combine(alloc, &[(1, 3), (2, 4)])?)?;
+    steps.push(combine(alloc, &[(1, 2), (2, 4)])?)?;
+    assert!(rt; check(alloc, &f, &b, &Refutation { steps })?);
+    let mut steps = List::new(alloc);
+    steps.push(combine(alloc, &[(1, 2), (1, 3)])?)?;
+    assert!(rt; !check(alloc, &f, &b, &Refutation { steps })?);
+    Ok(())
+}
+
+#[test]
+fn an_any_is_refuted_by_cases(rt: HostRuntime) -> Result<(), Fail> {
+    let alloc = rt.alloc();
+    let f = below_or_above(alloc)?;
+    let b = one_box(alloc, 5, 9)?;
+    let mut steps = List::new(alloc);
+    steps.push(Step::Either { fact: 2, parts: 2 })?;
+    steps.push(combine(alloc, &[(1, 0), (1, 3)])?)?;
+    steps.push(combine(alloc, &[(1, 1), (1, 3)])?)?;
+    assert!(rt; check(alloc, &f, &b, &Refutation { steps })?);
+    let mut steps = List::new(alloc);
+    steps.push(Step::Either { fact: 2, parts: 2 })?;
+    steps.push(combine(alloc, &[(2, 0), (1, 3)])?)?;
+    steps.push(combine(alloc, &[(1, 1), (1, 3)])?)?;
+    assert!(rt; !check(alloc, &f, &b, &Refutation { steps })?);
+    Ok(())
+}
