@@ -1,0 +1,5 @@
+pub mod Slots
+pub mod Written
+pub mod ThinGood
+pub mod Terms
+pub mod Settling

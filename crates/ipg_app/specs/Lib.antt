@@ -1,0 +1,11 @@
+-- the texts that are read: their tokens, and what a thin rule is
+pub mod Token
+pub mod Thin
+-- the grammar that a thin rule stands for
+pub mod ThinGrammar
+-- what the program says to its words, and what it does outside
+pub mod Code
+pub mod Reply
+pub mod Run
+-- what functions inside the crate promise each other
+pub mod Lines

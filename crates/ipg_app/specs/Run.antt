@@ -1,0 +1,54 @@
+-- What a run did: one of four cases.
+use Rattle.std.specs.Prelude.{◌≡◌, ℕ, ◌⊎◌, List, [], ◌++◌, Option}
+use Rattle.ipg_outside.specs.Faults.{Rose}
+use Rattle.ipg_outside.specs.Files.{Told}
+use Rattle.ipg_outside.specs.Sink.{Output, given, Breaks, Tells}
+use Rattle.ipg_app.specs.Reply.{Said, Reply, Turn, read_fault}
+use Rattle.ipg_app.specs.declared.status.Status.{Status}
+use Rattle.ipg_app.specs.declared.status.Status.TheVariants as status
+
+-- the outside at a moment
+pub record Outside : Type 0 where
+  pub told : List ℕ → Told
+  pub read_faults : List ℕ → ℕ
+  pub output : Option Output
+  pub write_faults : ℕ
+
+-- exactly this text went out
+pub record Writes (text : List ℕ) (before after : Output) : Type 0 where
+  pub all : after.written ≡ given before ++ text
+  pub none_held : after.held ≡ []
+
+-- a reading failed, of a name whose turn had come, and the fault was counted
+pub record FailsToRead (told : List ℕ → Told) (before after : List ℕ → ℕ) (words : List (List ℕ)) (said : Said) : Type 0 where
+  pub name : List ℕ
+  pub turn : Turn told words name
+  pub rose : Rose (before name) (after name)
+  pub is : said ≡ read_fault
+
+-- what is to be said, by what is told and by the faults of this call
+abbrev pub Settles : (List ℕ → Told) → (List ℕ → ℕ) → (List ℕ → ℕ) → List (List ℕ) → Said → Type 0
+Settles told before after words said = Reply told words said ⊎ FailsToRead told before after words said
+
+-- the whole text went out
+pub record Ended (before after : Outside) (words : List (List ℕ)) (s : Status) : Type 0 where
+  pub said : Said
+  pub settled : Settles before.told before.read_faults after.read_faults words said
+  pub is : s ≡ said.status
+  pub out : Tells before.output after.output (Writes said.text)
+
+-- a prefix of the text went out, and the fault was counted
+pub record FailsToWrite (before after : Outside) (words : List (List ℕ)) (s : Status) : Type 0 where
+  pub said : Said
+  pub settled : Settles before.told before.read_faults after.read_faults words said
+  pub is : s ≡ status.WriteFault
+  pub rose : Rose before.write_faults after.write_faults
+  pub out : Tells before.output after.output (Breaks said.text)
+
+-- nothing went out
+pub record OutOfMemory (before after : Outside) (s : Status) : Type 0 where
+  pub is : s ≡ status.Memory
+  pub out : after.output ≡ before.output
+
+abbrev pub Runs : Outside → Outside → List (List ℕ) → Status → Type 0
+Runs before after words s = Ended before after words s ⊎ (FailsToWrite before after words s ⊎ OutOfMemory before after s)

@@ -1,0 +1,4 @@
+pub mod Settled
+pub mod Height
+pub mod Forward
+pub mod EvalLemmas

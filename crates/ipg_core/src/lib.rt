@@ -1,0 +1,6 @@
+//! Core grammars and what they mean.
+#![tactic(auto)]
+
+pub mod accepted;
+pub mod grammar;
+pub mod laws;

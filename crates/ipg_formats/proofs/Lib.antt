@@ -1,0 +1,3 @@
+-- n pieces end to end
+pub mod EachLemmas
+pub mod LengthLemmas

@@ -1,0 +1,9 @@
+use Rattle.std.proofs.Common.{rules}
+use Rattle.std.proofs.lemmas.List.{append_assoc}
+use Rattle.std.proofs.lemmas.Result.{IfOk-equal}
+use Rattle.ipg_formats.specs.Pcap.{record_header}
+use Rattle.ipg_formats.proofs.samples.pcap.RecordHeader.write.Goals as goal
+
+pub returns : goal.returns
+unfolding record_header
+returns c = Prim.search (rules, IfOk-equal, append_assoc)

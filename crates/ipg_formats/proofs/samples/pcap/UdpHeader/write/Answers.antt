@@ -1,0 +1,9 @@
+use Rattle.std.proofs.Common.{rules}
+use Rattle.std.proofs.lemmas.List.{append_assoc}
+use Rattle.std.proofs.lemmas.Result.{IfOk-equal}
+use Rattle.ipg_formats.specs.Pcap.{udp_header}
+use Rattle.ipg_formats.proofs.samples.pcap.UdpHeader.write.Goals as goal
+
+pub returns : goal.returns
+unfolding udp_header
+returns c = Prim.search (rules, IfOk-equal, append_assoc)

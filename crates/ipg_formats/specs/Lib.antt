@@ -1,0 +1,10 @@
+-- what the public calls answer
+pub mod Text
+pub mod Sample
+-- the formats, header by header
+pub mod Elf
+pub mod Pe
+pub mod Gif
+pub mod Pcap
+-- how a number stands in a file
+pub mod Fields

@@ -1,0 +1,11 @@
+pub mod ChainLemmas
+pub mod MarksLemmas
+pub mod GraphLemmas
+pub mod ReachLemmas
+pub mod WalkLemmas
+pub mod PlaceLemmas
+pub mod LeftLemmas
+pub mod SearchLemmas
+pub mod CycleLemmas
+pub mod MoveLemmas
+pub mod AnswersLemmas

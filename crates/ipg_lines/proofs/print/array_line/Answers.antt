@@ -1,0 +1,16 @@
+use Rattle.std.proofs.Common.{◌≡◌, ◌∷◌, [], ◌∙◌, ap, sym, ◌++◌, length}
+use Rattle.std.specs.Prelude.{decimal, codes}
+use Rattle.ipg_core.specs.Lines.{line, sym_name}
+use Rattle.ipg_lines.proofs.Printing.{full_line, count_views, two_words}
+use Rattle.ipg_lines.proofs.print.array_line.Goals as goal
+
+pub returns : goal.returns
+returns c =
+    let dec = decimal c.args.depth in
+    let s = c.sym_name.result.now in
+    let n = length c.args.items.now in
+    full_line dec (codes "for" ∷ []) (s ∷ decimal n ∷ []) _ _ _ _
+    c.in_ok-line.ensures c.in_ok-add.ensures
+    (c.in_ok-add_number.ensures ∙ ap (λ l. l ++ 32 ∷ decimal n) c.in_ok-add-2.ensures ∙ two_words c.add.new.line.items s (decimal n)) c.in_ok-push.ensures.items
+    ∙ ap (λ s. line (dec ∷ codes "for" ∷ s ∷ decimal n ∷ [])) c.sym_name.ensures
+    ∙ ap (λ n. line (dec ∷ codes "for" ∷ sym_name c.args.core.now c.args.sym.now ∷ decimal n ∷ [])) (sym (count_views c.args.items.now))

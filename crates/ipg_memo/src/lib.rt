@@ -1,0 +1,8 @@
+//! The answers of calls already made, by rule and interval, seen as a finite map.
+#![tactic(auto)]
+
+mod memo;
+#[cfg(test)]
+mod tests;
+
+pub use memo::{Entry, Key, Memo};

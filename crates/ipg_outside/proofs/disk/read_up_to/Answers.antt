@@ -1,0 +1,36 @@
+use Rattle.std.proofs.Common.{ℕ, arith, length-take}
+use Rattle.std.proofs.lemmas.Result.{err_from_is_err_and}
+use Rattle.std.proofs.lemmas.Grind.{common_steps}
+use Rattle.ipg_outside.proofs.Known.{consumes-none, moves-more, read-whole, read-cut, never-large}
+use Rattle.ipg_outside.proofs.disk.read_up_to.Goals as goal
+
+pub loop-bytes-init : goal.loop-bytes-init
+loop-bytes-init g c = record {
+  room = omega (arith, c.in_ok-bytes.ensures.len);
+  chunk = grind (arith, common_steps);
+  so_far = rw c.in_ok-bytes.ensures.items (consumes-none _);
+}
+
+pub returns-clause-cut : goal.returns-clause-cut
+returns-clause-cut g c = read-cut _ _ _ _ c.loop-bytes.invariant.so_far (let e = c.loop-bytes.bytes.ok.0 in omega arith)
+
+pub returns-in_err-read_more-clause-cut : goal.returns-in_err-read_more-clause-cut
+returns-in_err-read_more-clause-cut g c =
+    let p = err_from_is_err_and c.from_residual-in_err-read_more.result c.from_residual-in_err-read_more.ensures.1 in
+    rw (p.1, p.2) (never-large _ _ c.in_err-read_more.ensures.refused)
+
+pub returns-then-branch-eq0-clause-whole : goal.returns-then-branch-eq0-clause-whole
+returns-then-branch-eq0-clause-whole g c =
+    let grown = c.in_ok-read_more.ensures.grown in
+    let same = c.read_more.new.bytes.ok.0 in
+    read-whole _ _ _ _ (moves-more _ _ _ _ _ c.loop-bytes.invariant.so_far c.in_ok-read_more.ensures.moved) (c.in_ok-read_more.ensures.end c.if-branch-eq0.true) (omega arith)
+
+pub loop-bytes-preserved : goal.loop-bytes-preserved
+loop-bytes-preserved g c =
+    let grown = c.in_ok-read_more.ensures.grown in
+    let within = c.in_ok-read_more.ensures.within in
+    record {
+      room = omega (arith, length-take {A = ℕ});
+      chunk = c.loop-bytes.invariant.chunk;
+      so_far = moves-more _ _ _ _ _ c.loop-bytes.invariant.so_far c.in_ok-read_more.ensures.moved;
+    }

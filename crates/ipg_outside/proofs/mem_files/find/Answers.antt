@@ -1,0 +1,15 @@
+use Rattle.std.proofs.Common.{◌≡◌, sym, drop, [], arith}
+use Rattle.std.proofs.lemmas.Grind.{common_steps}
+use Rattle.ipg_outside.proofs.Told.{told-found, told-passed}
+use Rattle.ipg_outside.proofs.mem_files.find.Goals as goal
+use Rattle.ipg_outside.proofs.mem_files.find.Goals.{then-eq, else-eq}
+
+pub loop-file-preserved : goal.loop-file-preserved
+loop-file-preserved c =
+    elim c.if-eq.branch [
+      | then-eq w ↦ rw w.found-is (told-found _ _ _ _ _ _ _ c.loop-file-test.true c.file-item.is (rw c.as_str.ensures.value at (sym w.if-eq.ensures)) w.as_slice.ensures.value c.loop-file.invariant)
+      | else-eq w ↦ rw w.found-is (told-passed _ _ _ _ _ _ c.loop-file-test.true c.file-item.is (rw c.as_str.ensures.value at (sym w.if-eq.ensures)) c.loop-file.invariant)
+    ]
+
+pub returns : goal.returns
+returns c = let e : drop c.loop-file.file-index c.args.files.now ≡ [] = grind (arith, common_steps) in let h = rw e at c.loop-file.invariant in h

@@ -1,0 +1,118 @@
+//! Real files.
+ghost use Rattle.std.specs.Prelude.{◌≡◌, ◌⊎◌, ◌+◌, ◌^◌, ◌<◌, ◌≤◌, length, vec_len, IfOk, IfErr};
+ghost use Rattle.std.specs.Io.KnownBytes.{IsAtEnd};
+ghost use Rattle.ipg_outside.specs.Files.{ReadWhole, ReadCut, IfTooLarge, Moves, told_by, untold};
+
+use crate::files::{FileFault, Files};
+use std::alloc::Global;
+use std::fs::{self, OpenFile};
+use std::io::{self, ErrorKind, Read};
+
+const CHUNK: usize = 1 << 16;
+
+/// Files of the system, of which nothing is told. One count serves all names.
+#[derive(Drop)]
+pub struct DiskFiles<R: std::rt::Files + Drop> {
+    rt: R,
+    faults: u64,
+}
+
+impl<R: std::rt::Files + Drop> DiskFiles<R> {
+    pub fn new(rt: R) -> DiskFiles<R>
+        ensures rt { result.rt ≡ rt }
+        ensures faults { result.faults ≡ 0 }
+    {
+        DiskFiles { rt, faults: 0 }
+    }
+}
+
+impl<R: std::rt::Files + Drop> Files for DiskFiles<R> {
+    ghost told = { λ _ _. untold };
+
+    ghost faults = { λ files _. files.faults };
+
+    fn read_all(&mut self, alloc: Global, name: &str, limit: u64) -> Result<Vec<u8>, FileFault> {
+        let answer = read_file(&self.rt, alloc, name, limit);
+        if matches!(answer, Err(FileFault::Failed)) {
+            self.faults = self.faults.saturating_add(1);
+        }
+        answer
+    }
+}
+
+fn read_file<R: std::rt::Files>(
+    rt: &R,
+    alloc: Global,
+    name: &str,
+    limit: u64,
+) -> Result<Vec<u8>, FileFault>
+    requires { limit < 2 ^ 62 }
+    ensures whole { IfOk result (λ bytes. ReadWhole untold limit bytes.items) }
+    ensures cut { IfErr result (λ fault. IfTooLarge fault (ReadCut untold limit)) }
+{
+    let mut file = match fs::open(rt, name) {
+        Ok(file) => file,
+        Err(error) => return Err(fault_of(&error)),
+    };
+    // A guess: of a pipe the length is 0, and a file may grow.
+    let expected = match file.metadata() {
+        Ok(metadata) => metadata.len().min(limit) as usize + 1,
+        Err(_) => 0,
+    };
+    read_up_to(&mut file, alloc, limit, expected)
+}
+
+/// Reads all that is left, but stops after `limit + 1` bytes. Each turn takes a byte.
+fn read_up_to<F: Read>(
+    file: &mut F,
+    alloc: Global,
+    limit: u64,
+    expected: usize,
+) -> Result<Vec<u8>, FileFault>
+    requires { limit < 2 ^ 62 }
+    ensures whole { IfOk result (λ bytes. ReadWhole (told_by (F.remaining file.old)) limit bytes.items) }
+    ensures cut { IfErr result (λ fault. IfTooLarge fault (ReadCut (told_by (F.remaining file.old)) limit)) }
+{
+    let wanted = limit as usize + 1;
+    let mut bytes = Vec::with_capacity(alloc, expected)?;
+    let mut chunk = vec![in alloc; 0u8; CHUNK]?;
+    while bytes.len() < wanted {
+        let room = CHUNK.min(wanted - bytes.len());
+        if read_more(file, &mut chunk[..room], &mut bytes)? == 0 {
+            return Ok(bytes);
+        }
+    }
+    Err(FileFault::TooLarge(bytes))
+}
+
+/// Appends what one read gives, and tells its length.
+fn read_more<F: Read>(
+    file: &mut F,
+    chunk: &mut [u8],
+    bytes: &mut Vec<u8>,
+) -> Result<usize, FileFault>
+    requires { 0 < length chunk.old }
+    ensures moved { IfOk result (λ _. Moves (F.remaining file.old) (F.remaining file.new) bytes.old.items bytes.new.items) }
+    ensures grown { IfOk result (λ count. vec_len bytes.new ≡ vec_len bytes.old + count) }
+    ensures within { IfOk result (λ count. count ≤ length chunk.old) }
+    ensures end { IfOk result (λ count. count ≡ 0 → IsAtEnd (F.remaining file.new)) }
+    ensures refused { IfErr result (λ fault. fault ≡ FileFault.Memory ⊎ fault ≡ FileFault.Failed) }
+{
+    match file.read(chunk) {
+        Ok(count) => {
+            bytes.extend_from_slice(&chunk[..count])?;
+            Ok(count)
+        }
+        Err(error) => Err(fault_of(&error)),
+    }
+}
+
+fn fault_of(error: &io::Error) -> FileFault
+    ensures { result ≡ FileFault.Memory ⊎ result ≡ FileFault.Failed }
+{
+    if error.kind() == ErrorKind::OutOfMemory {
+        FileFault::Memory
+    } else {
+        FileFault::Failed
+    }
+}

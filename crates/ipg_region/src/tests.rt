@@ -1,0 +1,57 @@
+use super::*;
+use linked_list_allocator::LocalHeap;
+use std::alloc::Allocator;
+use std::process::Abort;
+use std::test::Fail;
+
+fn places_reads_and_cuts<A: Allocator + Clone + Drop>(
+    alloc: A,
+    rt: &impl Abort,
+) -> Result<(), Fail> {
+    let mut region = Region::new(alloc, 8)?;
+    let first = region.place(&[1u8, 2])?;
+    assert_eq!(rt; first.place, 0);
+    assert_eq!(rt; region.mark().place, 1);
+    let second = region.place(&[3])?;
+    assert_eq!(rt; second.place, 1);
+    region.cut(second);
+    assert_eq!(rt; region.mark().place, 1);
+    assert!(rt; region.read(first) == [1, 2].as_slice());
+    region.reserve(1, 4)?;
+    let again = region.place(&[4, 5, 6, 7])?;
+    assert!(rt; region.read(again) == [4, 5, 6, 7].as_slice());
+    Ok(())
+}
+
+#[test]
+fn runs_in_global(rt: HostRuntime) -> Result<(), Fail> {
+    places_reads_and_cuts(rt.alloc(), &rt)
+}
+
+#[test]
+fn runs_in_a_heap(rt: HostRuntime) -> Result<(), Fail> {
+    let heap = LocalHeap::new(rt.alloc(), 4096)?;
+    places_reads_and_cuts(&heap, &rt)
+}
+
+#[test]
+fn a_full_heap_reads_as_before(rt: HostRuntime) -> Result<(), Fail> {
+    let heap = LocalHeap::new(rt.alloc(), 1 << 16)?;
+    let mut region = Region::new(&heap, 64)?;
+    let mut refused = false;
+    for i in 0..4096u64 {
+        refused = region.place(&[i, 2 * i, 3 * i, 4 * i]).is_err();
+        if refused {
+            break;
+        }
+    }
+    assert!(rt; refused);
+    let runs = region.mark().place;
+    assert!(rt; runs > 64);
+    for place in 0..runs {
+        let i = place as u64;
+        assert!(rt; i < 4096);
+        assert!(rt; region.read(RunId { place }) == [i, 2 * i, 3 * i, 4 * i].as_slice());
+    }
+    Ok(())
+}
