@@ -1,5 +1,7 @@
 //! Core grammars by hand, walked and printed: the trees are published ones.
 
+ghost use Rattle.std.specs.Prelude.{◌≤◌, ◌^◌, length};
+
 use crate::print::{Names, tree_lines};
 use ipg_core::grammar::{
     CoreAlt, CoreExpr, CoreField, CoreRule, CoreSlot, CoreTerm, Name, Primitive, Sym,
@@ -89,7 +91,9 @@ fn printed(
     rules: &[CoreRule],
     words: &[&[u8]],
     input: &[u8],
-) -> Made<Result<Vec<u8>, Halt>> {
+) -> Made<Result<Vec<u8>, Halt>>
+    requires { length input.now ≤ 2 ^ 30 }
+{
     let mut attrs = Vec::new(alloc);
     for word in words {
         attrs.push(name(alloc, word)?)?;
@@ -327,24 +331,25 @@ fn local(alloc: Global) -> Made<CoreRule> {
 }
 
 /// `S -> T[0, 1] T[0, 2] ; T -> {k = EOI} L[0, 1] where { L -> U8 {v = U8.val + k} ; } ;`
-#[test]
-fn a_local_rule_sees_its_holder(rt: HostRuntime) -> Result<(), Fail> {
-    let alloc = rt.alloc();
+fn holding(alloc: Global) -> Made<[CoreRule; 3]> {
     let set = CoreTerm::Set {
         attr: 0,
         value: CoreExpr::Eoi,
     };
     let parts = vec![in alloc; between(Sym::Rule(1), 0, 1), between(Sym::Rule(1), 0, 2)]?;
-    let rules = [
+    let holder = vec![in alloc; set, between(Sym::Rule(2), 0, 1)]?;
+    Ok([
         simple(alloc, b"S", parts)?,
-        simple(
-            alloc,
-            b"T",
-            vec![in alloc; set, between(Sym::Rule(2), 0, 1)]?,
-        )?,
+        simple(alloc, b"T", holder)?,
         local(alloc)?,
-    ];
-    let text = printed(alloc, &rules, &[b"k", b"v", b"val"], b"\x05\x06")?;
+    ])
+}
+
+#[test]
+fn a_local_rule_sees_its_holder(rt: HostRuntime) -> Result<(), Fail> {
+    let alloc = rt.alloc();
+    let names: [&[u8]; 3] = [b"k", b"v", b"val"];
+    let text = printed(alloc, &holding(alloc)?, &names, b"\x05\x06")?;
     let want: &[u8] = b"0 S 0 2 start=0 end=1\n\
         1 T 0 1 start=0 end=1 k=1\n\
         2 L 0 1 start=0 end=1 v=6\n\
