@@ -6,16 +6,23 @@ ghost use Rattle.ipg_core.specs.Lines as spec;
 ghost use Rattle.ipg_core.specs.Grammar.{name_at};
 ghost use Rattle.ipg_core.specs.Tree.{kids_of};
 ghost use Rattle.ipg_plain.specs.View.{kid_view, kid_views, tree_view};
-ghost use Rattle.ipg_lines.specs.Text.{lines_in, spaced};
+ghost use Rattle.ipg_lines.specs.Text.{grammar_view, lines_in, spaced};
 
 use ipg_core::accepted::Core;
-use ipg_core::grammar::{Primitive, Sym};
+use ipg_core::grammar::{CoreRule, Name, Primitive, Sym};
 use ipg_num::item_at;
 use ipg_plain::tree::{PlainKid, PlainTree};
 use itoa::Buffer;
 use std::alloc::{AllocError, Global};
 
 const DIGITS: &[u8; 16] = b"0123456789abcdef";
+
+/// What a printed tree takes names from: a grammar's rules, and the names of its attributes by their numbers.
+#[derive(Clone, Copy)]
+pub(crate) struct Names<'c> {
+    pub(crate) rules: &'c [CoreRule],
+    pub(crate) attrs: &'c [Name],
+}
 
 /// Appends a space and a word.
 fn add(line: &mut Vec<u8>, word: &[u8]) -> Result<(), AllocError>
@@ -95,10 +102,10 @@ fn add_short_hex(line: &mut Vec<u8>, bytes: &[u8]) -> Result<(), AllocError>
 }
 
 /// The name of an attribute, which is empty where there is none.
-fn attr_name(core: &Core, attr: u32) -> &[u8]
-    ensures { result.now ≡ name_at core.now.names attr }
+fn attr_name<'c>(names: &Names<'c>, attr: u32) -> &'c [u8]
+    ensures { result.now ≡ name_at (grammar_view names.now).names attr }
 {
-    match item_at(core.names(), attr as usize) {
+    match item_at(names.attrs, attr as usize) {
         Some(name) => name.as_slice(),
         None => &[],
     }
@@ -121,23 +128,23 @@ fn primitive_name(prim: Primitive) -> &'static [u8]
 }
 
 /// The name of a rule, which is empty where there is no such rule.
-fn rule_name(core: &Core, rule: u32) -> &[u8]
-    ensures { result.now ≡ spec.rule_name core.now rule }
+fn rule_name<'c>(names: &Names<'c>, rule: u32) -> &'c [u8]
+    ensures { result.now ≡ spec.rule_name (grammar_view names.now) rule }
 {
-    match item_at(core.rules(), rule as usize) {
+    match item_at(names.rules, rule as usize) {
         Some(rule) => rule.name.as_slice(),
         None => &[],
     }
 }
 
 /// The name of a symbol, which is empty for a terminal.
-fn sym_name<'c>(core: &'c Core, sym: &Sym) -> &'c [u8]
-    ensures { result.now ≡ spec.sym_name core.now sym.now }
+fn sym_name<'c>(names: &Names<'c>, sym: &Sym) -> &'c [u8]
+    ensures { result.now ≡ spec.sym_name (grammar_view names.now) sym.now }
 {
     match sym {
         Sym::Text(_) => &[],
         Sym::Prim(prim) => primitive_name(*prim),
-        Sym::Rule(rule) => rule_name(core, *rule),
+        Sym::Rule(rule) => rule_name(names, *rule),
     }
 }
 
@@ -170,11 +177,11 @@ fn add_node(line: &mut Vec<u8>, name: &[u8], places: [u64; 4]) -> Result<(), All
     add_set(line, b"end", places[3])
 }
 
-fn add_attrs(core: &Core, line: &mut Vec<u8>, attrs: &[(u32, i64)]) -> Result<(), AllocError>
-    ensures { OnOk result (line.new.items ≡ line.old.items ++ spaced (map (spec.attr_word core.now) attrs.now)) }
+fn add_attrs(names: &Names<'_>, line: &mut Vec<u8>, attrs: &[(u32, i64)]) -> Result<(), AllocError>
+    ensures { OnOk result (line.new.items ≡ line.old.items ++ spaced (map (spec.attr_word (grammar_view names.now)) attrs.now)) }
 {
     for attr in attrs {
-        add_attr(line, attr_name(core, attr.0), attr.1)?;
+        add_attr(line, attr_name(names, attr.0), attr.1)?;
     }
     Ok(())
 }
@@ -222,12 +229,12 @@ struct Shown<'t> {
 
 fn node_line(
     alloc: Global,
-    core: &Core,
+    names: &Names<'_>,
     depth: u64,
     at: u64,
     node: Shown,
 ) -> Result<Vec<u8>, AllocError>
-    ensures { IfOk result (λ l. l.items ≡ spec.node_line core.now depth at node.entry.rule node.entry.size node.entry.start node.entry.end node.entry.attrs.now) }
+    ensures { IfOk result (λ l. l.items ≡ spec.node_line (grammar_view names.now) depth at node.entry.rule node.entry.size node.entry.start node.entry.end node.entry.attrs.now) }
 {
     let mut line = begun(alloc, depth)?;
     let places = [
@@ -236,8 +243,8 @@ fn node_line(
         sum(at, node.start)?,
         sum(at, node.end)?,
     ];
-    add_node(&mut line, rule_name(core, node.rule), places)?;
-    add_attrs(core, &mut line, node.attrs)?;
+    add_node(&mut line, rule_name(names, node.rule), places)?;
+    add_attrs(names, &mut line, node.attrs)?;
     line.push(b'\n')?;
     Ok(line)
 }
@@ -291,16 +298,16 @@ fn number_line(
 
 fn array_line(
     alloc: Global,
-    core: &Core,
+    names: &Names<'_>,
     depth: u64,
     sym: &Sym,
     items: &[PlainKid],
 ) -> Result<Vec<u8>, AllocError>
-    ensures { IfOk result (λ l. l.items ≡ spec.array_line core.now depth sym.now (kids_of (kid_views items.now))) }
+    ensures { IfOk result (λ l. l.items ≡ spec.array_line (grammar_view names.now) depth sym.now (kids_of (kid_views items.now))) }
 {
     let mut line = begun(alloc, depth)?;
     add(&mut line, b"for")?;
-    add(&mut line, sym_name(core, sym))?;
+    add(&mut line, sym_name(names, sym))?;
     add_number(&mut line, items.len() as u64)?;
     line.push(b'\n')?;
     Ok(line)
@@ -321,13 +328,13 @@ fn below(depth: u64) -> Result<u64, AllocError>
 #[tactic(auto, using(ipg_plain::proofs::Views::views))]
 fn kid_lines(
     alloc: Global,
-    core: &Core,
+    names: &Names<'_>,
     depth: u64,
     at: u64,
     kid: &PlainKid,
     lines: &mut Vec<Vec<u8>>,
 ) -> Result<(), AllocError>
-    ensures { OnOk result (lines_in lines.new.items ≡ lines_in lines.old.items ++ spec.kid_lines core.now depth at (kid_view kid.now)) }
+    ensures { OnOk result (lines_in lines.new.items ≡ lines_in lines.old.items ++ spec.kid_lines (grammar_view names.now) depth at (kid_view kid.now)) }
 {
     match kid {
         PlainKid::Sub {
@@ -347,8 +354,8 @@ fn kid_lines(
                 end: *end,
                 attrs: attrs.as_slice(),
             };
-            lines.push(node_line(alloc, core, depth, at, node)?)?;
-            kids_lines(alloc, core, below(depth)?, at, kids.as_slice(), lines)
+            lines.push(node_line(alloc, names, depth, at, node)?)?;
+            kids_lines(alloc, names, below(depth)?, at, kids.as_slice(), lines)
         }
         PlainKid::Token { from, to, bytes } => {
             lines.push(token_line(alloc, depth, at, (*from, *to), bytes)?)?;
@@ -370,8 +377,8 @@ fn kid_lines(
             Ok(())
         }
         PlainKid::Array { sym, items } => {
-            lines.push(array_line(alloc, core, depth, sym, items.as_slice())?)?;
-            kids_lines(alloc, core, below(depth)?, at, items.as_slice(), lines)
+            lines.push(array_line(alloc, names, depth, sym, items.as_slice())?)?;
+            kids_lines(alloc, names, below(depth)?, at, items.as_slice(), lines)
         }
     }
 }
@@ -380,23 +387,27 @@ fn kid_lines(
 #[cycle(printing)]
 fn kids_lines(
     alloc: Global,
-    core: &Core,
+    names: &Names<'_>,
     depth: u64,
     at: u64,
     kids: &[PlainKid],
     lines: &mut Vec<Vec<u8>>,
 ) -> Result<(), AllocError>
-    ensures { OnOk result (lines_in lines.new.items ≡ lines_in lines.old.items ++ spec.kids_lines core.now depth at (kids_of (kid_views kids.now))) }
+    ensures { OnOk result (lines_in lines.new.items ≡ lines_in lines.old.items ++ spec.kids_lines (grammar_view names.now) depth at (kids_of (kid_views kids.now))) }
 {
     for kid in kids {
-        kid_lines(alloc, core, depth, at, kid, lines)?;
+        kid_lines(alloc, names, depth, at, kid, lines)?;
     }
     Ok(())
 }
 
-/// The lines of a whole tree, each ended by a line feed. It recurses as deep as the tree.
-pub fn lines_of(alloc: Global, core: &Core, tree: &PlainTree) -> Result<Vec<Vec<u8>>, AllocError>
-    ensures { IfOk result (λ ls. lines_in ls.items ≡ spec.tree_lines core.now 0 0 (tree_view tree.now)) }
+/// The lines of a whole tree by the names given.
+pub(crate) fn tree_lines(
+    alloc: Global,
+    names: &Names<'_>,
+    tree: &PlainTree,
+) -> Result<Vec<Vec<u8>>, AllocError>
+    ensures { IfOk result (λ ls. lines_in ls.items ≡ spec.tree_lines (grammar_view names.now) 0 0 (tree_view tree.now)) }
 {
     let node = Shown {
         rule: tree.rule,
@@ -406,7 +417,18 @@ pub fn lines_of(alloc: Global, core: &Core, tree: &PlainTree) -> Result<Vec<Vec<
         attrs: tree.attrs.as_slice(),
     };
     let mut lines = Vec::new(alloc);
-    lines.push(node_line(alloc, core, 0, 0, node)?)?;
-    kids_lines(alloc, core, 1, 0, tree.kids.as_slice(), &mut lines)?;
+    lines.push(node_line(alloc, names, 0, 0, node)?)?;
+    kids_lines(alloc, names, 1, 0, tree.kids.as_slice(), &mut lines)?;
     Ok(lines)
+}
+
+/// The lines of a whole tree, each ended by a line feed. It recurses as deep as the tree.
+pub fn lines_of(alloc: Global, core: &Core, tree: &PlainTree) -> Result<Vec<Vec<u8>>, AllocError>
+    ensures { IfOk result (λ ls. lines_in ls.items ≡ spec.tree_lines core.now 0 0 (tree_view tree.now)) }
+{
+    let names = Names {
+        rules: core.rules(),
+        attrs: core.names(),
+    };
+    tree_lines(alloc, &names, tree)
 }

@@ -412,9 +412,9 @@ fn alts_on<'a>(
     Err(Halt::NoTree)
 }
 
-/// A rule on a part, where calls nest at most `height` deep.
+/// A rule on a part, where calls nest at most `height` deep. Nothing that a good grammar keeps is asked of the rules.
 #[cycle(walk)]
-fn rule_on<'a>(
+pub fn rule_on<'a>(
     alloc: Global,
     height: u64,
     rules: &'a [CoreRule],

@@ -2,7 +2,7 @@ use Rattle.std.proofs.Common.{◌≡◌, ◌∷◌, [], ◌++◌, ◌+◌, ◌-�
 use Rattle.std.specs.Prelude.{codes}
 use Rattle.ipg_core.specs.Lines.{kid_lines, kids_lines, node_line, array_line}
 use Rattle.ipg_core.specs.Tree.{kids_of}
-use Rattle.ipg_lines.specs.Text.{lines_in}
+use Rattle.ipg_lines.specs.Text.{grammar_view, lines_in}
 use Rattle.ipg_plain.specs.View.{kid_views}
 use Rattle.ipg_plain.proofs.Views.{view_sub, view_token, view_number, view_raw, view_array}
 use Rattle.ipg_lines.proofs.Printing.{lines_push, kids_then}
@@ -22,7 +22,7 @@ kid_lines-returns-in_ok-push-in-Raw t c =
 
 pub kid_lines-returns-in_ok-below-in-Sub : goal.kid_lines-returns-in_ok-below-in-Sub
 kid_lines-returns-in_ok-below-in-Sub t c =
-    let g = c.args.core.now in
+    let g = grammar_view c.args.names.now in
     let i = c.in-Sub in
     let size : c.saturating_sub.result ≡ i.to - i.from = search rules in
     let l = c.in_ok-node_line-in-Sub.ensures ∙ ap (λ x. node_line g c.args.depth x i.rule c.saturating_sub.result i.start i.end c.as_slice.result.now) c.in_ok-at-in-Sub.ensures
@@ -33,7 +33,7 @@ kid_lines-returns-in_ok-below-in-Sub t c =
 
 pub kid_lines-returns-in_ok-below-in-Array : goal.kid_lines-returns-in_ok-below-in-Array
 kid_lines-returns-in_ok-below-in-Array t c =
-    let g = c.args.core.now in
+    let g = grammar_view c.args.names.now in
     let l = c.in_ok-array_line-in-Array.ensures ∙ ap (λ ks. array_line g c.args.depth c.in-Array.sym.now (kids_of (kid_views ks))) c.as_slice-in-Array.ensures in
     rw (c.in-Array.is, view_array)
     (kids_then c.kids_lines-in-Array.result g (lines_in c.args.lines.now.items) _ _ _ _ _ _ c.args.at _ c.in-Array.items _

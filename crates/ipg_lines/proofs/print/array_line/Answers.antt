@@ -1,6 +1,7 @@
 use Rattle.std.proofs.Common.{◌≡◌, ◌∷◌, [], ◌∙◌, ap, sym, ◌++◌, length}
 use Rattle.std.specs.Prelude.{decimal, codes}
 use Rattle.ipg_core.specs.Lines.{line, sym_name}
+use Rattle.ipg_lines.specs.Text.{grammar_view}
 use Rattle.ipg_lines.proofs.Printing.{full_line, count_views, two_words}
 use Rattle.ipg_lines.proofs.print.array_line.Goals as goal
 
@@ -13,4 +14,4 @@ returns c =
     c.in_ok-line.ensures c.in_ok-add.ensures
     (c.in_ok-add_number.ensures ∙ ap (λ l. l ++ 32 ∷ decimal n) c.in_ok-add-2.ensures ∙ two_words c.add.new.line.items s (decimal n)) c.in_ok-push.ensures.items
     ∙ ap (λ s. line (dec ∷ codes "for" ∷ s ∷ decimal n ∷ [])) c.sym_name.ensures
-    ∙ ap (λ n. line (dec ∷ codes "for" ∷ sym_name c.args.core.now c.args.sym.now ∷ decimal n ∷ [])) (sym (count_views c.args.items.now))
+    ∙ ap (λ n. line (dec ∷ codes "for" ∷ sym_name (grammar_view c.args.names.now) c.args.sym.now ∷ decimal n ∷ [])) (sym (count_views c.args.items.now))

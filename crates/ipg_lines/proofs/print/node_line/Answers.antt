@@ -1,12 +1,13 @@
 use Rattle.std.proofs.Common.{◌∷◌, [], ◌∙◌, map}
 use Rattle.std.specs.Prelude.{decimal, codes}
 use Rattle.ipg_core.specs.Lines.{rule_name, set_word, attr_word}
+use Rattle.ipg_lines.specs.Text.{grammar_view}
 use Rattle.ipg_lines.proofs.Printing.{full_line, node_line_is}
 use Rattle.ipg_lines.proofs.print.node_line.Goals as goal
 
 pub returns : goal.returns
 returns c =
-    let g = c.args.core.now in
+    let g = grammar_view c.args.names.now in
     let n = c.args.node in
     let a = c.in_ok-sum.field-0 in
     let b = c.in_ok-sum-2.field-0 in
