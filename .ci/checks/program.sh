@@ -1,0 +1,44 @@
+#!/usr/bin/env bash
+# Runs the program on real files, and compares what it prints and its exit status.
+set -u
+cd "$(dirname "$0")/../.." || exit 1
+grammar=crates/ipg_app/data/row.ipg
+input=crates/ipg_app/data/row.bin
+tree=$'0 S 0 2 start=0 end=2\n1 tok 0 2 6162\n'
+folder=$(mktemp -d) || exit 1
+trap 'rm -rf "$folder"' EXIT
+failed=0
+
+# expect STATUS TEXT WORDS..: the program with these words ends with this status, and has printed this text.
+expect() {
+  local due="$2status $1" got
+  shift 2
+  got=$(./ipg "$@"; echo "status $?")
+  if [ "$got" != "$due" ]; then
+    printf 'program: %s\n  got %q\n  due %q\n' "$*" "$got" "$due"
+    failed=1
+  fi
+}
+
+: >"$folder/empty"
+echo 'S -> Bytes ;' >"$folder/bytes.ipg"
+truncate -s $((2 ** 30 + 1)) "$folder/long"
+
+expect 0 "$tree" parse "$grammar" "$input"
+expect 0 "$tree" parse "$grammar" /dev/stdin < <(cat "$input")
+expect 1 $'no parse\n' parse "$grammar" "$folder/empty"
+expect 2 $'refused Form\n' parse "$folder/bytes.ipg" "$input"
+expect 2 $'refused Form\n' parse "$folder/empty" "$input"
+expect 4 $'usage\n' parse
+expect 5 $'read fault\n' parse "$folder/absent" "$input"
+expect 5 $'read fault\n' parse "$folder" "$input"
+expect 5 $'read fault\n' parse "$grammar" "$folder/absent"
+expect 8 $'too large\n' parse "$grammar" "$folder/long"
+
+./ipg parse "$grammar" "$input" >/dev/full
+if [ $? -ne 6 ]; then
+  echo "program: a full device is no write fault"
+  failed=1
+fi
+[ "$failed" -eq 0 ] && echo "program: 11 runs are as they are due"
+exit "$failed"
