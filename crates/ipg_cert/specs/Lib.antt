@@ -1,6 +1,7 @@
 -- What the public contracts rest on.
 pub mod Facts
 pub mod Checks
+pub mod Words
 -- What functions inside the crate promise each other.
 pub mod Totals
 pub mod Seen

@@ -9,7 +9,9 @@ mod refutation;
 mod sum;
 #[cfg(test)]
 mod tests;
+mod text;
 mod weigh;
 
 pub use checking::check;
 pub use refutation::{Refutation, Step};
+pub use text::refutation_text;

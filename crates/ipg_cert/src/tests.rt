@@ -54,7 +54,11 @@ fn a_split_refutes_a_half(rt: HostRuntime) -> Result<(), Fail> {
     steps.push(Step::Split { var: 0, at: 3 })?;
     steps.push(combine(alloc, &[(1, 3), (2, 4)])?)?;
     steps.push(combine(alloc, &[(1, 2), (2, 4)])?)?;
-    assert!(rt; check(alloc, &f, &b, &Refutation { steps })?);
+    let r = Refutation { steps };
+    assert!(rt; check(alloc, &f, &b, &r)?);
+    assert!(rt;
+        refutation_text(alloc, &r)?.as_slice() == b"s 0 3 c 2 1 3 2 4 c 2 1 2 2 4".as_slice()
+    );
     let mut steps = List::new(alloc);
     steps.push(combine(alloc, &[(1, 2), (1, 3)])?)?;
     assert!(rt; !check(alloc, &f, &b, &Refutation { steps })?);
