@@ -6,7 +6,7 @@ cd "$(dirname "$0")/.."
 work=$(mktemp -d)
 trap 'rm -rf "$work"' EXIT
 rustc -O -o "$work/peer" bench/region/peer.rs
-ours=$(find crates/bench_region/out -maxdepth 1 -type f -perm -u+x | head -1)
+ours=crates/bench_region/out/bench_region
 
 # The least of five runs, in milliseconds.
 least() {

@@ -2,7 +2,7 @@
 # Times `count_tokens` on texts of 2^19 and 2^20 bytes, eight runs each. Run `rt run count_tokens` once before, which builds it.
 set -eu
 cd "$(dirname "$0")/.."
-ours=$(find crates/count_tokens/out -maxdepth 1 -type f -perm -u+x | head -1)
+ours=crates/count_tokens/out/count_tokens
 
 # The least of five times, in milliseconds.
 least() {
