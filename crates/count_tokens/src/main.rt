@@ -21,7 +21,7 @@ fn quoted(alloc: Global, bytes: u32) -> std::result::Result<Vec<u8>, AllocError>
 }
 
 fn count(alloc: Global, text: &[u8]) -> usize {
-    match ipg_read::tokens(alloc, text) {
+    match ipg_tokens::tokens(alloc, text) {
         Ok(found) => found.len(),
         Err(_) => 0,
     }

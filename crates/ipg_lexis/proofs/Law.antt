@@ -5,10 +5,10 @@ use Rattle.std.proofs.lemmas.Bool.{eqb-true, eq-eqb, ne_eqb}
 use Rattle.std.proofs.Math.Seq.{take-length}
 use Rattle.std.proofs.lemmas.List.{length-take-le}
 use Rattle.std.proofs.lemmas.Option.{none-some}
-use Rattle.ipg_read.specs.Lexical.{Quoted, quoted, in_class, run, is_white, is_letter, is_digit, is_hexadecimal, is_prefixed, is_pair, is_single, symbol_front, front_of_value, number_front, text_front}
-use Rattle.ipg_read.specs.declared.front.Front.{Front}
-use Rattle.ipg_read.specs.declared.class.Class.{Class}
-use Rattle.ipg_read.specs.declared.class.Class.TheVariants.{Naming, Digit, Hexadecimal}
+use Rattle.ipg_tokens.specs.Lexical.{Quoted, quoted, in_class, run, is_white, is_letter, is_digit, is_hexadecimal, is_prefixed, is_pair, is_single, symbol_front, front_of_value, number_front, text_front}
+use Rattle.ipg_tokens.specs.declared.front.Front.{Front}
+use Rattle.ipg_tokens.specs.declared.class.Class.{Class}
+use Rattle.ipg_tokens.specs.declared.class.Class.TheVariants.{Naming, Digit, Hexadecimal}
 use Rattle.ipg_lexis.specs.Forms.{all_of, is_hexadecimal_number, closes_at, is_symbol, has_form, NoneFrom, IsLongest, Taken, TakesTheLongest}
 use Rattle.ipg_lexis.proofs.Runs.{all_within, none_beyond}
 use Rattle.ipg_lexis.proofs.Texts.{by_order, cut, cut_yes, cut_no, quoted_cut}

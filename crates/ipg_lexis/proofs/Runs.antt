@@ -1,7 +1,7 @@
 -- Bytes of a class, as many as there are and no more.
 use Rattle.std.proofs.Common.{◌≡◌, ℕ, zero, suc, ◌+◌, ◌≤◌, ◌<◌, Bool, true, false, ◌&&◌, List, [], ◌∷◌, take, length, cond, refl, arith}
-use Rattle.ipg_read.specs.Lexical.{in_class, run}
-use Rattle.ipg_read.specs.declared.class.Class.{Class}
+use Rattle.ipg_tokens.specs.Lexical.{in_class, run}
+use Rattle.ipg_tokens.specs.declared.class.Class.{Class}
 use Rattle.ipg_lexis.specs.Forms.{all_of}
 
 within : (c : Bool) (n m : ℕ) (r : Bool) → suc m ≤ cond c (n + 1) 0 → (m ≤ n → r ≡ true) → (c && r) ≡ true

@@ -2,9 +2,9 @@
 use Rattle.std.proofs.Common.{◌≡◌, ℕ, zero, suc, ◌+◌, ◌-◌, ◌*◌, ◌≤◌, ◌<◌, Bool, true, false, ◌&&◌, ◌||◌, ◌==◌, nat_le, List, [], ◌∷◌, ◌++◌, Option, Some, None, take, length, cond, refl, ap, ◌∙◌, sym, arith}
 use Rattle.std.specs.Prelude.{if◌then◌else◌}
 use Rattle.std.proofs.lemmas.Bool.{le-leb, lt-leb, leb-true, leb-false}
-use Rattle.ipg_read.specs.Lexical.{Quoted, quoted, item, escape, with_item, after_bytes, is_hexadecimal, is_plain, digit_value}
-use Rattle.ipg_read.specs.declared.string.Item.{Item}
-use Rattle.ipg_read.specs.declared.string.Item.TheVariants.{End, Byte, Bad}
+use Rattle.ipg_tokens.specs.Lexical.{Quoted, quoted, item, escape, with_item, after_bytes, is_hexadecimal, is_plain, digit_value}
+use Rattle.ipg_tokens.specs.declared.string.Item.{Item}
+use Rattle.ipg_tokens.specs.declared.string.Item.TheVariants.{End, Byte, Bad}
 
 -- an item that takes at most a byte and those that are left
 abbrev kept : Item → ℕ → Item

@@ -1,10 +1,10 @@
 -- The forms of tokens, each said of all of its bytes, and the law that the longest is taken.
 use Rattle.std.specs.Prelude.{◌≡◌, ℕ, ◌≤◌, ◌<◌, Bool, true, false, ◌&&◌, ◌||◌, ◌==◌, List, [], ◌∷◌, take, length, Option, Some, None, if◌then◌else◌}
-use Rattle.ipg_read.specs.Lexical.{in_class, is_letter, is_digit, is_pair, is_single, Quoted, quoted, front_of}
-use Rattle.ipg_read.specs.declared.front.Front.{Front}
-use Rattle.ipg_read.specs.declared.front.Front.TheVariants.{Nothing, Blank, Large, Token as Begins}
-use Rattle.ipg_read.specs.declared.class.Class.{Class}
-use Rattle.ipg_read.specs.declared.class.Class.TheVariants.{Naming, Digit, Hexadecimal}
+use Rattle.ipg_tokens.specs.Lexical.{in_class, is_letter, is_digit, is_pair, is_single, Quoted, quoted, front_of}
+use Rattle.ipg_tokens.specs.declared.front.Front.{Front}
+use Rattle.ipg_tokens.specs.declared.front.Front.TheVariants.{Nothing, Blank, Large, Token as Begins}
+use Rattle.ipg_tokens.specs.declared.class.Class.{Class}
+use Rattle.ipg_tokens.specs.declared.class.Class.TheVariants.{Naming, Digit, Hexadecimal}
 
 abbrev pub all_of : Class → List ℕ → Bool
 all_of class [] = true

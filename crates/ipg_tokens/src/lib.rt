@@ -1,0 +1,19 @@
+//! The tokens of a grammar's text.
+#![tactic(auto)]
+
+mod class;
+mod fault;
+mod front;
+mod name;
+mod number;
+mod scan;
+mod string;
+mod symbol;
+#[cfg(test)]
+mod tests;
+mod token;
+
+pub use fault::{ReadFault, Which};
+pub use ipg_ast::TokenKind;
+pub use scan::tokens;
+pub use token::Token;
