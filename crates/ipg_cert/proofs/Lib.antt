@@ -6,3 +6,4 @@ pub mod TotalsLemmas
 pub mod SeenLemmas
 pub mod Absurd
 pub mod GoalsLemmas
+pub mod Reading

@@ -5,13 +5,16 @@ mod checking;
 mod facts;
 mod goal;
 mod known;
+mod pos;
 mod refutation;
 mod sum;
 #[cfg(test)]
 mod tests;
 mod text;
 mod weigh;
+mod words;
 
 pub use checking::check;
 pub use refutation::{Refutation, Step};
 pub use text::refutation_text;
+pub use words::WordFault;
