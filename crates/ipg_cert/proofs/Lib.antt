@@ -6,4 +6,8 @@ pub mod TotalsLemmas
 pub mod SeenLemmas
 pub mod Absurd
 pub mod GoalsLemmas
-pub mod Reading
+-- the words of refutations
+pub mod Spelled
+pub mod Begun
+pub mod Runs
+pub mod Read

@@ -9,6 +9,8 @@ use Rattle.ipg_cert.specs.declared.pos.Turn.{Turn}
 use Rattle.ipg_cert.specs.declared.pos.Turn.TheVariants.{Stuck, To, End}
 use Rattle.ipg_cert.specs.declared.refutation.Step.{Step}
 use Rattle.ipg_cert.specs.declared.refutation.Step.TheVariants.{Combine, Split, Either}
+use Rattle.ipg_cert.specs.declared.words.WordFault.{WordFault}
+use Rattle.ipg_cert.specs.declared.words.WordFault.TheVariants.{At as FaultAt, Memory}
 use Rattle.ipg_cert.specs.Texts.{parts_of}
 
 -- ---- numbers
@@ -173,3 +175,13 @@ next (Some st) n rest = or_on st (n + 1) (rest st)
 abbrev pub read_from : State → ℕ → List ℕ → Found
 read_from st n [] = Err n
 read_from st n (b ∷ bs) = next (step st b) n (λ on. read_from on (n + 1) bs)
+
+-- ---- faults
+
+abbrev pub IsAnswer : Found → WordFault → Type 0
+IsAnswer o (FaultAt n) = o ≡ Err n
+IsAnswer o Memory = Unit {0}
+
+abbrev pub IsWithin : ℕ → WordFault → Type 0
+IsWithin most (FaultAt n) = n ≤ most
+IsWithin most Memory = Unit {0}

@@ -1,8 +1,10 @@
 -- Refutations as texts: one whole tree of steps within their ranges, its words and a line feed.
-use Rattle.std.specs.Prelude.{◌≡◌, ℕ, zero, suc, ◌+◌, ◌^◌, ◌≤◌, ◌<◌, List, [], ◌∷◌, ◌++◌, length, take, ℤ, pos, negsuc}
+use Rattle.std.specs.Prelude.{◌≡◌, ℕ, zero, suc, ◌+◌, ◌^◌, ◌≤◌, ◌<◌, List, [], ◌∷◌, ◌++◌, length, take, drop, min, ◌-◌, ℤ, pos, negsuc}
 use Rattle.std.specs.List.{AllByRecursion}
 use Rattle.ipg_cert.specs.declared.refutation.Step.{Step}
 use Rattle.ipg_cert.specs.declared.refutation.Step.TheVariants.{Combine, Split, Either}
+use Rattle.ipg_cert.specs.declared.words.WordFault.{WordFault}
+use Rattle.ipg_cert.specs.declared.words.WordFault.TheVariants.{At, Memory}
 use Rattle.ipg_cert.specs.Words.{words_of}
 
 -- how many trees follow a step
@@ -51,3 +53,19 @@ pub record IsFirstFault (bytes : List ℕ) (n : ℕ) : Type 0 where
   pub within : n ≤ length bytes
   pub before : Begins (take n bytes)
   pub there : n < length bytes → ¬ GoesOn (take (n + 1) bytes)
+
+-- from a place of the text to another stands the text of the steps
+pub record IsTextAt (text : List ℕ) (from : ℕ) (steps : List Step) (to : ℕ) : Type 0 where
+  pub order : from ≤ to
+  pub within : to ≤ length text
+  pub is : IsTextOf steps (take (to - from) (drop from text))
+
+-- from a place of the text on, the place of the first fault
+pub record IsFaultFrom (text : List ℕ) (from place : ℕ) : Type 0 where
+  pub taken : ℕ
+  pub is : IsFirstFault (drop from text) taken
+  pub place_is : place ≡ min from (length text) + taken
+
+abbrev pub IsFault : List ℕ → ℕ → WordFault → Type 0
+IsFault text from (At place) = IsFaultFrom text from place
+IsFault text from Memory = Unit {0}

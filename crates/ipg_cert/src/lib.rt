@@ -17,4 +17,4 @@ mod words;
 pub use checking::check;
 pub use refutation::{Refutation, Step};
 pub use text::refutation_text;
-pub use words::WordFault;
+pub use words::{WordFault, refutation_read};

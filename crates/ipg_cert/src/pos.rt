@@ -68,13 +68,7 @@ fn limit_of(need: Need, negative: bool) -> u64
     ensures { result ≡ limit need negative }
 {
     match need {
-        Need::At { .. } => {
-            if negative {
-                1 << 63
-            } else {
-                (1 << 63) - 1
-            }
-        }
+        Need::At { .. } => { if negative { 1 << 63 } else { (1 << 63) - 1 } }
         _ => u64::MAX,
     }
 }

@@ -82,3 +82,67 @@ fn an_any_is_refuted_by_cases(rt: HostRuntime) -> Result<(), Fail> {
     assert!(rt; !check(alloc, &f, &b, &Refutation { steps })?);
     Ok(())
 }
+
+/// Where the words from `at` on are at fault; None where they are read.
+fn fault_at(alloc: Global, text: &[u8], at: usize) -> Option<u64> {
+    match refutation_read(alloc, text, at) {
+        Err(WordFault::At(place)) => Some(place),
+        _ => None,
+    }
+}
+
+#[test]
+fn words_are_read_back(rt: HostRuntime) -> Result<(), Fail> {
+    let alloc = rt.alloc();
+    let texts: [&[u8]; 5] = [
+        b"s 0 3 c 2 1 3 2 4 c 2 1 2 2 4\n",
+        b"e 2 2 c 2 1 0 1 3 c 2 1 1 1 3\n",
+        b"s 18446744073709551615 -9223372036854775808 c 1 0 0 c 1 1 1\n",
+        b"s 7 9223372036854775807 e 0 1 c 1 1 1 c 1 1 1\n",
+        b"c 1 1099511627777 0\n",
+    ];
+    for text in texts {
+        let (r, next) = refutation_read(alloc, text, 0)?;
+        assert_eq!(rt; next, text.len());
+        let mut again = refutation_text(alloc, &r)?;
+        again.push(b'\n')?;
+        assert!(rt; again.as_slice() == text);
+    }
+    Ok(())
+}
+
+#[test]
+fn words_are_read_from_a_place_on(rt: HostRuntime) -> Result<(), Fail> {
+    let text = b"1 2 c 1 1 1\nrest";
+    let (r, next) = refutation_read(rt.alloc(), text, 4)?;
+    assert_eq!(rt; next, 12);
+    assert_eq!(rt; r.steps.len(), 1);
+    assert_eq!(rt; fault_at(rt.alloc(), text, 12), Some(12));
+    assert_eq!(rt; fault_at(rt.alloc(), text, 99), Some(16));
+    Ok(())
+}
+
+#[test]
+fn faults_of_words_have_their_places(rt: HostRuntime) {
+    let alloc = rt.alloc();
+    let cases: [(&[u8], u64); 15] = [
+        (b"x", 0),
+        (b"", 0),
+        (b"c +1 1 1\n", 2),
+        (b"c 01 1 1\n", 2),
+        (b"c 0\n", 2),
+        (b"s 01 2", 3),
+        (b"s 0 -0", 5),
+        (b"s -1 0", 2),
+        (b"s  0 0", 2),
+        (b"c 1 1 1", 7),
+        (b"c 1 1 1 \n", 7),
+        (b"c 2 1 1\n", 7),
+        (b"c 1 18446744073709551616 0\n", 23),
+        (b"s 0 9223372036854775808", 22),
+        (b"e 0 0", 4),
+    ];
+    for (text, place) in cases {
+        assert_eq!(rt; fault_at(alloc, text, 0), Some(place), "{text:?}");
+    }
+}

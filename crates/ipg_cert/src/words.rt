@@ -1,10 +1,10 @@
 //! Reads the words of a refutation.
-ghost use Rattle.std.specs.Prelude.{◌≡◌, ℕ, ◌+◌, ◌-◌, ◌*◌, ◌^◌, ◌≤◌, ◌<◌, ◌++◌, [], ◌∷◌, length, take, drop, min, Some, None, Ok, Err, ◌⊎◌, IfOk, MatchResult, if◌then◌else◌};
-ghost use Rattle.ipg_cert.specs.Texts.{parts_of, IsTextOf, IsFirstFault};
-ghost use Rattle.ipg_cert.specs.Reader.{limit, signed, start, spaced_to, parted, with_step, with_entry, entered, finished, step, has_ended, read_from, PosWithin};
+ghost use Rattle.std.specs.Prelude.{◌≡◌, ℕ, ◌+◌, ◌-◌, ◌*◌, ◌^◌, ◌≤◌, ◌<◌, ◌++◌, [], ◌∷◌, length, take, drop, min, Some, None, Ok, Err, List, IfOk, MatchResult, if◌then◌else◌};
+ghost use Rattle.ipg_cert.specs.Texts.{parts_of, IsTextOf, IsTextAt, IsFault};
+ghost use Rattle.ipg_cert.specs.Reader.{limit, signed, start, spaced_to, parted, with_step, with_entry, entered, finished, step, has_ended, read_from, PosWithin, IsAnswer, IsWithin};
 ghost use Rattle.ipg_cert.specs.Reading.{seen};
-
-ghost use Rattle.ipg_cert.specs.declared.words.WordFault.TheVariants.{Memory, At};
+ghost use Rattle.ipg_cert.specs.declared.refutation.Step.{Step};
+ghost use Rattle.ipg_cert.specs.declared.words.WordFault.TheVariants.{Memory};
 
 use crate::pos::{Need, Number, Pos, Turn, turn_at};
 use crate::refutation::{Refutation, Step};
@@ -124,7 +124,12 @@ impl Reader {
             let entries = mem::replace(&mut self.entries, Vec::new(self.alloc));
             self.close(Step::Combine(List::from_vec(entries)), b)
         } else {
-            Ok(self.space_to(Need::Weight { left: left.saturating_sub(1) }, b))
+            Ok(self.space_to(
+                Need::Weight {
+                    left: left.saturating_sub(1),
+                },
+                b,
+            ))
         }
     }
 
@@ -183,7 +188,8 @@ impl Reader {
 
 /// The steps at the front of these bytes, and how many bytes they and their line feed take.
 fn read(alloc: Global, bytes: &[u8]) -> Result<(Vec<Step>, usize), WordFault>
-    ensures { MatchResult result (λ found. read_from start 0 bytes.now ≡ Ok (found.0.items, found.1)) (λ fault. (fault ≡ Memory) ⊎ ((n : ℕ) × (n ≤ length bytes.now) × (read_from start 0 bytes.now ≡ Err n) × (fault ≡ At n))) }
+    ensures is { MatchResult result (λ found. read_from start 0 bytes.now ≡ Ok (found.0.items, found.1)) (λ fault. IsAnswer (read_from start 0 bytes.now) fault) }
+    ensures within { MatchResult result (λ found. found.1 ≤ length bytes.now) (λ fault. IsWithin (length bytes.now) fault) }
 {
     let mut reader = Reader::new(alloc);
     let mut next = 0;
@@ -197,4 +203,34 @@ fn read(alloc: Global, bytes: &[u8]) -> Result<(Vec<Step>, usize), WordFault>
         }
     }
     Err(WordFault::At(next as u64))
+}
+
+fn tail(text: &[u8], from: usize) -> &[u8]
+    requires { from ≤ length text.now }
+    ensures { result.now ≡ drop from text.now }
+{
+    &text[from..]
+}
+
+/// The refutation whose words and line feed stand in `text` from byte `at` on, and the byte behind them.
+///
+/// # Errors
+/// `At` is the first byte that no refutation goes on with, or the text's length where it ends too early.
+pub fn refutation_read(
+    alloc: Global,
+    text: &[u8],
+    at: usize,
+) -> Result<(Refutation, usize), WordFault>
+    ensures is { MatchResult result (λ found. IsTextAt text.now at found.0.steps found.1) (λ fault. IsFault text.now at fault) }
+    ensures back { (steps : List Step) (words rest : List ℕ) → IsTextOf steps words → drop at text.now ≡ words ++ rest → MatchResult result (λ found. (found.0.steps ≡ steps) × (found.1 ≡ at + length words)) (λ fault. fault ≡ Memory) }
+{
+    let from = at.min(text.len());
+    match read(alloc, tail(text, from)) {
+        Ok((steps, taken)) => {
+            let steps = List::from_vec(steps);
+            Ok((Refutation { steps }, from + taken))
+        }
+        Err(WordFault::At(taken)) => Err(WordFault::At(from as u64 + taken)),
+        Err(WordFault::Memory) => Err(WordFault::Memory),
+    }
 }
