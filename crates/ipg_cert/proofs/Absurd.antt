@@ -1,5 +1,5 @@
 -- The totals are all 0 exactly where no variable of the sum is left.
-use Rattle.std.proofs.Common.{◌≡◌, ℕ, zero, suc, ◌≤◌, ◌^◌, Bool, true, false, ◌&&◌, nat_le, ℤ, pos, List, [], ◌∷◌, length, subst, refl, sym, ◌∙◌, ap, arith, inl, inr}
+use Rattle.std.proofs.Common.{◌≡◌, ℕ, zero, suc, ◌≤◌, ◌^◌, Bool, true, false, ◌&&◌, nat_le, ℤ, pos, List, [], ◌∷◌, length, refl, sym, ◌∙◌, ap, inl, inr}
 use Rattle.std.specs.Prelude.{Option, None, Some, int_lt}
 use Rattle.std.specs.List.{list_all}
 use Rattle.std.specs.Ordering.{int_eq}
@@ -9,7 +9,7 @@ use Rattle.ipg_lin.specs.Form.{Form}
 use Rattle.ipg_cert.specs.Facts.{Fact}
 use Rattle.ipg_cert.specs.Checks.{coefficient, weighted_sum, is_absurd, combines}
 use Rattle.ipg_cert.specs.Totals.{total_at}
-use Rattle.ipg_cert.specs.Seen.{AreZero, StandFor, Sums}
+use Rattle.ipg_cert.specs.Seen.{AreZero, Sums}
 use Rattle.ipg_cert.proofs.Sums.{both_true, zero_or_absent}
 
 -- every total is 0, as the code tests it

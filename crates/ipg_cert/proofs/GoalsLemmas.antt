@@ -1,16 +1,15 @@
 -- Goals that a step opens, and the facts that stay for those below them.
-use Rattle.std.proofs.Common.{◌≡◌, ℕ, zero, suc, ◌+◌, ◌<◌, ◌≤◌, Bool, true, false, ◌&&◌, nat_eq, List, [], ◌∷◌, ◌++◌, map, take, drop, length, get_or, reverse, refl, sym, ◌∙◌, ap, subst, arith, eq-eqb, length-append}
+use Rattle.std.proofs.Common.{◌≡◌, ℕ, ◌+◌, ◌<◌, ◌≤◌, Bool, true, false, ◌&&◌, List, [], ◌∷◌, ◌++◌, map, take, drop, length, get_or, reverse, refl, sym, ◌∙◌, ap, subst, arith, eq-eqb, length-append}
 use Rattle.std.specs.Prelude.{Option, None, Some}
 use Rattle.std.proofs.lemmas.List.{drop_more, take_all, take-take, take-append-le, reverse-append, map-append, length-take-le, length-reverse}
 use Rattle.ipg_lin.specs.declared.formula.Formula.{Formula}
 use Rattle.ipg_cert.specs.Facts.{Fact, AtMost, Choice, facts_of}
 use Rattle.ipg_cert.specs.Checks.{cases_of, is_choice, members_in, refutes}
-use Rattle.ipg_cert.specs.Seen.{seen, all_seen}
+use Rattle.ipg_cert.specs.Seen.{all_seen}
 use Rattle.ipg_cert.specs.Goals.{facts_at, added_facts, open_goals, IsStack, AreOpen, IsCase, AreCases, OpensEach, choice_in, Enters, Nexts}
 use Rattle.ipg_cert.specs.declared.known.Known.{Known}
 use Rattle.ipg_cert.specs.declared.goal.Goal.{Goal}
 use Rattle.ipg_cert.specs.declared.refutation.Step.{Step}
-use Rattle.ipg_cert.specs.declared.refutation.Step.TheVariants.{Either}
 
 reverse_push : (goals : List Goal) (goal : Goal) → reverse (goals ++ goal ∷ []) ≡ goal ∷ reverse goals
 reverse_push goals goal = reverse-append goals (goal ∷ [])

@@ -1,13 +1,13 @@
 -- The facts at the root hold where the assignment lies in the box and the formula holds.
-use Rattle.std.proofs.Common.{◌≡◌, ℕ, zero, suc, ◌+◌, ◌≤◌, Bool, true, ◌&&◌, ℤ, pos, negsuc, ◌+ℤ◌, ◌*ℤ◌, neg_ℤ, length, List, [], ◌∷◌, ◌++◌, map, refl, sym, ◌∙◌, ap, subst, arith}
-use Rattle.std.specs.Prelude.{Option, None, Some, slice_get, int_le, ◌≤ℤ◌}
+use Rattle.std.proofs.Common.{◌≡◌, ℕ, suc, ◌+◌, true, ◌&&◌, ℤ, pos, negsuc, ◌+ℤ◌, ◌*ℤ◌, neg_ℤ, length, List, [], ◌∷◌, refl, ◌∙◌, ap, subst, arith}
+use Rattle.std.specs.Prelude.{Some, slice_get, int_le, ◌≤ℤ◌}
 use Rattle.std.proofs.lemmas.Int.{ints}
-use borrow.Author.Differences.{up, down, product_is}
+use borrow.Author.Differences.{product_is}
 use Rattle.ipg_lin.specs.Form.{Assignment}
-use Rattle.ipg_lin.specs.Formula.{holds_at, LiesIn, Solvable}
+use Rattle.ipg_lin.specs.Formula.{Solvable}
 use Rattle.ipg_lin.specs.declared.formula.Formula.{Formula}
 use Rattle.ipg_lin.specs.declared.formula.Boxed.{Boxed}
-use Rattle.ipg_cert.specs.Facts.{Fact, at_least, at_most, bound_facts, facts_of}
+use Rattle.ipg_cert.specs.Facts.{bound_facts, facts_of}
 use Rattle.ipg_cert.specs.Checks.{root_facts, checks}
 use Rattle.ipg_cert.specs.declared.refutation.Refutation.{Refutation}
 use Rattle.ipg_cert.proofs.Told.{all_hold, all_hold-append, is_told}

@@ -1,16 +1,16 @@
 -- Forms that were added, from what the parts of the code ensure.
-use Rattle.std.proofs.Common.{◌≡◌, ℕ, ◌+◌, ◌*◌, ◌^◌, ◌<◌, ◌≤◌, Bool, true, false, cond, ◌&&◌, nat_eq, nat_le, ℤ, pos, ◌+ℤ◌, ◌*ℤ◌, List, [], ◌∷◌, ◌++◌, map, length, get_or, drop, subst, refl, sym, ◌∙◌, ap, arith}
+use Rattle.std.proofs.Common.{◌≡◌, ℕ, ◌+◌, ◌*◌, ◌^◌, ◌<◌, ◌≤◌, true, false, cond, ◌&&◌, nat_eq, nat_le, ℤ, pos, ◌+ℤ◌, ◌*ℤ◌, List, [], ◌∷◌, ◌++◌, map, length, get_or, drop, subst, refl, sym, ◌∙◌, ap, arith}
 use Rattle.std.specs.Prelude.{Option, None, Some, option_and_then}
 use Rattle.std.specs.Int.RustNames.{unsigned_abs}
 use Rattle.std.proofs.lemmas.List.{drop_more}
 use Rattle.std.proofs.lemmas.Int.{ints}
 use borrow.Author.Tests.{leb-true}
-use borrow.Author.Differences.{up, down, same_in, product_is}
+use borrow.Author.Differences.{same_in, product_is}
 use Rattle.ipg_lin.specs.Form.{Form, are_coefficients, rises, in_rule}
 use Rattle.ipg_cert.specs.Facts.{Fact}
-use Rattle.ipg_cert.specs.Checks.{coefficient, plus_times, zero_form, form_of_entry, sum_from, weighted_sum}
-use Rattle.ipg_cert.specs.Totals.{total_at, AddsTerms, AreWithin}
-use Rattle.ipg_cert.specs.Seen.{Added, Weighs, AreZero, StandFor, Sums, Progress}
+use Rattle.ipg_cert.specs.Checks.{coefficient, plus_times, zero_form, form_of_entry, sum_from}
+use Rattle.ipg_cert.specs.Totals.{AddsTerms}
+use Rattle.ipg_cert.specs.Seen.{Added, Weighs, AreZero, StandFor, Progress}
 use Rattle.ipg_cert.proofs.Sums.{both_true, plus_times_right}
 use Rattle.ipg_cert.proofs.TotalsLemmas.{grown, abs_add}
 

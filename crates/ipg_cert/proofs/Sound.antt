@@ -1,11 +1,11 @@
 -- A refutation that checks leaves no assignment: under each, some fact of each list fails.
-use Rattle.std.proofs.Common.{◌≡◌, ℕ, zero, suc, ◌+◌, ◌*◌, ◌^◌, ◌≤◌, Bool, true, false, cond, ◌&&◌, ◌||◌, nat_lt, nat_le, nat_eq, ℤ, pos, negsuc, ◌+ℤ◌, ◌*ℤ◌, neg_ℤ, List, [], ◌∷◌, ◌++◌, map, length, refl, sym, ◌∙◌, ap, subst, arith}
+use Rattle.std.proofs.Common.{◌≡◌, ℕ, zero, suc, ◌+◌, ◌^◌, ◌≤◌, true, false, cond, ◌&&◌, ◌||◌, nat_lt, nat_le, ℤ, pos, negsuc, ◌+ℤ◌, ◌*ℤ◌, neg_ℤ, List, [], ◌∷◌, ◌++◌, map, refl, sym, ◌∙◌, ap, subst, arith}
 use Rattle.std.specs.Prelude.{Option, None, Some, slice_get, option_and_then, int_le, int_lt}
 use Rattle.std.proofs.Math.Nat.{mul-le-mul_left}
 use Rattle.std.proofs.lemmas.Int.{ints}
 use borrow.Author.Differences.{up, down, product_is}
 use Rattle.ipg_lin.specs.Form.{Form, Assignment, sum_at, value_at}
-use Rattle.ipg_lin.specs.Formula.{holds_at, every, some}
+use Rattle.ipg_lin.specs.Formula.{holds_at, some}
 use Rattle.ipg_lin.specs.declared.formula.Formula.{Formula}
 use Rattle.ipg_cert.specs.Facts.{Fact, AtMost, Choice, holds_fact, facts_of, at_least, at_most}
 use Rattle.ipg_cert.specs.Checks.{atom_in, members_in, is_choice, plus_times, form_of_entry, zero_form, sum_from, weighted_sum, is_absurd, combines, cases_of, refutes}

@@ -1,11 +1,10 @@
 -- The words that a reader has taken, and one byte more.
-use Rattle.std.proofs.Common.{◌≡◌, ℕ, zero, suc, ◌+◌, ◌-◌, ◌*◌, ◌/◌, ◌%◌, ◌^◌, ◌<◌, ◌≤◌, ◌⊎◌, Bool, true, false, not, ◌&&◌, ◌||◌, nat_le, ◌==◌, List, [], ◌∷◌, ◌++◌, take, drop, length, replicate, Option, Some, None, Result, Ok, Err, refl, ap, ◌∙◌, sym, subst, arith, inl, inr, pos_of_ne-zero, append_assoc, append-nil, length-append, decimal, flat_map, true≢false, if◌then◌else◌, ℤ, pos, negsuc, neg_ℤ}
+use Rattle.std.proofs.Common.{◌≡◌, ℕ, zero, suc, ◌+◌, ◌-◌, ◌*◌, ◌/◌, ◌%◌, ◌^◌, ◌<◌, ◌≤◌, ◌⊎◌, Bool, true, false, not, ◌&&◌, ◌||◌, nat_le, ◌==◌, List, [], ◌∷◌, ◌++◌, length, replicate, Option, Some, None, refl, ap, ◌∙◌, sym, subst, arith, inl, inr, pos_of_ne-zero, append_assoc, append-nil, length-append, decimal, flat_map, true≢false, if◌then◌else◌}
 use Rattle.std.specs.Fmt.{signed_decimal}
 use Rattle.std.specs.List.{AllByRecursion}
-use Rattle.std.proofs.lemmas.Bool.{eqb-true, eqb-false, leb-true, le-leb, eq-eqb, ne_eqb}
+use Rattle.std.proofs.lemmas.Bool.{eqb-true, eqb-false, leb-true}
 use Rattle.std.proofs.lemmas.Bool.Decides.{nat_tests}
-use Rattle.std.proofs.lemmas.Option.{none-some, same_Some}
-use Rattle.std.proofs.lemmas.Fmt.{decimal_digit, decimal_step, decimal_by_steps}
+use Rattle.std.proofs.lemmas.Fmt.{decimal_digit, decimal_step}
 use Rattle.ipg_cert.specs.declared.pos.Need.{Need}
 use Rattle.ipg_cert.specs.declared.pos.Need.TheVariants.{Count, Weight, Fact, Var, At, Choice, Parts}
 use Rattle.ipg_cert.specs.declared.pos.Number.{Number}
@@ -15,9 +14,9 @@ use Rattle.ipg_cert.specs.declared.pos.Turn.{Turn}
 use Rattle.ipg_cert.specs.declared.pos.Turn.TheVariants.{Stuck, To, End}
 use Rattle.ipg_cert.specs.declared.refutation.Step.{Step}
 use Rattle.ipg_cert.specs.declared.refutation.Step.TheVariants.{Combine, Split, Either}
-use Rattle.ipg_cert.specs.Words.{number_word, entry_words, step_words, spaced, words_of}
-use Rattle.ipg_cert.specs.Texts.{parts_of, AreTrees, IsWord, IsSignedWord, IsEntry, IsInRange, IsTextOf, Begins, GoesOn, IsFirstFault}
-use Rattle.ipg_cert.specs.Reader.{limit, may_be_zero, may_be_negative, is_digit, digit_value, signed, begun, grown, turn_at, State, start, at_pos, spaced_to, parted, with_step, with_entry, entered, finished, taken, step, has_ended, Found, or_on, next, read_from}
+use Rattle.ipg_cert.specs.Words.{entry_words, step_words, spaced, words_of}
+use Rattle.ipg_cert.specs.Texts.{parts_of, AreTrees, IsWord, IsSignedWord, IsEntry, IsInRange, IsTextOf}
+use Rattle.ipg_cert.specs.Reader.{limit, may_be_zero, may_be_negative, is_digit, digit_value, signed, begun, grown, turn_at, State, spaced_to, parted, with_entry, entered, finished, taken, step, has_ended}
 
 -- ---- words
 

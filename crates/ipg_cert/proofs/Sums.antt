@@ -1,11 +1,10 @@
 -- A sum of facts: what it comes to under an assignment.
-use Rattle.std.proofs.Common.{◌≡◌, ℕ, zero, suc, ◌+◌, ◌*◌, ◌<◌, ◌≤◌, Bool, eqb-true, eq-eqb, ◌⊎◌, inl, inr, true, false, cond, ◌&&◌, nat_eq, nat_lt, nat_le, ℤ, pos, negsuc, ◌+ℤ◌, ◌*ℤ◌, neg_ℤ, List, [], ◌∷◌, ◌++◌, map, length, refl, sym, ◌∙◌, ap, subst, arith}
-use Rattle.std.specs.Prelude.{◌≤ℤ◌, ◌<ℤ◌}
+use Rattle.std.proofs.Common.{◌≡◌, ℕ, zero, suc, ◌+◌, ◌*◌, ◌≤◌, Bool, eqb-true, eq-eqb, ◌⊎◌, inl, inr, true, false, cond, ◌&&◌, nat_eq, ℤ, pos, ◌+ℤ◌, ◌*ℤ◌, List, [], ◌∷◌, ◌++◌, map, length, refl, sym, ◌∙◌, ap, subst, arith}
 use Rattle.std.specs.List.{list_all}
 use Rattle.std.specs.Ordering.{int_eq}
 use Rattle.std.proofs.lemmas.Bool.Decides.{Decides-int_eq}
 use Rattle.std.proofs.lemmas.Int.{ints}
-use borrow.Author.Differences.{up, down, same_in, product_is, sum_is_lem}
+use borrow.Author.Differences.{up, down, same_in, product_is}
 use Rattle.ipg_lin.specs.Form.{Form, Assignment, sum_at, value_at}
 use Rattle.ipg_cert.specs.Checks.{coefficient, plus_times}
 

@@ -1,8 +1,8 @@
 -- The facts that a refutation starts from: the bounds of each variable, and the members of the formula.
-use Rattle.std.specs.Prelude.{ℕ, ◌+◌, Bool, true, ◌&&◌, ℤ, pos, negsuc, ◌+ℤ◌, neg_ℤ, int_le, List, [], ◌∷◌, ◌++◌, map}
+use Rattle.std.specs.Prelude.{ℕ, ◌+◌, Bool, ℤ, pos, negsuc, neg_ℤ, int_le, List, [], ◌∷◌, map}
 use Rattle.std.specs.List.{flat_map}
 use Rattle.ipg_lin.specs.Form.{Form, Assignment, value_at}
-use Rattle.ipg_lin.specs.Formula.{holds_at, every, some}
+use Rattle.ipg_lin.specs.Formula.{holds_at, some}
 use Rattle.ipg_lin.specs.declared.formula.Formula.{Formula}
 use Rattle.ipg_lin.specs.declared.formula.Formula.TheVariants as formula
 use Rattle.ipg_lin.specs.declared.formula.Formula.TheOpen.{Formula-F}

@@ -1,9 +1,8 @@
 -- The open goals as they lie in memory: each is a front of the facts, and what the case adds.
-use Rattle.std.specs.Prelude.{◌≡◌, ℕ, ◌+◌, ◌≤◌, Bool, true, false, ◌&&◌, List, [], ◌∷◌, ◌++◌, map, take, drop, length, reverse, Option, None, Some}
-use Rattle.std.specs.List.{flat_map}
+use Rattle.std.specs.Prelude.{◌≡◌, ℕ, ◌≤◌, Bool, true, false, ◌&&◌, List, [], ◌∷◌, ◌++◌, map, take, length, reverse, Option, None, Some}
 use Rattle.ipg_lin.specs.declared.formula.Formula.{Formula}
 use Rattle.ipg_cert.specs.Facts.{Fact, AtMost, Choice, facts_of}
-use Rattle.ipg_cert.specs.Checks.{refutes, cases_of}
+use Rattle.ipg_cert.specs.Checks.{refutes}
 use Rattle.ipg_cert.specs.Seen.{seen, all_seen}
 use Rattle.ipg_cert.specs.declared.refutation.Step.{Step}
 use Rattle.ipg_cert.specs.declared.known.Known.{Known}

@@ -1,7 +1,6 @@
 -- A sum of forms as the checker keeps it: what each variable is taken times so far, and the constant.
-use Rattle.std.specs.Prelude.{◌≡◌, ℕ, ◌+◌, ◌*◌, ◌^◌, ◌≤◌, Bool, true, false, if◌then◌else◌, nat_eq, ℤ, pos, ◌+ℤ◌, ◌*ℤ◌, List, [], ◌∷◌, length, slice_index_or, Option, None, Some, MatchOption}
+use Rattle.std.specs.Prelude.{◌≡◌, ℕ, ◌≤◌, if◌then◌else◌, nat_eq, ℤ, pos, ◌+ℤ◌, ◌*ℤ◌, List, slice_index_or}
 use Rattle.std.specs.Int.RustNames.{unsigned_abs}
-use Rattle.ipg_lin.specs.Form.{Form}
 use Rattle.ipg_cert.specs.Checks.{coefficient}
 
 -- what the variable is taken times: 0 behind the last total

@@ -1,4 +1,4 @@
-use Rattle.std.proofs.Common.{◌≡◌, length, arith}
+use Rattle.std.proofs.Common.{length, arith}
 use Rattle.std.specs.Prelude.{slice_get}
 use Rattle.ipg_cert.specs.Seen.{all_seen}
 use Rattle.ipg_cert.proofs.GoalsLemmas.{either_steps, either_stack}

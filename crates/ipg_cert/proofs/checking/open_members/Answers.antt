@@ -1,4 +1,4 @@
-use Rattle.std.proofs.Common.{◌≡◌, ◌+◌, ◌-◌, drop, arith, subst, refl, ap, sym}
+use Rattle.std.proofs.Common.{◌≡◌, ◌+◌, ◌-◌, drop, arith, subst, refl, ap}
 use Rattle.ipg_cert.specs.Facts.{facts_of}
 use Rattle.ipg_cert.specs.Goals.{OpensEach}
 use Rattle.ipg_cert.proofs.GoalsLemmas.{open_more}

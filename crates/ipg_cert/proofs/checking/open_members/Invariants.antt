@@ -1,4 +1,4 @@
-use Rattle.std.proofs.Common.{◌≡◌, ◌≤◌, drop, List, ◌++◌, length, reverse}
+use Rattle.std.proofs.Common.{◌≤◌, drop, length}
 use Rattle.ipg_cert.specs.Goals.{OpensEach}
 use Rattle.ipg_cert.proofs.checking.open_members.Given as goal
 

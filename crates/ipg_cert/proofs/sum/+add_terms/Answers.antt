@@ -1,4 +1,4 @@
-use Rattle.std.proofs.Common.{arith, length, get_or, ℤ, pos, ◌*ℤ◌, ◌^◌, ◌+◌}
+use Rattle.std.proofs.Common.{arith, get_or, pos, ◌*ℤ◌, ◌^◌}
 use Rattle.ipg_cert.specs.Totals.{AddsAt, AddsTerms}
 use Rattle.ipg_cert.proofs.TotalsLemmas.{on_ok, grown, adds_more, others, others_small}
 use Rattle.ipg_cert.proofs.sum.+add_terms.Goals as goal

@@ -1,4 +1,4 @@
-use Rattle.std.proofs.Common.{true, arith, ap, subst, ◌∙◌, ℤ, pos, ◌*ℤ◌, ◌≡◌}
+use Rattle.std.proofs.Common.{true, arith, ap, subst, ◌∙◌, pos, ◌*ℤ◌, ◌≡◌}
 use Rattle.std.proofs.lemmas.Int.{ints}
 use mir.Val.{to_z, of_z}
 use mir.Syntax.{w128}

@@ -1,5 +1,5 @@
 use Rattle.std.proofs.Common.{arith, rules, ap, subst, ◌∙◌, ◌≡◌, ◌&&◌, pos, length}
-use Rattle.std.specs.Prelude.{Some, int_lt, slice_index_or}
+use Rattle.std.specs.Prelude.{int_lt}
 use Rattle.std.proofs.lemmas.Int.{ints}
 use mir.Val.{to_z, of_z, SFits}
 use mir.Syntax.{w128}

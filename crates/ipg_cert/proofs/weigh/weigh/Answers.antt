@@ -1,7 +1,7 @@
-use Rattle.std.proofs.Common.{arith, get_or, subst, ◌∙◌, ap, ℤ, ◌+ℤ◌, ◌≡◌}
+use Rattle.std.proofs.Common.{arith, get_or, subst}
 use Rattle.std.proofs.lemmas.Int.{ints}
-use Rattle.std.specs.Prelude.{Option, None, Some}
-use mir.Val.{to_z, of_z}
+use Rattle.std.specs.Prelude.{Some}
+use mir.Val.{to_z}
 use mir.Syntax.{w128}
 use Rattle.ipg_cert.specs.Seen.{all_seen, Weighs}
 use Rattle.ipg_cert.specs.Checks.{form_of_entry}

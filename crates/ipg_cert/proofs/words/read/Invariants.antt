@@ -1,5 +1,5 @@
-use Rattle.std.proofs.Common.{length, ◌-◌, ◌≡◌, ◌+◌, ◌*◌, ◌^◌, ◌≤◌, drop, false}
-use Rattle.ipg_cert.specs.Reader.{start, has_ended, read_from, PosWithin}
+use Rattle.std.proofs.Common.{length, ◌-◌, ◌≡◌, ◌+◌, ◌*◌, ◌^◌, ◌≤◌, drop}
+use Rattle.ipg_cert.specs.Reader.{start, read_from, PosWithin}
 use Rattle.ipg_cert.specs.Reading.{seen}
 use Rattle.ipg_cert.proofs.words.read.Given as goal
 
