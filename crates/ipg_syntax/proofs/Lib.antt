@@ -1,1 +1,6 @@
 mod Rows
+mod Frames
+mod TakesExprs
+mod Logs
+mod TakesTerms
+mod TakesRules
