@@ -4,3 +4,4 @@ mod TakesExprs
 mod Logs
 mod TakesTerms
 mod TakesRules
+mod Plain
