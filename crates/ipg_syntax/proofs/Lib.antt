@@ -5,3 +5,5 @@ mod Logs
 mod TakesTerms
 mod TakesRules
 mod Plain
+mod Taken
+mod KeepsExprs
