@@ -95,7 +95,7 @@ closes p m (else_of c at a ∷ fs) e before high below due kept stands same =
 -- ---- steps
 
 -- an operand is due
-want_keeps : (fs : List (Frame trees)) (t : Tok) (before : Toks → Toks) → KeptFrames fs → ((r : Toks) → before r ≡ frames_before fs r)
+pub want_keeps : (fs : List (Frame trees)) (t : Tok) (before : Toks → Toks) → KeptFrames fs → ((r : Toks) → before r ≡ frames_before fs r)
     → Next (InnerNext before t) (Machine.want_move trees fs t)
 want_keeps fs (number z) before kept same = record { kept = (kept, tt); same = λ r. same (number z ∷ r) }
 want_keeps fs eoi_word before kept same = record { kept = (kept, tt); same = λ r. same (eoi_word ∷ r) }
@@ -105,7 +105,7 @@ want_keeps fs (sign (op Sub)) before kept same = record { kept = kept; same = λ
 want_keeps fs bang before kept same = record { kept = kept; same = λ r. same (bang ∷ r) }
 want_keeps fs t before kept same = tt
 
-part_keeps : (fs : List (Frame trees)) (i : Ident) (t : Tok) (before : Toks → Toks) → KeptFrames fs → ((r : Toks) → before r ≡ frames_before fs (name i ∷ dot ∷ r))
+pub part_keeps : (fs : List (Frame trees)) (i : Ident) (t : Tok) (before : Toks → Toks) → KeptFrames fs → ((r : Toks) → before r ≡ frames_before fs (name i ∷ dot ∷ r))
     → Next (InnerNext before t) (Machine.part_made trees fs i (Machine.field_of t))
 part_keeps fs i (name n) before kept same = record { kept = (kept, tt); same = λ r. same (name n ∷ r) }
 part_keeps fs i start_word before kept same = record { kept = (kept, tt); same = λ r. same (start_word ∷ r) }
@@ -119,7 +119,7 @@ item_spelled fs i e f t before is kept stands same = record {
     same = λ r. same (t ∷ r) ∙ ap (λ u. frames_before fs (name i ∷ left_paren ∷ (spell_expr e ++ (right_paren ∷ dot ∷ u ∷ r)))) (sym is)
         ∙ ap (λ toks. frames_before fs (name i ∷ left_paren ∷ toks)) (sym (append_assoc (spell_expr e) (right_paren ∷ dot ∷ field_tok f ∷ []) r)) }
 
-item_keeps : (fs : List (Frame trees)) (i : Ident) (e : ExprTree) (t : Tok) (before : Toks → Toks) → KeptFrames fs → Stands 0 e
+pub item_keeps : (fs : List (Frame trees)) (i : Ident) (e : ExprTree) (t : Tok) (before : Toks → Toks) → KeptFrames fs → Stands 0 e
     → ((r : Toks) → before r ≡ frames_before fs (name i ∷ left_paren ∷ (spell_expr e ++ (right_paren ∷ dot ∷ r))))
     → Next (InnerNext before t) (Machine.item_made trees fs i e (Machine.field_of t))
 item_keeps fs i e (name n) before kept stands same = item_spelled fs i e (Attribute n) (name n) before refl kept stands same
@@ -127,7 +127,7 @@ item_keeps fs i e start_word before kept stands same = item_spelled fs i e Start
 item_keeps fs i e end_word before kept stands same = item_spelled fs i e End end_word before refl kept stands same
 item_keeps fs i e t before kept stands same = tt
 
-dot_keeps : (fs : List (Frame trees)) (i : Ident) (e : ExprTree) (t : Tok) (before : Toks → Toks) → KeptFrames fs → Stands 0 e
+pub dot_keeps : (fs : List (Frame trees)) (i : Ident) (e : ExprTree) (t : Tok) (before : Toks → Toks) → KeptFrames fs → Stands 0 e
     → ((r : Toks) → before r ≡ frames_before fs (name i ∷ left_paren ∷ (spell_expr e ++ (right_paren ∷ r))))
     → Next (InnerNext before t) (Machine.dot_move trees fs i e t)
 dot_keeps fs i e dot before kept stands same = record { kept = (kept, stands); same = λ r. same (dot ∷ r) }

@@ -7,3 +7,5 @@ mod TakesRules
 mod Plain
 mod Taken
 mod KeepsExprs
+mod Lasts
+mod KeepsTerms
