@@ -148,3 +148,72 @@ have_keeps at log base first fs e (question span) before base_kept kept stands s
 have_keeps at log base first fs e t before base_kept kept stands same =
     let c : Closed 0 (above fs e) (close trees 0 fs e) = closes 0 prefix_level fs e (above fs e) (lit≤ tt) (lit≤ tt) (need_high fs) kept stands (λ r. refl) in
     finish_keeps at log base first (close trees 0 fs e).frames (close trees 0 fs e).operand t before base_kept c.kept c.stands (λ r. same r ∙ ap (base_before base) (c.same r))
+
+name_keeps : (at : ℕ) (log : _) (base : Base trees) (first : ℕ) (fs : List (Frame trees)) (i : Ident) (t : Tok) (before : Toks → Toks)
+    → KeptBase base → KeptFrames fs → ((r : Toks) → before r ≡ base_before base (frames_before fs (name i ∷ r)))
+    → Next (TurnNext before t) (Machine.name_move trees at log base first fs i t)
+name_keeps at log base first fs i dot before base_kept kept same = record { kept = (base_kept, kept); same = λ r. same (dot ∷ r) }
+name_keeps at log base first fs i left_paren before base_kept kept same = record { kept = (base_kept, kept); same = λ r. same (left_paren ∷ r) }
+name_keeps at log base first fs i t before base_kept kept same = have_keeps at tt base first fs (Written.own i) t before base_kept kept tt same
+
+within_keeps : (log : _) (base : Base trees) (first : ℕ) (o : Option (Inner trees)) (t : Tok) (before ib : Toks → Toks)
+    → KeptBase base → ((r : Toks) → before r ≡ base_before base (ib r)) → Next (InnerNext ib t) o → Next (TurnNext before t) (Machine.within trees log base first o)
+within_keeps log base first (Some inner) t before ib kept same next = record {
+    kept = (kept, next.kept); same = λ r. same (t ∷ r) ∙ ap (base_before base) (next.same r) }
+within_keeps log base first None t before ib kept same next = tt
+
+expr_keeps : (at : ℕ) (log : _) (base : Base trees) (first : ℕ) (inner : Inner trees) (t : Tok) (before : Toks → Toks)
+    → KeptBase base → KeptInner inner → ((r : Toks) → before r ≡ base_before base (inner_before inner r))
+    → Next (TurnNext before t) (Machine.expr_move trees at log base first inner t)
+expr_keeps at log base first (want fs) t before base_kept kept same =
+    within_keeps log base first (Machine.want_move trees fs t) t before (inner_before (want fs)) base_kept same (want_keeps fs t (inner_before (want fs)) kept (λ r. refl))
+expr_keeps at log base first (have fs e) t before base_kept kept same = have_keeps at log base first fs e t before base_kept kept.0 kept.1 same
+expr_keeps at log base first (Machine.named fs i) t before base_kept kept same = name_keeps at log base first fs i t before base_kept kept same
+expr_keeps at log base first (Machine.dotted fs i) t before base_kept kept same =
+    within_keeps log base first (Machine.part_made trees fs i (Machine.field_of t)) t before (inner_before (Machine.dotted fs i)) base_kept same
+    (part_keeps fs i t (inner_before (Machine.dotted fs i)) kept (λ r. refl))
+expr_keeps at log base first (Machine.indexed fs i e) t before base_kept kept same =
+    within_keeps log base first (Machine.dot_move trees fs i e t) t before (inner_before (Machine.indexed fs i e)) base_kept same
+    (dot_keeps fs i e t (inner_before (Machine.indexed fs i e)) kept.0 kept.1 (λ r. refl))
+expr_keeps at log base first (Machine.index_dotted fs i e) t before base_kept kept same =
+    within_keeps log base first (Machine.item_made trees fs i e (Machine.field_of t)) t before (inner_before (Machine.index_dotted fs i e)) base_kept same
+    (item_keeps fs i e t (inner_before (Machine.index_dotted fs i e)) kept.0 kept.1 (λ r. refl))
+
+-- ---- terms
+
+pub opening_keeps : (t : Tok) → Next (PartNext (λ r. r) t) (Machine.opening trees t)
+opening_keeps left_brace = record { kept = tt; same = λ r. refl }
+opening_keeps (question at) = record { kept = tt; same = λ r. refl }
+opening_keeps for_word = record { kept = tt; same = λ r. refl }
+opening_keeps (switch_word at) = record { kept = tt; same = λ r. refl }
+opening_keeps (text bs at) = record { kept = tt; same = λ r. refl }
+opening_keeps (name i) = record { kept = tt; same = λ r. refl }
+opening_keeps t = tt
+
+pub part_move_keeps : (at : ℕ) (log : _) (p : Part trees) (t : Tok) (before : Toks → Toks) → KeptPart p → ((r : Toks) → before r ≡ part_before p r)
+    → Next (TurnNext before t) (Machine.part_move trees at log p t)
+part_move_keeps at log (Machine.slot_named u w span) t before kept same = slot_keeps at log u w span t before kept same
+part_move_keeps at log (Machine.expr base first inner) t before kept same = expr_keeps at log base first inner t before kept.0 kept.1 same
+part_move_keeps at log Machine.set_open (name x) before kept same = record { kept = tt; same = λ r. same (name x ∷ r) }
+part_move_keeps at log Machine.set_open t before kept same = tt
+part_move_keeps at log (Machine.set_named x) equals before kept same = record { kept = (tt, tt); same = λ r. same (equals ∷ r) }
+part_move_keeps at log (Machine.set_named x) t before kept same = tt
+part_move_keeps at log (Machine.test_open span) left_paren before kept same = record { kept = (tt, tt); same = λ r. same (left_paren ∷ r) }
+part_move_keeps at log (Machine.test_open span) t before kept same = tt
+part_move_keeps at log Machine.repeat_open (name x) before kept same = record { kept = tt; same = λ r. same (name x ∷ r) }
+part_move_keeps at log Machine.repeat_open t before kept same = tt
+part_move_keeps at log (Machine.repeat_named x) equals before kept same = record { kept = (tt, tt); same = λ r. same (equals ∷ r) }
+part_move_keeps at log (Machine.repeat_named x) t before kept same = tt
+part_move_keeps at log (Machine.item_due x a b) (name i) before kept same = record { kept = kept; same = λ r. same (name i ∷ r) }
+part_move_keeps at log (Machine.item_due x a b) t before kept same = tt
+part_move_keeps at log (Machine.item_named x a b i) left_bracket before kept same = record { kept = (kept, tt); same = λ r. same (left_bracket ∷ r) }
+part_move_keeps at log (Machine.item_named x a b i) t before kept same = tt
+part_move_keeps at log (Machine.pick_open span) left_brace before kept same = record { kept = tt; same = λ r. same (left_brace ∷ r) }
+part_move_keeps at log (Machine.pick_open span) t before kept same = tt
+part_move_keeps at log (Machine.first_case span) case_word before kept same = record { kept = tt; same = λ r. same (case_word ∷ r) }
+part_move_keeps at log (Machine.first_case span) t before kept same = tt
+part_move_keeps at log (Machine.next_case span cs) t before kept same = case_keeps log span cs t before kept same
+part_move_keeps at log (Machine.case_open span cs) left_paren before kept same = record { kept = (kept, tt); same = λ r. same (left_paren ∷ r) }
+part_move_keeps at log (Machine.case_open span cs) t before kept same = tt
+part_move_keeps at log (Machine.slot_due u) t before kept same = slot_opening_keeps log u t before kept same
+part_move_keeps at log (Machine.pick_close span cs s) t before kept same = pick_keeps log span cs s t before kept.0 kept.1 same

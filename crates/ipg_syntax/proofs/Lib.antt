@@ -9,3 +9,4 @@ mod Taken
 mod KeepsExprs
 mod Lasts
 mod KeepsTerms
+mod KeepsRules
