@@ -10,3 +10,5 @@ mod KeepsExprs
 mod Lasts
 mod KeepsTerms
 mod KeepsRules
+mod Runs
+mod Closers
