@@ -12,3 +12,5 @@ mod KeepsTerms
 mod KeepsRules
 mod Runs
 mod Closers
+mod Selfs
+mod Counts
