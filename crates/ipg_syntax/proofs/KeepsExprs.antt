@@ -78,8 +78,8 @@ closes p m (isnt ∷ fs) e before high below due kept stands same =
 closes p m (left i a ∷ fs) e before high below due kept stands same =
     either_way p (level i) before (close trees p fs (Written.two i a e)) (record { frames = left i a ∷ fs; operand = e })
     (λ tight. closes p (level i) fs (Written.two i a e) before high tight kept.2 kept.0
-        (le_refl (level i), kept.1, weaker e (level i + 1) m due stands)
-        (λ r. same r ∙ ap (frames_before fs) (sym (append_assoc (spell_expr a) (sign i ∷ spell_expr e) r))))
+    (le_refl (level i), kept.1, weaker e (level i + 1) m due stands)
+    (λ r. same r ∙ ap (frames_before fs) (sym (append_assoc (spell_expr a) (sign i ∷ spell_expr e) r))))
     (λ loose. record { kept = kept; stands = weaker e p m below stands; due = omega arith; same = same })
 closes p m (group ∷ fs) e before high below due kept stands same = record { kept = kept; stands = weaker e p m below stands; due = least p; same = same }
 closes p m (index i ∷ fs) e before high below due kept stands same = record { kept = kept; stands = weaker e p m below stands; due = least p; same = same }
@@ -87,9 +87,9 @@ closes p m (then_of c at ∷ fs) e before high below due kept stands same = reco
 closes p m (else_of c at a ∷ fs) e before high below due kept stands same =
     either_way p 0 before (close trees p fs (Written.choose c at a e)) (record { frames = else_of c at a ∷ fs; operand = e })
     (λ loose. closes p 0 fs (Written.choose c at a e) before high loose kept.2 kept.0
-        (le_refl 0, kept.1, kept.3, weaker e 0 m (least m) stands)
-        (λ r. same r ∙ ap (frames_before fs) (sym (append_assoc (spell_expr c) (question at ∷ (spell_expr a ++ (colon ∷ spell_expr e))) r
-            ∙ ap (λ toks. spell_expr c ++ (question at ∷ toks)) (append_assoc (spell_expr a) (colon ∷ spell_expr e) r)))))
+    (le_refl 0, kept.1, kept.3, weaker e 0 m (least m) stands)
+    (λ r. same r ∙ ap (frames_before fs) (sym (append_assoc (spell_expr c) (question at ∷ (spell_expr a ++ (colon ∷ spell_expr e))) r
+    ∙ ap (λ toks. spell_expr c ++ (question at ∷ toks)) (append_assoc (spell_expr a) (colon ∷ spell_expr e) r)))))
     (λ tight. record { kept = kept; stands = weaker e p m below stands; due = least p; same = same })
 
 -- ---- steps
@@ -115,9 +115,10 @@ part_keeps fs i t before kept same = tt
 item_spelled : (fs : List (Frame trees)) (i : Ident) (e : ExprTree) (f : Field) (t : Tok) (before : Toks → Toks) → field_tok f ≡ t → KeptFrames fs → Stands 0 e
     → ((r : Toks) → before r ≡ frames_before fs (name i ∷ left_paren ∷ (spell_expr e ++ (right_paren ∷ dot ∷ r)))) → InnerNext before t (have fs (Written.item i e f))
 item_spelled fs i e f t before is kept stands same = record {
-    kept = (kept, stands);
-    same = λ r. same (t ∷ r) ∙ ap (λ u. frames_before fs (name i ∷ left_paren ∷ (spell_expr e ++ (right_paren ∷ dot ∷ u ∷ r)))) (sym is)
-        ∙ ap (λ toks. frames_before fs (name i ∷ left_paren ∷ toks)) (sym (append_assoc (spell_expr e) (right_paren ∷ dot ∷ field_tok f ∷ []) r)) }
+  kept = (kept, stands);
+  same = λ r. same (t ∷ r) ∙ ap (λ u. frames_before fs (name i ∷ left_paren ∷ (spell_expr e ++ (right_paren ∷ dot ∷ u ∷ r)))) (sym is)
+      ∙ ap (λ toks. frames_before fs (name i ∷ left_paren ∷ toks)) (sym (append_assoc (spell_expr e) (right_paren ∷ dot ∷ field_tok f ∷ []) r));
+}
 
 pub item_keeps : (fs : List (Frame trees)) (i : Ident) (e : ExprTree) (t : Tok) (before : Toks → Toks) → KeptFrames fs → Stands 0 e
     → ((r : Toks) → before r ≡ frames_before fs (name i ∷ left_paren ∷ (spell_expr e ++ (right_paren ∷ dot ∷ r))))

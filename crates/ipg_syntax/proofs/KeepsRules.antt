@@ -72,7 +72,9 @@ end_rule_keeps (local h outer ls n las) ts kept fits =
 begun_keeps : (at : ℕ) (log : _) (site : Site trees) (ts : List TermTree) (o : Option (Part trees)) (t : Tok) (before : Toks → Toks) → KeptSite site → Each TermFits ts
     → ((r : Toks) → before r ≡ site_before site (spell_terms ts ++ r)) → Next (PartNext (λ r. r) t) o → Next (StateNext before t) (Machine.begun trees at log site ts o)
 begun_keeps at log site ts (Some p) t before kept fits same next = record {
-    kept = (kept, fits, next.kept); same = λ r. same (t ∷ r) ∙ ap (λ toks. site_before site (spell_terms ts ++ toks)) (next.same r) }
+  kept = (kept, fits, next.kept);
+  same = λ r. same (t ∷ r) ∙ ap (λ toks. site_before site (spell_terms ts ++ toks)) (next.same r);
+}
 begun_keeps at log site ts None t before kept fits same next = tt
 
 where_keeps : (log : _) (site : Site trees) (ts : List TermTree) (before : Toks → Toks) → KeptSite site → TermsFit ts
@@ -83,9 +85,13 @@ where_keeps log (local h outer ls n las) ts before kept fits same = tt
 after_term_keeps : (at : ℕ) (log : _) (site : Site trees) (ts : List TermTree) (t : Tok) (before : Toks → Toks) → KeptSite site → TermsFit ts
     → ((r : Toks) → before r ≡ site_before site (spell_terms ts ++ r)) → Next (StateNext before t) (Machine.after_term_move trees at log site ts t)
 after_term_keeps at log site ts (sign (op Div)) before kept fits same = record {
-    kept = next_alt_keeps site ts kept fits; same = λ r. same (slash ∷ r) ∙ next_alt_same site ts r }
+  kept = next_alt_keeps site ts kept fits;
+  same = λ r. same (slash ∷ r) ∙ next_alt_same site ts r;
+}
 after_term_keeps at log site ts semicolon before kept fits same = record {
-    kept = end_rule_keeps site ts kept fits; same = λ r. same (semicolon ∷ r) ∙ end_rule_same site ts r }
+  kept = end_rule_keeps site ts kept fits;
+  same = λ r. same (semicolon ∷ r) ∙ end_rule_same site ts r;
+}
 after_term_keeps at log site ts where_word before kept fits same = where_keeps log site ts before kept fits same
 after_term_keeps at log site ts t before kept fits same =
     begun_keeps at log site ts (Machine.opening trees t) t before kept (some_each TermFits ts fits) same (opening_keeps t)
@@ -93,10 +99,13 @@ after_term_keeps at log site ts t before kept fits same =
 turned_keeps : (at : ℕ) (site : Site trees) (ts : List TermTree) (t : Tok) (o : Option (Turn trees)) (before ib : Toks → Toks) → KeptSite site → Each TermFits ts
     → ((r : Toks) → before r ≡ site_before site (spell_terms ts ++ ib r)) → Next (TurnNext ib t) o → Next (StateNext before t) (Machine.turned trees at site ts t o)
 turned_keeps at site ts t (Some (Machine.still log p)) before ib kept fits same next = record {
-    kept = (kept, fits, next.kept); same = λ r. same (t ∷ r) ∙ ap (λ toks. site_before site (spell_terms ts ++ toks)) (next.same r) }
+  kept = (kept, fits, next.kept);
+  same = λ r. same (t ∷ r) ∙ ap (λ toks. site_before site (spell_terms ts ++ toks)) (next.same r);
+}
 turned_keeps at site ts t (Some (Machine.done log x)) before ib kept fits same next = record {
-    kept = (kept, some_last TermFits ts x fits next.fits);
-    same = λ r. same (t ∷ r) ∙ ap (λ toks. site_before site (spell_terms ts ++ toks)) (next.same r) ∙ ap (site_before site) (sym (terms_last ts x r)) }
+  kept = (kept, some_last TermFits ts x fits next.fits);
+  same = λ r. same (t ∷ r) ∙ ap (λ toks. site_before site (spell_terms ts ++ toks)) (next.same r) ∙ ap (site_before site) (sym (terms_last ts x r));
+}
 turned_keeps at site ts t (Some (Machine.passed log x)) before ib kept fits same next =
     after_term_keeps at log site (last ts x) t before kept (some_last TermFits ts x fits next.fits)
     (λ r. same r ∙ ap (λ toks. site_before site (spell_terms ts ++ toks)) (next.same r) ∙ ap (site_before site) (sym (terms_last ts x r)))
@@ -129,11 +138,16 @@ move_keeps at log (Machine.before_local h ts) (name i) kept = record { kept = (k
 move_keeps at log (Machine.before_local h ts) t kept = tt
 move_keeps at log (Machine.after_local h ts ls) (name i) kept = record { kept = (kept.0, kept.1, some_each LocalFits ls kept.2); same = λ r. refl }
 move_keeps at log (Machine.after_local h ts ls) right_brace kept = record {
-    kept = (kept.0.0, some_last AltFits h.alts (record { terms = ts; locals = ls }) kept.0.1 (kept.1, some_each LocalFits ls kept.2));
-    same = λ r. ap (λ toks. head_before h (mark h.alts ∷ toks)) (where_spelled ts ls r kept.2) ∙ alt_added h (record { terms = ts; locals = ls }) r }
+  kept = (kept.0.0, some_last AltFits h.alts (record { terms = ts; locals = ls }) kept.0.1 (kept.1, some_each LocalFits ls kept.2));
+  same = λ r. ap (λ toks. head_before h (mark h.alts ∷ toks)) (where_spelled ts ls r kept.2) ∙ alt_added h (record { terms = ts; locals = ls }) r;
+}
 move_keeps at log (Machine.after_local h ts ls) t kept = tt
 move_keeps at log (Machine.after_where h) (sign (op Div)) kept = record {
-    kept = (kept.0, some_each AltFits h.alts kept.1); same = λ r. ap (λ m. head_before h (m ∷ r)) (sym (slash_next h kept.1)) }
+  kept = (kept.0, some_each AltFits h.alts kept.1);
+  same = λ r. ap (λ m. head_before h (m ∷ r)) (sym (slash_next h kept.1));
+}
 move_keeps at log (Machine.after_where h) semicolon kept = record {
-    kept = some_last RuleFits h.rules (record { head = h.name; alts = h.alts }) kept.0 kept.1; same = λ r. rule_added h r }
+  kept = some_last RuleFits h.rules (record { head = h.name; alts = h.alts }) kept.0 kept.1;
+  same = λ r. rule_added h r;
+}
 move_keeps at log (Machine.after_where h) t kept = tt

@@ -29,8 +29,9 @@ slot_done_keeps : (log : _) (u : SlotUse trees) (s : SlotTree) (t : Tok) (before
     → ((r : Toks) → before (t ∷ r) ≡ use_before u (spell_slot s ++ r)) → TurnNext before t (Machine.slot_done trees log u s)
 slot_done_keeps log alone s t before kept fits same = record { fits = fits; same = same }
 slot_done_keeps log (chosen at cs c) s t before kept fits same = record {
-    kept = some_last CaseFits cs (record { test = c; slot = s }) kept.0 (kept.1, fits);
-    same = λ r. same r ∙ case_added at cs c s r }
+  kept = some_last CaseFits cs (record { test = c; slot = s }) kept.0 (kept.1, fits);
+  same = λ r. same r ∙ case_added at cs c s r;
+}
 slot_done_keeps log (other at cs) s t before kept fits same = record { kept = (kept, fits); same = same }
 
 case_keeps : (log : _) (at : Span) (cs : List CaseTree) (t : Tok) (before : Toks → Toks) → Some_each CaseFits cs → ((r : Toks) → before r ≡ pick_before at cs r)
@@ -95,10 +96,14 @@ ended_keeps at log (Machine.right_of u w span l) e right_bracket before kept sta
     slot_done_keeps log u (record { what = w; span = span; place = Written.ends l e }) right_bracket before kept.0 (kept.1, stands) (λ r. same (right_bracket ∷ r) ∙ ends_done u w span l e r)
 ended_keeps at log (Machine.right_of u w span l) e t before kept stands same = tt
 ended_keeps at log (Machine.value_of x) e right_brace before kept stands same = record {
-    fits = stands; same = λ r. same (right_brace ∷ r) ∙ ap (λ toks. left_brace ∷ name x ∷ equals ∷ toks) (sym (append_assoc (spell_expr e) (right_brace ∷ []) r)) }
+  fits = stands;
+  same = λ r. same (right_brace ∷ r) ∙ ap (λ toks. left_brace ∷ name x ∷ equals ∷ toks) (sym (append_assoc (spell_expr e) (right_brace ∷ []) r));
+}
 ended_keeps at log (Machine.value_of x) e t before kept stands same = tt
 ended_keeps at log (Machine.test_of span) e right_paren before kept stands same = record {
-    fits = stands; same = λ r. same (right_paren ∷ r) ∙ ap (λ toks. question span ∷ left_paren ∷ toks) (sym (append_assoc (spell_expr e) (right_paren ∷ []) r)) }
+  fits = stands;
+  same = λ r. same (right_paren ∷ r) ∙ ap (λ toks. question span ∷ left_paren ∷ toks) (sym (append_assoc (spell_expr e) (right_paren ∷ []) r));
+}
 ended_keeps at log (Machine.test_of span) e t before kept stands same = tt
 ended_keeps at log (Machine.first_bound x) e to_word before kept stands same = record { kept = (stands, tt); same = λ r. same (to_word ∷ r) }
 ended_keeps at log (Machine.first_bound x) e t before kept stands same = tt
@@ -107,7 +112,9 @@ ended_keeps at log (Machine.last_bound x a) e t before kept stands same = tt
 ended_keeps at log (Machine.item_left x a b i) e comma before kept stands same = record { kept = ((kept.0, kept.1, stands), tt); same = λ r. same (comma ∷ r) }
 ended_keeps at log (Machine.item_left x a b i) e t before kept stands same = tt
 ended_keeps at log (Machine.item_right x a b i l) e right_bracket before kept stands same = record {
-    fits = (kept.0, kept.1, kept.2, stands); same = λ r. same (right_bracket ∷ r) ∙ repeat_done x i a b l e r }
+  fits = (kept.0, kept.1, kept.2, stands);
+  same = λ r. same (right_bracket ∷ r) ∙ repeat_done x i a b l e r;
+}
 ended_keeps at log (Machine.item_right x a b i l) e t before kept stands same = tt
 ended_keeps at log (Machine.case_of span cs) e right_paren before kept stands same = record { kept = (kept, stands); same = λ r. same (right_paren ∷ r) }
 ended_keeps at log (Machine.case_of span cs) e t before kept stands same = tt
@@ -119,13 +126,16 @@ finish_keeps : (at : ℕ) (log : _) (base : Base trees) (first : ℕ) (fs : List
     → Next (TurnNext before t) (Machine.finish trees at log base first fs e t)
 finish_keeps at log base first [] e t before base_kept kept stands same = ended_keeps at tt base e t before base_kept stands same
 finish_keeps at log base first (group ∷ fs) e right_paren before base_kept kept stands same = record {
-    kept = (base_kept, (kept, stands));
-    same = λ r. same (right_paren ∷ r) ∙ ap (λ toks. base_before base (frames_before fs (left_paren ∷ toks))) (sym (append_assoc (spell_expr e) (right_paren ∷ []) r)) }
+  kept = (base_kept, (kept, stands));
+  same = λ r. same (right_paren ∷ r) ∙ ap (λ toks. base_before base (frames_before fs (left_paren ∷ toks))) (sym (append_assoc (spell_expr e) (right_paren ∷ []) r));
+}
 finish_keeps at log base first (group ∷ fs) e t before base_kept kept stands same = tt
 finish_keeps at log base first (index i ∷ fs) e right_paren before base_kept kept stands same = record { kept = (base_kept, (kept, stands)); same = λ r. same (right_paren ∷ r) }
 finish_keeps at log base first (index i ∷ fs) e t before base_kept kept stands same = tt
 finish_keeps at log base first (then_of c span ∷ fs) e colon before base_kept kept stands same = record {
-    kept = (base_kept, (kept.0, kept.1, kept.2, stands)); same = λ r. same (colon ∷ r) }
+  kept = (base_kept, (kept.0, kept.1, kept.2, stands));
+  same = λ r. same (colon ∷ r);
+}
 finish_keeps at log base first (then_of c span ∷ fs) e t before base_kept kept stands same = tt
 finish_keeps at log base first (Machine.neg ∷ fs) e t before base_kept kept stands same = tt
 finish_keeps at log base first (Machine.isnt ∷ fs) e t before base_kept kept stands same = tt
@@ -159,7 +169,9 @@ name_keeps at log base first fs i t before base_kept kept same = have_keeps at t
 within_keeps : (log : _) (base : Base trees) (first : ℕ) (o : Option (Inner trees)) (t : Tok) (before ib : Toks → Toks)
     → KeptBase base → ((r : Toks) → before r ≡ base_before base (ib r)) → Next (InnerNext ib t) o → Next (TurnNext before t) (Machine.within trees log base first o)
 within_keeps log base first (Some inner) t before ib kept same next = record {
-    kept = (kept, next.kept); same = λ r. same (t ∷ r) ∙ ap (base_before base) (next.same r) }
+  kept = (kept, next.kept);
+  same = λ r. same (t ∷ r) ∙ ap (base_before base) (next.same r);
+}
 within_keeps log base first None t before ib kept same next = tt
 
 expr_keeps : (at : ℕ) (log : _) (base : Base trees) (first : ℕ) (inner : Inner trees) (t : Tok) (before : Toks → Toks)

@@ -14,3 +14,6 @@ mod Runs
 mod Closers
 mod Selfs
 mod Counts
+mod Lexed
+mod Outcomes
+mod Readings

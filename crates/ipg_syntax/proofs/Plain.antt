@@ -14,16 +14,55 @@ use Rattle.ipg_syntax.specs.Machine.{Acts, Frame, Inner, SlotUse, Base, Part, He
 -- the actions that make nothing
 abbrev pub nothing : Acts
 nothing = record {
-    Expr = Unit {0}; Place = Unit {0}; Slot = Unit {0}; Cases = Unit {0}; Term = Unit {0}; Terms = Unit {0};
-    LocalAlts = Unit {0}; Locals = Unit {0}; Alts = Unit {0}; Rules = Unit {0}; Log = Unit {0};
-    num = λ z. tt; eoi = tt; own = λ i. tt; part = λ i f. tt; item = λ i e f. tt; group = λ e. tt; neg = λ e. tt; isnt = λ e. tt;
-    two = λ i a b. tt; choose = λ c at a b. tt; anywhere = tt; long = λ e. tt; ends = λ l r. tt; slot = λ what at p. tt;
-    no_cases = tt; with_case = λ cs c s. tt; slot_term = λ s. tt; set_term = λ x e. tt; test_term = λ at e. tt;
-    repeat_term = λ x a b i l r. tt; pick_term = λ at cs s. tt; no_terms = tt; with_term = λ ts t. tt;
-    no_local_alts = tt; with_local_alt = λ las ts. tt; no_locals = tt; with_local = λ ls n las. tt;
-    no_alts = tt; with_alt = λ alts ts ls. tt; no_rules = tt; with_rule = λ rs n alts. tt;
-    blank = tt; saw_rule = λ at log. tt; saw_local_alt = λ las at log. tt; saw_alt = λ alts at log. tt;
-    saw_term = λ ts at log. tt; saw_expr = λ e at log. tt }
+  Expr = Unit {0};
+  Place = Unit {0};
+  Slot = Unit {0};
+  Cases = Unit {0};
+  Term = Unit {0};
+  Terms = Unit {0};
+  LocalAlts = Unit {0};
+  Locals = Unit {0};
+  Alts = Unit {0};
+  Rules = Unit {0};
+  Log = Unit {0};
+  num = λ z. tt;
+  eoi = tt;
+  own = λ i. tt;
+  part = λ i f. tt;
+  item = λ i e f. tt;
+  group = λ e. tt;
+  neg = λ e. tt;
+  isnt = λ e. tt;
+  two = λ i a b. tt;
+  choose = λ c at a b. tt;
+  anywhere = tt;
+  long = λ e. tt;
+  ends = λ l r. tt;
+  slot = λ what at p. tt;
+  no_cases = tt;
+  with_case = λ cs c s. tt;
+  slot_term = λ s. tt;
+  set_term = λ x e. tt;
+  test_term = λ at e. tt;
+  repeat_term = λ x a b i l r. tt;
+  pick_term = λ at cs s. tt;
+  no_terms = tt;
+  with_term = λ ts t. tt;
+  no_local_alts = tt;
+  with_local_alt = λ las ts. tt;
+  no_locals = tt;
+  with_local = λ ls n las. tt;
+  no_alts = tt;
+  with_alt = λ alts ts ls. tt;
+  no_rules = tt;
+  with_rule = λ rs n alts. tt;
+  blank = tt;
+  saw_rule = λ at log. tt;
+  saw_local_alt = λ las at log. tt;
+  saw_alt = λ alts at log. tt;
+  saw_term = λ ts at log. tt;
+  saw_expr = λ e at log. tt;
+}
 
 abbrev pub no_span : Span
 no_span = record { from = 0; to = 0 }

@@ -67,8 +67,15 @@ is_empty (t ∷ ts) = ⊥
 ending_stuck : (at : ℕ) (s : State trees) (pos : Pos trees) → s.pos ≡ pos → KeptPos s.pos → OnBad (Stuck at s []) (Machine.ending {A = trees} at s.log pos)
 ending_stuck at s (Machine.between rs) is kept = tt
 ending_stuck at s pos is kept = record {
-    read = []; left = []; splits = refl; count = omega arith; pos = s.pos; kept = kept; same = λ r. refl;
-    stops = λ t rest zs none. absurd (subst is_empty none tt) }
+  read = [];
+  left = [];
+  splits = refl;
+  count = omega arith;
+  pos = s.pos;
+  kept = kept;
+  same = λ r. refl;
+  stops = λ t rest zs none. absurd (subst is_empty none tt);
+}
 
 onward_stuck : (at : ℕ) (s : State trees) (t : Token) (ts : List Token) (o : Option (State trees)) → Machine.step trees at s (class_of t) ≡ o → KeptPos s.pos
     → Next (StateNext (pos_before s.pos) (class_of t)) o
@@ -79,12 +86,25 @@ onward_stuck at s t ts (Some next) is kept taken rest = moved (verdict trees (at
     moved : (v : Result (Read trees) ℕ) → OnBad (Stuck (at + 1) next ts) v → OnBad (Stuck at s (t ∷ ts)) v
     moved (Ok r) stuck = tt
     moved (Err n) stuck = record {
-        read = t ∷ stuck.read; left = stuck.left; splits = ap (λ xs. t ∷ xs) stuck.splits; count = omega (arith, stuck.count);
-        pos = stuck.pos; kept = stuck.kept; same = λ r. taken.same (classes stuck.read ++ r) ∙ stuck.same r;
-        stops = λ u us zs here. ap (λ o. onward at o (λ after. verdict trees (at + 1) after (classes stuck.read ++ (class_of u ∷ zs)))) is ∙ stuck.stops u us zs here }
+      read = t ∷ stuck.read;
+      left = stuck.left;
+      splits = ap (λ xs. t ∷ xs) stuck.splits;
+      count = omega (arith, stuck.count);
+      pos = stuck.pos;
+      kept = stuck.kept;
+      same = λ r. taken.same (classes stuck.read ++ r) ∙ stuck.same r;
+      stops = λ u us zs here. ap (λ o. onward at o (λ after. verdict trees (at + 1) after (classes stuck.read ++ (class_of u ∷ zs)))) is ∙ stuck.stops u us zs here;
+    }
 onward_stuck at s t ts None is kept taken rest = record {
-    read = []; left = t ∷ ts; splits = refl; count = omega arith; pos = s.pos; kept = kept; same = λ r. refl;
-    stops = λ u us zs here. ap (λ o. onward at o (λ after. verdict trees (at + 1) after zs)) (ap (λ x. Machine.step trees at s (class_of x)) (sym (ap (λ xs. first_or xs t) here)) ∙ is) }
+  read = [];
+  left = t ∷ ts;
+  splits = refl;
+  count = omega arith;
+  pos = s.pos;
+  kept = kept;
+  same = λ r. refl;
+  stops = λ u us zs here. ap (λ o. onward at o (λ after. verdict trees (at + 1) after zs)) (ap (λ x. Machine.step trees at s (class_of x)) (sym (ap (λ xs. first_or xs t) here)) ∙ is);
+}
 
 pub run_stuck : (ts : List Token) (at : ℕ) (s : State trees) → KeptPos s.pos → OnBad (Stuck at s ts) (verdict trees at s (classes ts))
 run_stuck [] at s kept = ending_stuck at s s.pos refl kept

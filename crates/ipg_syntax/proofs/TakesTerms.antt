@@ -141,6 +141,7 @@ module _ (A : Acts) (site : Site A) (before : A.Terms) where
     where
       seen : A.Log
       seen = A.saw_term before at log
+
       opened : (w : What) → verdict A at (record { log = log; pos = after_term site before }) (what_tok w s.span ∷ (spell_place s.place ++ rest))
           ≡ verdict A (at + 1) (part_state (A.saw_term before at log) (slot_named alone w s.span)) (spell_place s.place ++ rest)
       opened (Text bs) = refl

@@ -8,3 +8,5 @@ pub mod Counting
 pub mod Making
 -- the answer for a text
 pub mod Reading
+-- the laws that public functions promise
+pub mod Laws

@@ -23,23 +23,55 @@ last xs x = xs ++ (x ∷ [])
 -- trees; the log is empty
 abbrev pub trees : Acts
 trees = record {
-    Expr = Written.ExprTree; Place = Written.PlaceTree; Slot = Written.SlotTree; Cases = List Written.CaseTree;
-    Term = Written.TermTree; Terms = List Written.TermTree; LocalAlts = List (List Written.TermTree); Locals = List Written.LocalTree;
-    Alts = List Written.AltTree; Rules = List Written.RuleTree; Log = Unit {0};
-    num = Written.num; eoi = Written.eoi; own = Written.own; part = Written.part; item = Written.item; group = Written.group;
-    neg = Written.neg; isnt = Written.isnt; two = Written.two; choose = Written.choose;
-    anywhere = Written.anywhere; long = Written.long; ends = Written.ends;
-    slot = λ what at p. record { what = what; span = at; place = p };
-    no_cases = []; with_case = λ cs c s. last cs (record { test = c; slot = s });
-    slot_term = Written.slot_term; set_term = Written.set_term; test_term = Written.test_term;
-    repeat_term = Written.repeat_term; pick_term = Written.pick_term;
-    no_terms = []; with_term = last;
-    no_local_alts = []; with_local_alt = last;
-    no_locals = []; with_local = λ ls n las. last ls (record { head = n; alts = las });
-    no_alts = []; with_alt = λ alts ts ls. last alts (record { terms = ts; locals = ls });
-    no_rules = []; with_rule = λ rs n alts. last rs (record { head = n; alts = alts });
-    blank = tt;
-    saw_rule = λ at log. tt; saw_local_alt = λ las at log. tt; saw_alt = λ alts at log. tt; saw_term = λ ts at log. tt; saw_expr = λ e at log. tt }
+  Expr = Written.ExprTree;
+  Place = Written.PlaceTree;
+  Slot = Written.SlotTree;
+  Cases = List Written.CaseTree;
+  Term = Written.TermTree;
+  Terms = List Written.TermTree;
+  LocalAlts = List (List Written.TermTree);
+  Locals = List Written.LocalTree;
+  Alts = List Written.AltTree;
+  Rules = List Written.RuleTree;
+  Log = Unit {0};
+  num = Written.num;
+  eoi = Written.eoi;
+  own = Written.own;
+  part = Written.part;
+  item = Written.item;
+  group = Written.group;
+  neg = Written.neg;
+  isnt = Written.isnt;
+  two = Written.two;
+  choose = Written.choose;
+  anywhere = Written.anywhere;
+  long = Written.long;
+  ends = Written.ends;
+  slot = λ what at p. record { what = what; span = at; place = p };
+  no_cases = [];
+  with_case = λ cs c s. last cs (record { test = c; slot = s });
+  slot_term = Written.slot_term;
+  set_term = Written.set_term;
+  test_term = Written.test_term;
+  repeat_term = Written.repeat_term;
+  pick_term = Written.pick_term;
+  no_terms = [];
+  with_term = last;
+  no_local_alts = [];
+  with_local_alt = last;
+  no_locals = [];
+  with_local = λ ls n las. last ls (record { head = n; alts = las });
+  no_alts = [];
+  with_alt = λ alts ts ls. last alts (record { terms = ts; locals = ls });
+  no_rules = [];
+  with_rule = λ rs n alts. last rs (record { head = n; alts = alts });
+  blank = tt;
+  saw_rule = λ at log. tt;
+  saw_local_alt = λ las at log. tt;
+  saw_alt = λ alts at log. tt;
+  saw_term = λ ts at log. tt;
+  saw_expr = λ e at log. tt;
+}
 
 abbrev pub infix_expr : Infix → Expr → Expr → Expr
 infix_expr either a b = E.Either a b
@@ -55,22 +87,55 @@ rule_of n alts = roll-Rule (record { name = n; alts = alts })
 -- the public types; the log is empty
 abbrev pub made : Acts
 made = record {
-    Expr = Expr; Place = Place; Slot = Slot; Cases = List Case; Term = Term; Terms = List Term;
-    LocalAlts = List Alt; Locals = List Rule; Alts = List Alt; Rules = List Rule; Log = Unit {0};
-    num = λ z. E.Num z; eoi = E.Eoi; own = λ i. E.Id i; part = λ i f. E.Part i f; item = λ i e f. E.Item i e f; group = λ e. E.Group e;
-    neg = λ e. E.Neg e; isnt = λ e. E.Not e; two = infix_expr; choose = λ c at a b. E.Cond c a b;
-    anywhere = Open; long = λ e. Length e; ends = λ l r. Ends l r;
-    slot = λ what at p. record { what = what; span = at; place = p };
-    no_cases = []; with_case = λ cs c s. last cs (record { cond = c; slot = s });
-    slot_term = λ s. T.Slot s; set_term = λ x e. T.Set x e; test_term = λ at e. T.Test at e;
-    repeat_term = λ x a b i l r. T.Repeat x a b i l r; pick_term = λ at cs s. T.Pick at cs s;
-    no_terms = []; with_term = last;
-    no_local_alts = []; with_local_alt = λ las ts. last las (alt_of ts []);
-    no_locals = []; with_local = λ ls n las. last ls (rule_of n las);
-    no_alts = []; with_alt = λ alts ts ls. last alts (alt_of ts ls);
-    no_rules = []; with_rule = λ rs n alts. last rs (rule_of n alts);
-    blank = tt;
-    saw_rule = λ at log. tt; saw_local_alt = λ las at log. tt; saw_alt = λ alts at log. tt; saw_term = λ ts at log. tt; saw_expr = λ e at log. tt }
+  Expr = Expr;
+  Place = Place;
+  Slot = Slot;
+  Cases = List Case;
+  Term = Term;
+  Terms = List Term;
+  LocalAlts = List Alt;
+  Locals = List Rule;
+  Alts = List Alt;
+  Rules = List Rule;
+  Log = Unit {0};
+  num = λ z. E.Num z;
+  eoi = E.Eoi;
+  own = λ i. E.Id i;
+  part = λ i f. E.Part i f;
+  item = λ i e f. E.Item i e f;
+  group = λ e. E.Group e;
+  neg = λ e. E.Neg e;
+  isnt = λ e. E.Not e;
+  two = infix_expr;
+  choose = λ c at a b. E.Cond c a b;
+  anywhere = Open;
+  long = λ e. Length e;
+  ends = λ l r. Ends l r;
+  slot = λ what at p. record { what = what; span = at; place = p };
+  no_cases = [];
+  with_case = λ cs c s. last cs (record { cond = c; slot = s });
+  slot_term = λ s. T.Slot s;
+  set_term = λ x e. T.Set x e;
+  test_term = λ at e. T.Test at e;
+  repeat_term = λ x a b i l r. T.Repeat x a b i l r;
+  pick_term = λ at cs s. T.Pick at cs s;
+  no_terms = [];
+  with_term = last;
+  no_local_alts = [];
+  with_local_alt = λ las ts. last las (alt_of ts []);
+  no_locals = [];
+  with_local = λ ls n las. last ls (rule_of n las);
+  no_alts = [];
+  with_alt = λ alts ts ls. last alts (alt_of ts ls);
+  no_rules = [];
+  with_rule = λ rs n alts. last rs (rule_of n alts);
+  blank = tt;
+  saw_rule = λ at log. tt;
+  saw_local_alt = λ las at log. tt;
+  saw_alt = λ alts at log. tt;
+  saw_term = λ ts at log. tt;
+  saw_expr = λ e at log. tt;
+}
 
 -- ---- what a tree makes
 

@@ -1,0 +1,28 @@
+//! Laws of reading, each the contract of a function that does nothing.
+
+ghost use Rattle.ipg_syntax.specs.Laws.{OneGrammar, ReadsExactly, SyntaxPlace, LimitPlace, TokensFirst};
+
+/// A text reads as one grammar at most.
+pub fn one_grammar()
+    ensures { OneGrammar }
+{}
+
+/// The answer is a grammar exactly where the text reads as it within the limits.
+pub fn reads_exactly()
+    ensures { ReadsExactly }
+{}
+
+/// A fault of syntax stands exactly where no grammar goes on.
+pub fn syntax_place()
+    ensures { SyntaxPlace }
+{}
+
+/// A fault of a limit is the first limit that the grammar passes.
+pub fn limit_place()
+    ensures { LimitPlace }
+{}
+
+/// A fault of the tokens comes before all others.
+pub fn tokens_first()
+    ensures { TokensFirst }
+{}
