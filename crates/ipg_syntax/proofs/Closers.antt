@@ -1,12 +1,12 @@
 -- Each position has closing tokens that, put after the tokens taken, give a grammar.
-use Rattle.std.proofs.Common.{◌≡◌, ℕ, ◌+◌, ◌≤◌, List, [], ◌∷◌, ◌++◌, Option, Some, None, Result, Ok, Err, refl, ap, ◌∙◌, sym, subst, codes, arith, le_refl}
+use Rattle.std.proofs.Common.{◌≡◌, ℕ, ◌+◌, ◌≤◌, List, [], ◌∷◌, Result, Ok, Err, refl, ap, sym, subst, codes, arith, le_refl}
 use Rattle.ipg_ast.specs.declared.grammar.Ident.{Ident}
 use Rattle.ipg_ast.specs.declared.grammar.Span.{Span}
 use Rattle.ipg_ast.specs.declared.grammar.What.{What}
 use Rattle.ipg_ast.specs.declared.token.TokenKind.{TokenKind}
-use Rattle.ipg_ast.specs.declared.token.TokenKind.TheVariants.{Name, Word, Number, Text, Symbol}
+use Rattle.ipg_ast.specs.declared.token.TokenKind.TheVariants.{Name, Word, Text, Symbol}
 use Rattle.ipg_tokens.specs.declared.token.Token.{Token}
-use Rattle.ipg_syntax.specs.Classes.{level, Tok, class_of, classes}
+use Rattle.ipg_syntax.specs.Classes.{classes}
 use Rattle.ipg_syntax.specs.Written
 use Rattle.ipg_syntax.specs.Written.{Toks, ExprTree, TermTree}
 use Rattle.ipg_syntax.specs.Machine

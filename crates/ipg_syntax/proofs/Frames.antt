@@ -1,11 +1,10 @@
 -- What the frames of an expression do with the operand above them.
-use Rattle.std.proofs.Common.{◌≡◌, ℕ, ◌+◌, ◌≤◌, ◌<◌, suc, List, [], ◌∷◌, ◌++◌, Bool, true, false, cond, Some, refl, ap, ◌∙◌, sym, arith, lit≤}
+use Rattle.std.proofs.Common.{◌≡◌, ℕ, ◌+◌, ◌≤◌, ◌<◌, List, [], ◌∷◌, Bool, true, false, cond, Some, refl, ap, arith, lit≤}
 use Rattle.std.proofs.lemmas.Bool.{le-leb, lt-leb, true≢false}
-use Rattle.ipg_num.specs.declared.op.Op2.{Op2}
 use Rattle.ipg_num.specs.declared.op.Op2.TheVariants.{Add, Sub, Mul, Div, Mod, Shl, Shr, BitAnd, BitOr, BitXor, Eq, Ne, Lt, Le, Gt, Ge}
 use Rattle.ipg_syntax.specs.Classes.{Infix, either, both, op, level, Tok, sign, question, dot, left_paren}
-use Rattle.ipg_syntax.specs.Written.{Toks, prefix_level}
-use Rattle.ipg_syntax.specs.Machine.{Acts, Frame, neg, isnt, left, group, index, then_of, else_of, Closing, close, Base, still, expr, with_left, with_test, finished, have_move, name_move}
+use Rattle.ipg_syntax.specs.Written.{prefix_level}
+use Rattle.ipg_syntax.specs.Machine.{Acts, Frame, neg, isnt, left, group, index, then_of, else_of, close, Base, still, expr, with_left, with_test, finished, have_move, name_move}
 
 pub level_low : (i : Infix) → 1 ≤ level i
 level_low either = lit≤ tt

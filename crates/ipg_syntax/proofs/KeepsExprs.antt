@@ -1,11 +1,11 @@
 -- Within an expression each step keeps the levels, and stands for one token more.
-use Rattle.std.proofs.Common.{◌≡◌, ℕ, ◌+◌, ◌≤◌, ◌<◌, suc, List, [], ◌∷◌, ◌++◌, Bool, true, false, cond, nat_le, Option, Some, None, refl, ap, ◌∙◌, sym, arith, append_assoc, le_refl, le_trans, lit≤, zero-le}
+use Rattle.std.proofs.Common.{◌≡◌, ℕ, ◌+◌, ◌≤◌, ◌<◌, List, [], ◌∷◌, ◌++◌, Bool, true, false, cond, nat_le, refl, ap, ◌∙◌, sym, arith, append_assoc, le_refl, le_trans, lit≤}
 use Rattle.std.proofs.lemmas.Bool.{leb-true, leb-false}
 use Rattle.ipg_ast.specs.declared.grammar.Ident.{Ident}
 use Rattle.ipg_ast.specs.declared.grammar.Field.{Field}
 use Rattle.ipg_ast.specs.declared.grammar.Field.TheVariants.{Id as Attribute, Start, End}
 use Rattle.ipg_num.specs.declared.op.Op2.TheVariants.{Sub}
-use Rattle.ipg_syntax.specs.Classes.{Infix, op, level, Tok, name, number, sign, bang, question, colon, dot, left_paren, right_paren, start_word, end_word, eoi_word}
+use Rattle.ipg_syntax.specs.Classes.{op, level, Tok, name, number, sign, bang, question, colon, dot, left_paren, right_paren, start_word, end_word, eoi_word}
 use Rattle.ipg_syntax.specs.Written
 use Rattle.ipg_syntax.specs.Written.{Toks, ExprTree, field_tok, spell_expr, Stands, prefix_level}
 use Rattle.ipg_syntax.specs.Machine

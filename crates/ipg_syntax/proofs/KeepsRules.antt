@@ -1,14 +1,13 @@
 -- Each step of the machine keeps the levels, and stands for one token more; so what it takes is spelled by the tree that it gives.
-use Rattle.std.proofs.Common.{◌≡◌, ℕ, ◌+◌, List, [], ◌∷◌, ◌++◌, Option, Some, None, Result, Ok, Err, refl, ap, ◌∙◌, sym, append_assoc, append-nil}
-use Rattle.std.proofs.lemmas.Option.{none-some}
+use Rattle.std.proofs.Common.{◌≡◌, ℕ, List, [], ◌∷◌, ◌++◌, Option, Some, None, refl, ap, ◌∙◌, sym, append_assoc}
 use Rattle.ipg_ast.specs.declared.grammar.Ident.{Ident}
 use Rattle.ipg_num.specs.declared.op.Op2.TheVariants.{Div}
 use Rattle.ipg_syntax.specs.Classes.{op, Tok, name, sign, arrow, slash, semicolon, left_brace, right_brace, where_word}
-use Rattle.ipg_syntax.specs.Written.{Toks, TermTree, LocalTree, AltTree, RuleTree, spell_terms, spell_local_alts, spell_locals, spell_alt, spell_alts, spell, TermFits, TermsFit, LocalFits, AltFits, RuleFits, Fits, Each, Some_each}
+use Rattle.ipg_syntax.specs.Written.{Toks, TermTree, LocalTree, AltTree, spell_terms, spell_local_alts, spell_locals, spell_alt, spell_alts, spell, TermFits, TermsFit, LocalFits, AltFits, RuleFits, Each, Some_each}
 use Rattle.ipg_syntax.specs.Machine
 use Rattle.ipg_syntax.specs.Machine.{Head, Site, global, local, Pos, Part, State, Turn}
 use Rattle.ipg_syntax.specs.Making.{trees, last}
-use Rattle.ipg_syntax.proofs.Taken.{mark, head_before, where_before, site_before, part_before, pos_before, KeptHead, KeptSite, KeptPart, KeptPos, Next, PartNext, TurnNext, StateNext}
+use Rattle.ipg_syntax.proofs.Taken.{mark, head_before, where_before, site_before, part_before, pos_before, KeptSite, KeptPos, Next, PartNext, TurnNext, StateNext}
 use Rattle.ipg_syntax.proofs.Lasts.{some_last, some_each, terms_last, locals_last, local_alts_last, alts_last, rules_last}
 use Rattle.ipg_syntax.proofs.KeepsTerms.{opening_keeps, part_move_keeps}
 

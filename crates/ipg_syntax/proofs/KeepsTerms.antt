@@ -1,5 +1,5 @@
 -- Within a term each step keeps the levels, and stands for one token more.
-use Rattle.std.proofs.Common.{◌≡◌, ℕ, ◌+◌, ◌≤◌, List, [], ◌∷◌, ◌++◌, Option, Some, None, refl, ap, ◌∙◌, sym, append_assoc, le_refl, le_of_lt, lit≤}
+use Rattle.std.proofs.Common.{◌≡◌, ℕ, ◌≤◌, List, [], ◌∷◌, ◌++◌, Option, Some, None, refl, ap, ◌∙◌, sym, append_assoc, le_of_lt, lit≤}
 use Rattle.ipg_ast.specs.declared.grammar.Ident.{Ident}
 use Rattle.ipg_ast.specs.declared.grammar.Span.{Span}
 use Rattle.ipg_ast.specs.declared.grammar.What.{What}
@@ -9,8 +9,8 @@ use Rattle.ipg_syntax.specs.Written.{Toks, ExprTree, SlotTree, CaseTree, TermTre
 use Rattle.ipg_syntax.specs.Machine
 use Rattle.ipg_syntax.specs.Machine.{Frame, group, index, then_of, close, Closing, Inner, want, have, Base, SlotUse, alone, chosen, other, Part, Turn, still}
 use Rattle.ipg_syntax.specs.Making.{trees, last}
-use Rattle.ipg_syntax.proofs.Frames.{need, level_high}
-use Rattle.ipg_syntax.proofs.Taken.{frames_before, inner_before, use_before, base_before, part_before, KeptFrames, KeptInner, KeptUse, KeptBase, KeptPart, Next, InnerNext, PartNext, TermDone, TermPassed, TurnNext}
+use Rattle.ipg_syntax.proofs.Frames.{level_high}
+use Rattle.ipg_syntax.proofs.Taken.{frames_before, inner_before, use_before, base_before, part_before, KeptFrames, KeptInner, KeptUse, KeptBase, KeptPart, Next, InnerNext, PartNext, TurnNext}
 use Rattle.ipg_syntax.proofs.KeepsExprs.{Closed, closes, need_high, need_none, want_keeps, part_keeps, item_keeps, dot_keeps}
 use Rattle.ipg_syntax.proofs.Lasts.{some_last, some_each, cases_last}
 

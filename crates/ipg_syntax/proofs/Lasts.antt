@@ -1,6 +1,6 @@
 -- Lists with one more member at the end: their tokens, and what each member keeps.
-use Rattle.std.proofs.Common.{◌≡◌, List, [], ◌∷◌, ◌++◌, refl, ap, ◌∙◌, sym, append_assoc}
-use Rattle.ipg_syntax.specs.Classes.{Tok, arrow, slash}
+use Rattle.std.proofs.Common.{◌≡◌, List, [], ◌∷◌, ◌++◌, ap, ◌∙◌, sym, append_assoc}
+use Rattle.ipg_syntax.specs.Classes.{arrow, slash}
 use Rattle.ipg_syntax.specs.Written.{Toks, CaseTree, TermTree, LocalTree, AltTree, RuleTree, spell_case, spell_cases, spell_term, spell_terms, spell_local_alts, spell_local, spell_locals, spell_alt, spell_alts, spell_rule, spell, Each, Some_each}
 use Rattle.ipg_syntax.specs.Making.{last}
 use Rattle.ipg_syntax.proofs.Taken.{mark}

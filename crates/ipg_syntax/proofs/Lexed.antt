@@ -1,5 +1,5 @@
 -- The tokens of a text fail only by what the lexer finds.
-use Rattle.std.proofs.Common.{◌≡◌, ℕ, zero, suc, ◌+◌, ◌-◌, ◌^◌, List, [], ◌∷◌, Bool, true, false, Result, Ok, Err, nat_lt, length, refl, ap, ◌∙◌, sym, subst, cond}
+use Rattle.std.proofs.Common.{ℕ, zero, suc, ◌+◌, ◌-◌, ◌^◌, List, [], ◌∷◌, Bool, true, false, Ok, Err, nat_lt, length, cond}
 use Rattle.ipg_tokens.specs.Lexical.{Lexed, lexed, beginning, front_at, token_first, large_first, tokens_of}
 use Rattle.ipg_tokens.specs.declared.token.Token.{Token}
 use Rattle.ipg_tokens.specs.declared.fault.ReadFault.{ReadFault}

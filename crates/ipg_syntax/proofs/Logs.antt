@@ -3,7 +3,7 @@ use Rattle.std.proofs.Common.{ℕ, ◌+◌, List, [], ◌∷◌}
 use Rattle.ipg_syntax.specs.Written.{ExprTree, PlaceTree, anywhere, long, ends, SlotTree, CaseTree, TermTree, slot_term, set_term, test_term, repeat_term, pick_term, LocalTree, AltTree, RuleTree, spell_expr, spell_case, spell_cases, spell_term, spell_terms, spell_local, spell_alt, spell_rule}
 use Rattle.ipg_syntax.specs.Limits.{past}
 use Rattle.ipg_syntax.specs.Machine.{Acts}
-use Rattle.ipg_syntax.specs.Making.{expr_by, slot_by, term_by, terms_by, local_alts_by, locals_by}
+use Rattle.ipg_syntax.specs.Making.{expr_by, term_by, terms_by, locals_by}
 
 module _ (A : Acts) where
   abbrev pub log_expr : ℕ → ExprTree → A.Log → A.Log

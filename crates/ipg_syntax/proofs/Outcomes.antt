@@ -1,20 +1,18 @@
 -- The three ways that reading a text may end.
-use Rattle.std.proofs.Common.{◌≡◌, ℕ, suc, ◌+◌, List, [], ◌∷◌, ◌++◌, length, Option, Some, None, Result, Ok, Err, refl, ap, ◌∙◌, sym, ap₂, unwrap_or, subst, append_assoc, append-nil, arith}
+use Rattle.std.proofs.Common.{◌≡◌, ℕ, List, [], ◌∷◌, ◌++◌, length, Some, None, Result, Ok, Err, refl, ap, ◌∙◌, sym, ap₂, unwrap_or, subst, append_assoc, append-nil, arith}
 use Rattle.std.proofs.lemmas.Option.{none-some}
-use Rattle.ipg_ast.specs.declared.grammar.Grammar.{Grammar}
 use Rattle.ipg_tokens.specs.Lexical.{tokens_of}
 use Rattle.ipg_tokens.specs.declared.token.Token.{Token}
 use Rattle.ipg_tokens.specs.declared.fault.ReadFault.{ReadFault}
 use Rattle.ipg_tokens.specs.declared.fault.ReadFault.TheVariants.{Syntax}
-use Rattle.ipg_syntax.specs.Classes.{Tok, class_of, classes}
+use Rattle.ipg_syntax.specs.Classes.{class_of, classes}
 use Rattle.ipg_syntax.specs.Written.{Toks, RuleTree, Fits, spell}
 use Rattle.ipg_syntax.specs.Limits.{sizes, first_over}
-use Rattle.ipg_syntax.specs.Machine.{Acts, Read, State, verdict, start_state}
+use Rattle.ipg_syntax.specs.Machine.{Read, State, verdict, start_state}
 use Rattle.ipg_syntax.specs.Counting.{counters}
-use Rattle.ipg_syntax.specs.Making.{trees, made, grammar_of, rules_by}
+use Rattle.ipg_syntax.specs.Making.{trees, made, grammar_of}
 use Rattle.ipg_syntax.specs.Reading.{ReadsTree, place_of, tokens_answer, counted_answer, within_answer, made_answer, read_of}
 use Rattle.ipg_syntax.specs.Laws.{IsGrammar, Begins, EndsBefore, first_place, Breaks}
-use Rattle.ipg_syntax.proofs.Logs.{log_rules}
 use Rattle.ipg_syntax.proofs.TakesRules.{takes}
 use Rattle.ipg_syntax.proofs.Plain.{fault, same_fault}
 use Rattle.ipg_syntax.proofs.Runs.{OnGood, OnBad, Spelled, Stuck, run_spelled, run_stuck}

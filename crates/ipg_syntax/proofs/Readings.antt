@@ -11,7 +11,7 @@ use Rattle.ipg_syntax.specs.Written.{RuleTree, spell}
 use Rattle.ipg_syntax.specs.Limits.{Over, sizes, first_over}
 use Rattle.ipg_syntax.specs.Machine.{Read, verdict, start_state}
 use Rattle.ipg_syntax.specs.Making.{trees, grammar_of}
-use Rattle.ipg_syntax.specs.Reading.{ReadsTree, Reads, ReadsWithin, place_of, tokens_answer, within_answer, read_of}
+use Rattle.ipg_syntax.specs.Reading.{ReadsTree, ReadsWithin, place_of, tokens_answer, within_answer, read_of}
 use Rattle.ipg_syntax.specs.Laws.{IsGrammar, Begins, EndsBefore, first_place, Breaks, PassesLimit, OneGrammar, ReadsExactly, SyntaxPlace, LimitPlace, TokensFirst}
 use Rattle.ipg_syntax.proofs.Lexed.{OfTokens, FailsByTokens, tokens_fail}
 use Rattle.ipg_syntax.proofs.Outcomes.{Outcome, by_tokens, by_syntax, by_tree, outcome, tree_taken, grammar_answer, made_grammar}

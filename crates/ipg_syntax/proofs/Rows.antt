@@ -1,14 +1,13 @@
 -- Rows of the language's description, computed.
-use Rattle.std.proofs.Common.{◌≡◌, ℕ, zero, List, [], ◌∷◌, Option, Some, None, Result, Ok, Err, Bool, true, false, pos, refl, codes}
-use Rattle.ipg_num.specs.declared.op.Op2.TheVariants.{Add, Sub, Mul, BitOr, Eq}
-use Rattle.ipg_tokens.specs.declared.fault.ReadFault.TheVariants.{Syntax, Lex}
+use Rattle.std.proofs.Common.{◌≡◌, ℕ, List, [], ◌∷◌, Result, Ok, Err, Bool, true, false, pos, refl, codes}
+use Rattle.ipg_num.specs.declared.op.Op2.TheVariants.{Sub, Mul, BitOr, Eq}
+use Rattle.ipg_tokens.specs.declared.fault.ReadFault.TheVariants.{Syntax}
 use Rattle.ipg_tokens.specs.declared.fault.ReadFault.{ReadFault}
 use Rattle.ipg_ast.specs.declared.grammar.Grammar.{Grammar}
-use Rattle.ipg_ast.specs.declared.grammar.Span.{Span}
 use Rattle.ipg_tokens.specs.Lexical.{tokens_of}
 use Rattle.ipg_tokens.specs.declared.token.Token.{Token}
-use Rattle.ipg_syntax.specs.Classes.{classes, either, both, op}
-use Rattle.ipg_syntax.specs.Written.{ExprTree, TermTree, RuleTree, AltTree, num, group, two, choose, test_term, neg}
+use Rattle.ipg_syntax.specs.Classes.{classes, either, op}
+use Rattle.ipg_syntax.specs.Written.{ExprTree, TermTree, RuleTree, AltTree, num, two, choose, test_term, neg}
 use Rattle.ipg_syntax.specs.Machine.{Read, verdict, start_state}
 use Rattle.ipg_syntax.specs.Making.{trees}
 use Rattle.ipg_syntax.specs.Reading.{read_of}

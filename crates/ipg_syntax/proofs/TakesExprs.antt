@@ -1,9 +1,9 @@
 -- The machine takes each expression that stands at its level.
-use Rattle.std.proofs.Common.{◌≡◌, ℕ, ◌+◌, ◌≤◌, List, [], ◌∷◌, ◌++◌, false, refl, ap, ◌∙◌, sym, arith, append_assoc, le_refl, le_trans, lit≤}
+use Rattle.std.proofs.Common.{◌≡◌, ℕ, ◌+◌, ◌≤◌, List, [], ◌∷◌, ◌++◌, refl, ap, ◌∙◌, sym, arith, append_assoc, le_refl, le_trans, lit≤}
 use Rattle.ipg_ast.specs.declared.grammar.Ident.{Ident}
 use Rattle.ipg_ast.specs.declared.grammar.Field.{Field}
 use Rattle.ipg_ast.specs.declared.grammar.Field.TheVariants.{Id as Attribute, Start, End}
-use Rattle.ipg_syntax.specs.Classes.{level, Tok, name, number, eoi_word, sign, bang, question, colon, dot, left_paren, right_paren, minus}
+use Rattle.ipg_syntax.specs.Classes.{level, Tok, name, sign, question, colon, dot, right_paren}
 use Rattle.ipg_syntax.specs.Written.{Toks, ExprTree, num, eoi, own, part, item, group, neg, isnt, two, choose, field_tok, spell_expr, Stands, prefix_level}
 use Rattle.ipg_syntax.specs.Limits.{past}
 use Rattle.ipg_syntax.specs.Machine

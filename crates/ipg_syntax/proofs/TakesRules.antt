@@ -1,10 +1,10 @@
 -- The machine takes each rule, and so each grammar.
 use Rattle.std.proofs.Common.{◌≡◌, ℕ, ◌+◌, List, [], ◌∷◌, ◌++◌, Bool, true, false, Ok, refl, ap, ◌∙◌, sym, append_assoc}
 use Rattle.ipg_ast.specs.declared.grammar.Ident.{Ident}
-use Rattle.ipg_syntax.specs.Classes.{Tok, name, arrow, slash, semicolon, left_brace, right_brace, where_word}
+use Rattle.ipg_syntax.specs.Classes.{Tok, slash, semicolon, right_brace}
 use Rattle.ipg_syntax.specs.Written.{Toks, TermTree, LocalTree, AltTree, RuleTree, spell_terms, spell_local_alts, spell_local, spell_locals, spell_where, spell_alt, spell_alts, spell_rule, spell, TermsFit, LocalFits, AltFits, RuleFits, Fits, Each, Some_each}
 use Rattle.ipg_syntax.specs.Limits.{past}
-use Rattle.ipg_syntax.specs.Machine.{Acts, Head, Site, global, local, Pos, State, start, between, local_named, before_term, after_term, before_local, after_local, after_where, with_alt, verdict, start_state}
+use Rattle.ipg_syntax.specs.Machine.{Acts, Head, global, local, Pos, State, between, before_term, after_term, after_local, after_where, with_alt, verdict, start_state}
 use Rattle.ipg_syntax.specs.Making.{terms_by, local_alts_by, locals_by, alts_by, rules_by}
 use Rattle.ipg_syntax.proofs.TakesExprs.{past_append}
 use Rattle.ipg_syntax.proofs.TakesTerms.{NoBracket, takes_alt_terms}

@@ -1,17 +1,16 @@
 -- The machine takes each term.
-use Rattle.std.proofs.Common.{◌≡◌, ℕ, ◌+◌, ◌≤◌, List, [], ◌∷◌, ◌++◌, Option, Some, None, Result, Bool, true, false, true≢false, refl, ap, ◌∙◌, sym, append_assoc, le_refl, subst}
-use Rattle.ipg_ast.specs.declared.grammar.Ident.{Ident}
+use Rattle.std.proofs.Common.{◌≡◌, ℕ, ◌+◌, List, [], ◌∷◌, ◌++◌, Some, Bool, true, false, true≢false, refl, ap, ◌∙◌, sym, append_assoc, le_refl, subst}
 use Rattle.ipg_ast.specs.declared.grammar.Span.{Span}
 use Rattle.ipg_ast.specs.declared.grammar.What.{What}
 use Rattle.ipg_ast.specs.declared.grammar.What.TheVariants.{Text, Call}
-use Rattle.ipg_syntax.specs.Classes.{Tok, name, text, sign, question, dot, comma, equals, left_paren, right_paren, left_bracket, right_bracket, left_brace, right_brace, for_word, to_word, do_word, switch_word, case_word, else_word}
+use Rattle.ipg_syntax.specs.Classes.{Tok, name, comma, right_paren, left_bracket, right_bracket, right_brace, to_word, do_word, else_word}
 use Rattle.ipg_syntax.specs.Written.{Toks, ExprTree, PlaceTree, anywhere, long, ends, SlotTree, CaseTree, TermTree, slot_term, set_term, test_term, repeat_term, pick_term, what_tok, spell_expr, spell_place, spell_slot, spell_case, spell_cases, spell_term, spell_terms, Stands, PlaceFits, SlotFits, CaseFits, TermFits, TermsFit, Each, Some_each}
 use Rattle.ipg_syntax.specs.Limits.{past}
 use Rattle.ipg_syntax.specs.Machine
 use Rattle.ipg_syntax.specs.Machine.{Acts, want, have, Base, SlotUse, alone, chosen, other, Site, State, Turn, in_term, after_term, slot_named, slot_due, next_case, pick_close, expr, turned, onward, slot_done, slot_passed, slot_move, verdict}
 use Rattle.ipg_syntax.specs.Making.{expr_by, place_by, slot_by, cases_by, term_by, terms_by}
 use Rattle.ipg_syntax.proofs.Frames.{Ends}
-use Rattle.ipg_syntax.proofs.TakesExprs.{inside, takes_expr, past_append}
+use Rattle.ipg_syntax.proofs.TakesExprs.{takes_expr, past_append}
 use Rattle.ipg_syntax.proofs.Logs.{log_expr, log_place, log_slot, log_case, log_cases, log_term, log_terms}
 
 abbrev pub is_bracket : Tok → Bool

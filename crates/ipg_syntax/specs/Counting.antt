@@ -1,5 +1,5 @@
 -- The actions that only count, each count up to one past its limit, and keep the first limit passed.
-use Rattle.std.specs.Prelude.{ℕ, ◌+◌, Bool, Option, Some, None, min, max, nat_lt, ⊤, if◌then◌else◌}
+use Rattle.std.specs.Prelude.{ℕ, ◌+◌, Option, Some, None, min, max, if◌then◌else◌}
 use Rattle.ipg_tokens.specs.declared.fault.Which.{Which}
 use Rattle.ipg_tokens.specs.declared.fault.Which.TheVariants.{Rules, Alternatives, Terms, Depth}
 use Rattle.ipg_syntax.specs.Limits.{limit, Over, Size, is_over}

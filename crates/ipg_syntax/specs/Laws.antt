@@ -1,5 +1,5 @@
 -- What the answer for a text is, in the words of the grammar of grammars.
-use Rattle.std.specs.Prelude.{◌≡◌, ℕ, List, [], ◌∷◌, ◌++◌, length, Option, Some, Result, Ok, Err, ◌↔◌}
+use Rattle.std.specs.Prelude.{◌≡◌, ℕ, List, [], ◌∷◌, ◌++◌, length, Some, Ok, Err, ◌↔◌}
 use Rattle.ipg_ast.specs.declared.grammar.Grammar.{Grammar}
 use Rattle.ipg_tokens.specs.Lexical.{tokens_of}
 use Rattle.ipg_tokens.specs.declared.token.Token.{Token}
@@ -8,7 +8,7 @@ use Rattle.ipg_tokens.specs.declared.fault.ReadFault.TheVariants.{Syntax, Limit}
 use Rattle.ipg_tokens.specs.declared.fault.Which.{Which}
 use Rattle.ipg_syntax.specs.Classes.{classes}
 use Rattle.ipg_syntax.specs.Written.{RuleTree, Fits, spell}
-use Rattle.ipg_syntax.specs.Limits.{Over, sizes, first_over}
+use Rattle.ipg_syntax.specs.Limits.{sizes, first_over}
 use Rattle.ipg_syntax.specs.Reading.{ReadsTree, Reads, ReadsWithin, place_of, read_of}
 
 -- the tokens are those of a grammar, whatever its size

@@ -1,5 +1,5 @@
 -- The machine that reads a grammar token by token, with an explicit stack; what it makes is left to the actions that it is given.
-use Rattle.std.specs.Prelude.{ℕ, ◌+◌, Bool, List, [], ◌∷◌, ℤ, Option, Some, None, Result, Ok, Err, nat_le, if◌then◌else◌}
+use Rattle.std.specs.Prelude.{ℕ, ◌+◌, List, [], ◌∷◌, ℤ, Option, Some, None, Result, Ok, Err, nat_le, if◌then◌else◌}
 use Rattle.ipg_num.specs.declared.op.Op2.TheVariants.{Sub, Div}
 use Rattle.ipg_ast.specs.declared.grammar.Ident.{Ident}
 use Rattle.ipg_ast.specs.declared.grammar.Span.{Span}

@@ -1,7 +1,6 @@
 -- The actions that make trees, those that make the public types, and what a tree makes by any actions.
-use Rattle.std.specs.Prelude.{ℕ, List, [], ◌∷◌, ◌++◌}
+use Rattle.std.specs.Prelude.{List, [], ◌∷◌, ◌++◌}
 use Rattle.ipg_ast.specs.declared.grammar.Ident.{Ident}
-use Rattle.ipg_ast.specs.declared.grammar.Span.{Span}
 use Rattle.ipg_ast.specs.declared.grammar.Expr.{Expr}
 use Rattle.ipg_ast.specs.declared.grammar.Expr.TheVariants as E
 use Rattle.ipg_ast.specs.declared.grammar.Place.{Place}
