@@ -1,3 +1,4 @@
 -- What the public contracts rest on.
 pub mod Spelling
 pub mod Canonical
+pub mod Shape

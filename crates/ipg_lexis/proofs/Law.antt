@@ -10,12 +10,9 @@ use Rattle.ipg_tokens.specs.declared.front.Front.{Front}
 use Rattle.ipg_tokens.specs.declared.class.Class.{Class}
 use Rattle.ipg_tokens.specs.declared.class.Class.TheVariants.{Naming, Digit, Hexadecimal}
 use Rattle.ipg_lexis.specs.Forms.{all_of, is_hexadecimal_number, closes_at, is_symbol, has_form, NoneFrom, IsLongest, Taken, TakesTheLongest}
+use Rattle.ipg_lexis.proofs.Bytes.{both, choose}
 use Rattle.ipg_lexis.proofs.Runs.{all_within, none_beyond}
 use Rattle.ipg_lexis.proofs.Texts.{by_order, cut, cut_yes, cut_no, quoted_cut}
-
-choose : {A : Type 0} (P : A → Type 0) (c : Bool) (x y : A) → (c ≡ true → P x) → (c ≡ false → P y) → P (if c then x else y)
-choose P c x y f g =
-    (elim c as (λ v. (v ≡ true → P x) → (v ≡ false → P y) → P (if v then x else y)) [ true ↦ λ h k. h refl | false ↦ λ h k. k refl ]) f g
 
 or_cases : {P : Type 0} (a c : Bool) → (a || c) ≡ true → (a ≡ true → P) → (c ≡ true → P) → P
 or_cases {P = P} a c e f g = (elim a as (λ v. (v || c) ≡ true → (v ≡ true → P) → P) [ true ↦ λ d h. h refl | false ↦ λ d h. g d ]) e f
@@ -24,14 +21,6 @@ no_more : (a b : Bool) (c : Bool) → (a && b) ≡ false → (a && (b && c)) ≡
 no_more true true c e = absurd (true≢false e)
 no_more true false c e = refl
 no_more false b c e = refl
-
-first_of_two : (a b : Bool) → (a && b) ≡ true → a ≡ true
-first_of_two true b e = refl
-first_of_two false b e = e
-
-second_of_two : (a b : Bool) → (a && b) ≡ true → b ≡ true
-second_of_two true b e = e
-second_of_two false b e = absurd (true≢false (sym e))
 
 or_true : (a : Bool) → (a || true) ≡ true
 or_true true = refl
@@ -96,7 +85,7 @@ hexadecimal_yes b x c r cs marks all =
 
 hexadecimal_no : (b x c m : ℕ) (cs : List ℕ) → (b == 48 && x == 120) ≡ true → all_of Hexadecimal (c ∷ take m cs) ≡ false → NumberForm b (x ∷ c ∷ take m cs) ≡ false
 hexadecimal_no b x c m cs marks none =
-    let not_digit : is_digit x ≡ false = subst (λ y. is_digit y ≡ false) (sym (eqb-true x 120 (second_of_two (b == 48) (x == 120) marks))) refl in
+    let not_digit : is_digit x ≡ false = subst (λ y. is_digit y ≡ false) (sym (eqb-true x 120 (both (b == 48) (x == 120) marks).1)) refl in
     ap (λ v. (v && all_of Digit (c ∷ take m cs)) || ((b == 48 && x == 120) && all_of Hexadecimal (c ∷ take m cs))) not_digit
     ∙ ap (λ v. v && all_of Hexadecimal (c ∷ take m cs)) marks ∙ none
 
@@ -111,8 +100,8 @@ hexadecimal_longest : (b : ℕ) (bs : List ℕ) → is_letter b ≡ false → is
 hexadecimal_longest b [] letter digit marked = absurd (true≢false (sym marked))
 hexadecimal_longest b (x ∷ []) letter digit marked = absurd (true≢false (sym marked))
 hexadecimal_longest b (x ∷ c ∷ cs) letter digit marked =
-    let marks : (b == 48 && x == 120) ≡ true = first_of_two (b == 48 && x == 120) (is_hexadecimal c) marked in
-    let hex : is_hexadecimal c ≡ true = second_of_two (b == 48 && x == 120) (is_hexadecimal c) marked in
+    let marks : (b == 48 && x == 120) ≡ true = (both (b == 48 && x == 120) (is_hexadecimal c) marked).0 in
+    let hex : is_hexadecimal c ≡ true = (both (b == 48 && x == 120) (is_hexadecimal c) marked).1 in
     let r = run Hexadecimal cs in
     let count : suc r ≡ run Hexadecimal (c ∷ cs) = one_run Hexadecimal c cs hex in
     let width : suc (suc (suc r)) ≡ run Hexadecimal (c ∷ cs) + 2 = omega (arith, count) in
