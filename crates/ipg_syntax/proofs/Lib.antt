@@ -1,10 +1,10 @@
 mod Rows
-mod Frames
+pub mod Frames
 mod TakesExprs
 mod Logs
 mod TakesTerms
 mod TakesRules
-mod Plain
+pub mod Plain
 mod Taken
 mod KeepsExprs
 mod Lasts
