@@ -4,6 +4,7 @@ mod TakesExprs
 mod Logs
 mod TakesTerms
 mod TakesRules
+pub mod Maps
 pub mod Plain
 mod Taken
 mod KeepsExprs
@@ -17,3 +18,4 @@ mod Counts
 mod Lexed
 mod Outcomes
 mod Readings
+mod Images
