@@ -19,3 +19,4 @@ mod Lexed
 mod Outcomes
 mod Readings
 mod Images
+mod Bares
