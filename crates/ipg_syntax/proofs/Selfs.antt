@@ -24,7 +24,7 @@ self_slot : (s : SlotTree) → slot_by trees s ≡ s
 self_slot s = ap (λ p. record { what = s.what; span = s.span; place = p }) (self_place s.place)
 
 -- one member more, then the others
-moved : {A : Type 0} (before : List A) (x y : A) (rest : List A) → x ≡ y → last before x ++ rest ≡ before ++ (y ∷ rest)
+pub moved : {A : Type 0} (before : List A) (x y : A) (rest : List A) → x ≡ y → last before x ++ rest ≡ before ++ (y ∷ rest)
 moved before x y rest same = append_assoc before (x ∷ []) rest ∙ ap (λ z. before ++ (z ∷ rest)) same
 
 self_cases : (before cs : List CaseTree) → cases_by trees before cs ≡ before ++ cs
