@@ -20,3 +20,4 @@ mod Outcomes
 mod Readings
 mod Images
 mod Bares
+mod Spelt
