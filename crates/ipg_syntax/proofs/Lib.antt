@@ -21,3 +21,4 @@ mod Readings
 mod Images
 mod Bares
 mod Spelt
+mod Kinded
