@@ -22,3 +22,4 @@ mod Images
 mod Bares
 mod Spelt
 mod Kinded
+mod Forms
