@@ -1,5 +1,5 @@
 -- The trees of well formed grammars fit, and pass no limit.
-use Rattle.std.proofs.Common.{◌≡◌, ℕ, suc, ◌+◌, ◌≤◌, ◌<◌, max, Bool, true, false, cond, ◌&&◌, nat_le, nat_lt, List, [], ◌∷◌, ◌++◌, length, Option, Some, None, refl, ap, ap₂, ◌∙◌, sym, subst, arith, sum_by}
+use Rattle.std.proofs.Common.{◌≡◌, ℕ, suc, ◌+◌, ◌≤◌, ◌<◌, max, true, false, cond, ◌&&◌, nat_le, List, [], ◌∷◌, ◌++◌, length, Some, None, refl, ap, ap₂, ◌∙◌, sym, subst, arith, sum_by}
 use Rattle.std.proofs.lemmas.Bool.{leb-true, le-leb, le-ltb, and_parts}
 use Rattle.std.specs.List.{AllByRecursion}
 use Rattle.std.proofs.lemmas.List.Sums.{sum_by_from}
@@ -9,17 +9,15 @@ use Rattle.ipg_ast.specs.declared.grammar.Expr.{Expr}
 use Rattle.ipg_ast.specs.declared.grammar.Expr.TheOpen.{Expr-F}
 use Rattle.ipg_ast.specs.declared.grammar.Expr.TheFolds.{fold-roll-Expr}
 use Rattle.ipg_ast.specs.declared.grammar.Expr.TheVariants.{rolls-Num, rolls-Eoi, rolls-Id, rolls-Part, rolls-Item, rolls-Group, rolls-Neg, rolls-Not, rolls-Two, rolls-Both, rolls-Either, rolls-Cond}
-use Rattle.ipg_ast.specs.declared.grammar.Alt.{Alt, out-Alt, out-roll-Alt}
-use Rattle.ipg_ast.specs.declared.grammar.Rule.{Rule, out-Rule, out-roll-Rule}
-use Rattle.ipg_ast.specs.declared.grammar.Term.{Term}
+use Rattle.ipg_ast.specs.declared.grammar.Alt.{out-roll-Alt}
+use Rattle.ipg_ast.specs.declared.grammar.Rule.{out-Rule, out-roll-Rule}
 use Rattle.ipg_ast.specs.Shape.{Form, alone, stands, prefixed, infixed, form_step, form_of, level_of, IsFilled, IsFormedExpr, IsFormedPlace, IsFormedSlot, IsFormedCase, IsFormedTerm, IsFormedTerms, IsFormedLocalAlt, IsFormedLocal, IsFormedAlt, IsFormedRule, IsFormed, rules_in, count_rules}
 use Rattle.ipg_ast.specs.Shape
-use Rattle.ipg_tokens.specs.declared.fault.Which.TheVariants.{Rules, Alternatives, Terms, Depth}
 use Rattle.ipg_syntax.specs.Classes.{Infix, either, both, op, level, op_level}
-use Rattle.ipg_syntax.specs.Written.{ExprTree, num, eoi, own, part, item, group, neg, isnt, two, choose, PlaceTree, anywhere, long, ends, SlotTree, CaseTree, TermTree, slot_term, set_term, test_term, repeat_term, pick_term, LocalTree, AltTree, RuleTree, spell_expr, spell_case, spell_cases, spell_term, spell_terms, spell_local, spell_alt, spell_rule, Stands, prefix_level, Each, Some_each, PlaceFits, SlotFits, CaseFits, TermFits, TermsFit, LocalFits, AltFits, RuleFits, Fits}
-use Rattle.ipg_syntax.specs.Limits.{Size, Over, past, depth, limit, is_over, first_over, expr_size, place_sizes, slot_sizes, case_sizes, cases_sizes, term_sizes, terms_sizes, local_alts_sizes, locals_sizes, alt_sizes, alts_sizes, locals_in, rules_sizes, sizes}
+use Rattle.ipg_syntax.specs.Written.{ExprTree, num, eoi, own, part, item, group, neg, isnt, two, choose, PlaceTree, anywhere, long, ends, CaseTree, TermTree, slot_term, set_term, test_term, repeat_term, pick_term, LocalTree, AltTree, RuleTree, spell_expr, spell_case, spell_cases, spell_term, spell_terms, spell_local, spell_alt, spell_rule, Stands, prefix_level, Each, Some_each, PlaceFits, CaseFits, TermFits, TermsFit, LocalFits, AltFits, RuleFits, Fits}
+use Rattle.ipg_syntax.specs.Limits.{Size, past, depth, is_over, first_over, expr_size, place_sizes, slot_sizes, case_sizes, cases_sizes, term_sizes, terms_sizes, local_alts_sizes, locals_sizes, alt_sizes, alts_sizes, locals_in, rules_sizes, sizes}
 use Rattle.ipg_syntax.specs.Bare.{every}
-use Rattle.ipg_syntax.specs.Making.{made, infix_expr, alt_of, rule_of, expr_by, place_by, slot_by, cases_by, term_by, grammar_of}
+use Rattle.ipg_syntax.specs.Making.{made, infix_expr, expr_by, place_by, term_by, grammar_of}
 use Rattle.ipg_syntax.proofs.Images.{made_case, made_local_alt, made_local, made_alt, made_rule, cases_made, grammar_made}
 
 -- ---- expressions
@@ -35,8 +33,10 @@ form_tree (neg e) = prefixed (form_tree e)
 form_tree (isnt e) = prefixed (form_tree e)
 form_tree (two i a b) = infixed (level i) (form_tree a) (form_tree b)
 form_tree (choose c at a b) = record {
-    level = 0; depth = max (form_tree c).depth (max (form_tree a).depth (form_tree b).depth) + 1;
-    fits = stands 1 (form_tree c) && ((form_tree a).fits && (form_tree b).fits) }
+  level = 0;
+  depth = max (form_tree c).depth (max (form_tree a).depth (form_tree b).depth) + 1;
+  fits = stands 1 (form_tree c) && ((form_tree a).fits && (form_tree b).fits);
+}
 
 same_level : (o : Op2) → level_of o ≡ op_level o
 same_level Add = refl
@@ -213,7 +213,7 @@ local_alts_formed n at [] formed few = (tt, tt)
 local_alts_formed n at (ts ∷ las) formed few =
     let next : ℕ = past (at + 1) (spell_terms ts) in
     let terms : IsFormedTerms (every (term_by made) ts) =
-        subst IsFormedTerms (ap (λ a. a.terms) (out-roll-Alt (record { terms = every (term_by made) ts; locals = [] }))) formed.0.terms in
+    subst IsFormedTerms (ap (λ a. a.terms) (out-roll-Alt (record { terms = every (term_by made) ts; locals = [] }))) formed.0.terms in
     let first = all_terms_formed (at + 1) ts terms in
     let fewer : n + 1 + length las ≤ 64 = omega (arith, few) in
     let rest = local_alts_formed (n + 1) next las formed.1 fewer in
@@ -277,14 +277,15 @@ rules_formed k at [] formed few = (tt, tt)
 rules_formed k at (r ∷ rs) formed few =
     let next : ℕ = past at (spell_rule r) in
     let counted : count_rules (every made_rule (r ∷ rs)) ≡ 0 + (locals_in r.alts + 1) + count_rules (every made_rule rs) =
-        sum_by_from rules_in (0 + rules_in (made_rule r)) (every made_rule rs) ∙ ap (λ n. 0 + n + count_rules (every made_rule rs)) (rule_counted r) in
+    sum_by_from rules_in (0 + rules_in (made_rule r)) (every made_rule rs) ∙ ap (λ n. 0 + n + count_rules (every made_rule rs)) (rule_counted r) in
     let shown : (out-Rule (made_rule r)).alts ≡ every made_alt r.alts = ap (λ x. x.alts) (out-roll-Rule (record { name = r.head; alts = every made_alt r.alts })) in
     let count : IsFilled 64 (every made_alt r.alts) = subst (IsFilled 64) shown formed.0.count in
     let alts = alts_formed (k + 1) 0 (at + 1) r.alts (subst (AllByRecursion IsFormedAlt) shown formed.0.each)
-        (omega (arith, count.1, length_every made_alt r.alts)) (omega (arith, few, counted)) in
-    let rest = rules_formed (k + 1 + locals_in r.alts) next rs formed.1 (omega (arith, few, counted)) in
-    ((some_from made_alt AltFits r.alts count.0 alts.0, rest.0),
-    (le-ltb 1024 (k + 1) (omega (arith, few, counted)), within_append (alts_sizes (k + 1) 0 (at + 1) r.alts) (rules_sizes (k + 1 + locals_in r.alts) next rs) alts.1 rest.1))
+    (omega (arith, count.1, length_every made_alt r.alts)) (omega (arith, few, counted)) in
+    let rest = rules_formed (k + 1 + locals_in r.alts) next rs formed.1 (omega (arith, few, counted)) in (
+      (some_from made_alt AltFits r.alts count.0 alts.0, rest.0),
+      (le-ltb 1024 (k + 1) (omega (arith, few, counted)), within_append (alts_sizes (k + 1) 0 (at + 1) r.alts) (rules_sizes (k + 1 + locals_in r.alts) next rs) alts.1 rest.1),
+    )
 
 -- a well formed grammar's tree fits, and passes no limit
 pub formed_fits : (rs : List RuleTree) → IsFormed (grammar_of rs) → Fits rs × (first_over (sizes rs) ≡ None)

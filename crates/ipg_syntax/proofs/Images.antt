@@ -18,7 +18,7 @@ use Rattle.ipg_ast.specs.declared.grammar.Rule.{Rule, out-Rule, roll-out-Rule}
 use Rattle.ipg_ast.specs.declared.grammar.Grammar.{Grammar}
 use Rattle.ipg_ast.specs.Shape.{IsFormedLocalAlt, IsFormedLocal, IsFormedAlt, IsFormedRule, IsFormed}
 use Rattle.ipg_syntax.specs.Classes.{either, both, op}
-use Rattle.ipg_syntax.specs.Written.{ExprTree, num, eoi, own, part, item, group, neg, isnt, two, choose, PlaceTree, anywhere, long, ends, SlotTree, CaseTree, TermTree, slot_term, set_term, test_term, repeat_term, pick_term, LocalTree, AltTree, RuleTree}
+use Rattle.ipg_syntax.specs.Written.{ExprTree, num, eoi, own, part, item, group, neg, isnt, two, choose, anywhere, long, ends, CaseTree, TermTree, slot_term, set_term, test_term, repeat_term, pick_term, LocalTree, AltTree, RuleTree}
 use Rattle.ipg_syntax.specs.Bare.{every}
 use Rattle.ipg_syntax.specs.Making.{made, last, alt_of, rule_of, expr_by, place_by, slot_by, cases_by, term_by, terms_by, local_alts_by, locals_by, alts_by, rules_by, grammar_of}
 use Rattle.ipg_syntax.proofs.Selfs.{moved}
@@ -46,8 +46,9 @@ layer (Two o a b) = record { tree = two (op o) a.1.tree b.1.tree; is = ap₂ (λ
 layer (Both a b) = record { tree = two both a.1.tree b.1.tree; is = ap₂ (λ x y. E.Both x y) a.1.is b.1.is ∙ sym (rolls-Both a.0 b.0) }
 layer (Either a b) = record { tree = two either a.1.tree b.1.tree; is = ap₂ (λ x y. E.Either x y) a.1.is b.1.is ∙ sym (rolls-Either a.0 b.0) }
 layer (Cond c a b) = record {
-    tree = choose c.1.tree (record { from = 0; to = 0 }) a.1.tree b.1.tree;
-    is = ap (λ x. E.Cond x (expr_by made a.1.tree) (expr_by made b.1.tree)) c.1.is ∙ ap₂ (λ x y. E.Cond c.0 x y) a.1.is b.1.is ∙ sym (rolls-Cond c.0 a.0 b.0) }
+  tree = choose c.1.tree (record { from = 0; to = 0 }) a.1.tree b.1.tree;
+  is = ap (λ x. E.Cond x (expr_by made a.1.tree) (expr_by made b.1.tree)) c.1.is ∙ ap₂ (λ x y. E.Cond c.0 x y) a.1.is b.1.is ∙ sym (rolls-Cond c.0 a.0 b.0);
+}
 
 pub expr_of : (e : Expr) → ExprOf e
 expr_of = ind-Expr ExprOf (λ x y is. subst (λ z. ExprOf (roll-Expr z)) is (layer y))
@@ -132,22 +133,25 @@ place_tree (Ends l r) = record { tree = ends (expr_of l).tree (expr_of r).tree; 
 
 slot_tree : (s : Slot) → Of (slot_by made) s
 slot_tree s = record {
-    tree = record { what = s.what; span = s.span; place = (place_tree s.place).tree };
-    is = ap (λ p. record { what = s.what; span = s.span; place = p }) (place_tree s.place).is }
+  tree = record { what = s.what; span = s.span; place = (place_tree s.place).tree };
+  is = ap (λ p. record { what = s.what; span = s.span; place = p }) (place_tree s.place).is;
+}
 
 case_tree : (c : Case) → Unit {0} → Of made_case c
 case_tree c any = record {
-    tree = record { test = (expr_of c.cond).tree; slot = (slot_tree c.slot).tree };
-    is = ap₂ (λ e s. record { cond = e; slot = s }) (expr_of c.cond).is (slot_tree c.slot).is }
+  tree = record { test = (expr_of c.cond).tree; slot = (slot_tree c.slot).tree };
+  is = ap₂ (λ e s. record { cond = e; slot = s }) (expr_of c.cond).is (slot_tree c.slot).is;
+}
 
 term_tree : (t : Term) → Unit {0} → Of (term_by made) t
 term_tree (T.Slot s) any = record { tree = slot_term (slot_tree s).tree; is = ap (λ x. T.Slot x) (slot_tree s).is }
 term_tree (T.Set x e) any = record { tree = set_term x (expr_of e).tree; is = ap (λ y. T.Set x y) (expr_of e).is }
 term_tree (T.Test at e) any = record { tree = test_term at (expr_of e).tree; is = ap (λ y. T.Test at y) (expr_of e).is }
 term_tree (T.Repeat x a b i l r) any = record {
-    tree = repeat_term x (expr_of a).tree (expr_of b).tree i (expr_of l).tree (expr_of r).tree;
-    is = ap₂ (λ c d. T.Repeat x c d i (expr_by made (expr_of l).tree) (expr_by made (expr_of r).tree)) (expr_of a).is (expr_of b).is
-        ∙ ap₂ (λ c d. T.Repeat x a b i c d) (expr_of l).is (expr_of r).is }
+  tree = repeat_term x (expr_of a).tree (expr_of b).tree i (expr_of l).tree (expr_of r).tree;
+  is = ap₂ (λ c d. T.Repeat x c d i (expr_by made (expr_of l).tree) (expr_by made (expr_of r).tree)) (expr_of a).is (expr_of b).is
+      ∙ ap₂ (λ c d. T.Repeat x a b i c d) (expr_of l).is (expr_of r).is;
+}
 term_tree (T.Pick at cs s) any =
     let cases : Of (every made_case) cs = each_of made_case Any case_tree cs (all_any cs) in
     record { tree = pick_term at cases.tree (slot_tree s).tree; is = ap₂ (λ x y. T.Pick at x y) (cases_made [] cases.tree ∙ cases.is) (slot_tree s).is }

@@ -1,14 +1,15 @@
 -- Tokens of the same kinds are of the same classes, but for their places.
-use Rattle.std.proofs.Common.{◌≡◌, ℕ, List, [], ◌∷◌, Bool, true, false, cond, refl, ap, ap₂, ◌∙◌, sym, subst, codes, ◌==◌}
+use Rattle.std.proofs.Common.{◌≡◌, List, [], ◌∷◌, Bool, true, false, cond, refl, ap, ap₂, ◌∙◌, sym, subst, codes, ◌==◌}
 use Rattle.ipg_num.specs.declared.op.Op2.TheVariants.{Add, Sub, Mul, Div, Mod, Shl, Shr, BitAnd, BitOr, BitXor, Eq, Ne, Lt, Le, Gt, Ge}
 use Rattle.ipg_ast.specs.declared.grammar.Span.{Span}
 use Rattle.ipg_ast.specs.declared.token.TokenKind.{TokenKind}
 use Rattle.ipg_ast.specs.declared.token.TokenKind.TheVariants.{Name, Word, Number, Text, Symbol}
 use Rattle.ipg_tokens.specs.Lexical.{is_same}
 use Rattle.ipg_tokens.specs.declared.token.Token.{Token}
-use Rattle.ipg_syntax.specs.Classes.{either, both, op, Tok, name, number, text, sign, bang, question, colon, dot, comma, equals, arrow, semicolon, left_paren, right_paren, left_bracket, right_bracket, left_brace, right_brace, for_word, to_word, do_word, switch_word, case_word, else_word, where_word, start_word, end_word, eoi_word, stray, word_class, single_class, pair_class, symbol_class, kind_class, class_of, classes}
+use Rattle.ipg_syntax.specs.Classes.{either, both, op, Tok, name, number, text, sign, bang, question, colon, dot, comma, equals, arrow, semicolon, left_paren, right_paren, left_bracket, right_bracket, left_brace, right_brace, for_word, to_word, do_word, switch_word, case_word, else_word, where_word, start_word, end_word, eoi_word, stray, kind_class, classes}
 use Rattle.ipg_syntax.specs.Written.{Toks}
-use Rattle.ipg_syntax.specs.Bare.{no_span, every}
+use Rattle.ipg_syntax.specs.Bare.{no_span}
+use Rattle.ipg_syntax.specs.Laws.{kinds}
 use Rattle.ipg_syntax.proofs.Maps.{plain, plains}
 use Rattle.ipg_syntax.proofs.Spelt.{kind_of, kinds_of}
 
@@ -102,9 +103,6 @@ class_plain start_word = refl
 class_plain end_word = refl
 class_plain eoi_word = refl
 class_plain stray = refl
-
-abbrev pub kinds : List Token → List TokenKind
-kinds ts = every (λ t. t.kind) ts
 
 abbrev first_or : List TokenKind → TokenKind → TokenKind
 first_or [] k = k

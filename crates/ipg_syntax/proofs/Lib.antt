@@ -23,3 +23,4 @@ mod Bares
 mod Spelt
 mod Kinded
 mod Forms
+mod Backs

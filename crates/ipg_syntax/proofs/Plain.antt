@@ -59,16 +59,55 @@ nothing = record {
 
 to_nothing : (A : Acts) → Maps A nothing
 to_nothing A = record {
-    on_expr = λ e. tt; on_place = λ p. tt; on_slot = λ s. tt; on_cases = λ cs. tt; on_term = λ t. tt; on_terms = λ ts. tt;
-    on_local_alts = λ las. tt; on_locals = λ ls. tt; on_alts = λ alts. tt; on_rules = λ rs. tt; on_log = λ log. tt;
-    num = λ z. refl; eoi = refl; own = λ i. refl; part = λ i f. refl; item = λ i e f. refl; group = λ e. refl; neg = λ e. refl; isnt = λ e. refl;
-    two = λ i a b. refl; choose = λ c at a b. refl; anywhere = refl; long = λ e. refl; ends = λ l r. refl; slot = λ w at p. refl;
-    no_cases = refl; with_case = λ cs c s. refl; slot_term = λ s. refl; set_term = λ x e. refl; test_term = λ at e. refl;
-    repeat_term = λ x a b i l r. refl; pick_term = λ at cs s. refl; no_terms = refl; with_term = λ ts t. refl;
-    no_local_alts = refl; with_local_alt = λ las ts. refl; no_locals = refl; with_local = λ ls n las. refl;
-    no_alts = refl; with_alt = λ alts ts ls. refl; no_rules = refl; with_rule = λ rs n alts. refl;
-    blank = refl; saw_rule = λ at log. refl; saw_local_alt = λ las at log. refl; saw_alt = λ alts at log. refl;
-    saw_term = λ ts at log. refl; saw_expr = λ e at log. refl }
+  on_expr = λ e. tt;
+  on_place = λ p. tt;
+  on_slot = λ s. tt;
+  on_cases = λ cs. tt;
+  on_term = λ t. tt;
+  on_terms = λ ts. tt;
+  on_local_alts = λ las. tt;
+  on_locals = λ ls. tt;
+  on_alts = λ alts. tt;
+  on_rules = λ rs. tt;
+  on_log = λ log. tt;
+  num = λ z. refl;
+  eoi = refl;
+  own = λ i. refl;
+  part = λ i f. refl;
+  item = λ i e f. refl;
+  group = λ e. refl;
+  neg = λ e. refl;
+  isnt = λ e. refl;
+  two = λ i a b. refl;
+  choose = λ c at a b. refl;
+  anywhere = refl;
+  long = λ e. refl;
+  ends = λ l r. refl;
+  slot = λ w at p. refl;
+  no_cases = refl;
+  with_case = λ cs c s. refl;
+  slot_term = λ s. refl;
+  set_term = λ x e. refl;
+  test_term = λ at e. refl;
+  repeat_term = λ x a b i l r. refl;
+  pick_term = λ at cs s. refl;
+  no_terms = refl;
+  with_term = λ ts t. refl;
+  no_local_alts = refl;
+  with_local_alt = λ las ts. refl;
+  no_locals = refl;
+  with_local = λ ls n las. refl;
+  no_alts = refl;
+  with_alt = λ alts ts ls. refl;
+  no_rules = refl;
+  with_rule = λ rs n alts. refl;
+  blank = refl;
+  saw_rule = λ at log. refl;
+  saw_local_alt = λ las at log. refl;
+  saw_alt = λ alts at log. refl;
+  saw_term = λ ts at log. refl;
+  saw_expr = λ e at log. refl;
+}
 
 -- a verdict without what was made
 abbrev pub fault : {R : Type 0} → Result R ℕ → Option ℕ

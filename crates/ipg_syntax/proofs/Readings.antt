@@ -86,7 +86,7 @@ one_grammar text g h rg rh = rg.is ∙ ap grammar_of (one_tree text rg.tree rh.t
 
 -- ---- exactly
 
-reads_within : (text : List ℕ) (tree : List RuleTree) (r : ReadsTree text tree) → first_over (sizes tree) ≡ None → read_of text ≡ Ok (grammar_of tree)
+pub reads_within : (text : List ℕ) (tree : List RuleTree) (r : ReadsTree text tree) → first_over (sizes tree) ≡ None → read_of text ≡ Ok (grammar_of tree)
 reads_within text tree r within = grammar_answer text tree r ∙ ap (within_answer text r.tokens) within ∙ made_grammar text tree r
 
 passes_limit : (text : List ℕ) (tree : List RuleTree) (r : ReadsTree text tree) (o : Over) → first_over (sizes tree) ≡ Some o

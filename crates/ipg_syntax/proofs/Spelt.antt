@@ -1,10 +1,7 @@
 -- The kinds of a tree's tokens are the tokens of its grammar.
-use Rattle.std.proofs.Common.{◌≡◌, ℕ, List, [], ◌∷◌, ◌++◌, Bool, true, false, cond, refl, ap, ap₂, ◌∙◌, sym, append_assoc, codes}
-use Rattle.ipg_num.specs.declared.op.Op2.{Op2}
-use Rattle.ipg_num.specs.declared.op.Op2.TheVariants.{Add, Sub, Mul, Div, Mod, Shl, Shr, BitAnd, BitOr, BitXor, Eq, Ne, Lt, Le, Gt, Ge}
+use Rattle.std.proofs.Common.{◌≡◌, ℕ, List, [], ◌∷◌, ◌++◌, refl, ap, ap₂, ◌∙◌, sym, codes}
 use Rattle.ipg_ast.specs.declared.token.TokenKind.{TokenKind}
 use Rattle.ipg_ast.specs.declared.token.TokenKind.TheVariants.{Name, Word, Number, Text, Symbol}
-use Rattle.ipg_ast.specs.declared.grammar.Ident.{Ident}
 use Rattle.ipg_ast.specs.declared.grammar.Span.{Span}
 use Rattle.ipg_ast.specs.declared.grammar.What.{What}
 use Rattle.ipg_ast.specs.declared.grammar.What.TheVariants.{Text as TextWhat, Call}
@@ -13,10 +10,9 @@ use Rattle.ipg_ast.specs.declared.grammar.Field.TheVariants.{Id as Attribute, St
 use Rattle.ipg_ast.specs.declared.grammar.Expr.{Expr}
 use Rattle.ipg_ast.specs.declared.grammar.Expr.TheOpen.{Expr-F}
 use Rattle.ipg_ast.specs.declared.grammar.Expr.TheFolds.{fold-roll-Expr}
-use Rattle.ipg_ast.specs.declared.grammar.Expr.TheVariants as E
 use Rattle.ipg_ast.specs.declared.grammar.Expr.TheVariants.{rolls-Num, rolls-Eoi, rolls-Id, rolls-Part, rolls-Item, rolls-Group, rolls-Neg, rolls-Not, rolls-Two, rolls-Both, rolls-Either, rolls-Cond}
-use Rattle.ipg_ast.specs.declared.grammar.Alt.{Alt, out-Alt, out-roll-Alt}
-use Rattle.ipg_ast.specs.declared.grammar.Rule.{Rule, out-Rule, out-roll-Rule}
+use Rattle.ipg_ast.specs.declared.grammar.Alt.{out-Alt, out-roll-Alt}
+use Rattle.ipg_ast.specs.declared.grammar.Rule.{Rule, out-roll-Rule}
 use Rattle.ipg_ast.specs.declared.grammar.Term.{Term}
 use Rattle.ipg_ast.specs.Spelling.{Tokens, sign_of, field_tokens, expr_step, expr_tokens, place_tokens, what_token, slot_tokens, case_tokens, cases_tokens, term_tokens, terms_tokens, local_alts_from, local_alts_tokens, local_tokens, locals_tokens, where_tokens, alt_tokens, alts_from, alts_tokens, rule_tokens, rules_tokens, grammar_tokens}
 use Rattle.ipg_syntax.specs.Classes.{Infix, either, both, op, Tok, name, number, text, sign, bang, question, colon, dot, comma, equals, arrow, semicolon, left_paren, right_paren, left_bracket, right_bracket, left_brace, right_brace, for_word, to_word, do_word, switch_word, case_word, else_word, where_word, start_word, end_word, eoi_word, stray, slash}

@@ -1,6 +1,9 @@
 -- What the answer for a text is, in the words of the grammar of grammars.
 use Rattle.std.specs.Prelude.{◌≡◌, ℕ, List, [], ◌∷◌, ◌++◌, length, Some, Ok, Err, ◌↔◌}
 use Rattle.ipg_ast.specs.declared.grammar.Grammar.{Grammar}
+use Rattle.ipg_ast.specs.declared.token.TokenKind.{TokenKind}
+use Rattle.ipg_ast.specs.Spelling.{grammar_tokens}
+use Rattle.ipg_ast.specs.Shape.{IsFormed}
 use Rattle.ipg_tokens.specs.Lexical.{tokens_of}
 use Rattle.ipg_tokens.specs.declared.token.Token.{Token}
 use Rattle.ipg_tokens.specs.declared.fault.ReadFault.{ReadFault}
@@ -9,6 +12,7 @@ use Rattle.ipg_tokens.specs.declared.fault.Which.{Which}
 use Rattle.ipg_syntax.specs.Classes.{classes}
 use Rattle.ipg_syntax.specs.Written.{RuleTree, Fits, spell}
 use Rattle.ipg_syntax.specs.Limits.{sizes, first_over}
+use Rattle.ipg_syntax.specs.Bare.{bare, every}
 use Rattle.ipg_syntax.specs.Reading.{ReadsTree, Reads, ReadsWithin, place_of, read_of}
 
 -- the tokens are those of a grammar, whatever its size
@@ -68,3 +72,22 @@ LimitPlace = (text : List ℕ) (which : Which) (place : ℕ) → (read_of text �
 -- a fault of the tokens comes first
 abbrev pub TokensFirst : Type 0
 TokensFirst = (text : List ℕ) (fault : ReadFault) → tokens_of text ≡ Err fault → read_of text ≡ Err fault
+
+-- ---- back from tokens
+
+abbrev pub kinds : List Token → List TokenKind
+kinds ts = every (λ t. t.kind) ts
+
+-- the answer is the grammar but for the places of its tokens
+pub record ReadsBack (text : List ℕ) (g : Grammar) : Type 0 where
+  pub found : Grammar
+  pub answer : read_of text ≡ Ok found
+  pub same : bare found ≡ bare g
+
+-- a text with the tokens of a well formed grammar reads as that grammar
+abbrev pub ReadsTokensBack : Type 0
+ReadsTokensBack = (text : List ℕ) (g : Grammar) (ts : List Token) → IsFormed g → tokens_of text ≡ Ok ts → kinds ts ≡ grammar_tokens g → ReadsBack text g
+
+-- the tokens of a text are those of the grammar that it reads as
+abbrev pub KeepsTokens : Type 0
+KeepsTokens = (text : List ℕ) (g : Grammar) (ts : List Token) → Reads text g → tokens_of text ≡ Ok ts → kinds ts ≡ grammar_tokens g

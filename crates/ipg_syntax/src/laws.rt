@@ -1,6 +1,6 @@
 //! Laws of reading, each the contract of a function that does nothing.
 
-ghost use Rattle.ipg_syntax.specs.Laws.{OneGrammar, ReadsExactly, SyntaxPlace, LimitPlace, TokensFirst};
+ghost use Rattle.ipg_syntax.specs.Laws.{OneGrammar, ReadsExactly, SyntaxPlace, LimitPlace, TokensFirst, ReadsTokensBack};
 
 /// A text reads as one grammar at most.
 pub fn one_grammar()
@@ -25,4 +25,9 @@ pub fn limit_place()
 /// A fault of the tokens comes before all others.
 pub fn tokens_first()
     ensures { TokensFirst }
+{}
+
+/// A text with the tokens of a well formed grammar reads as that grammar, but for their places.
+pub fn reads_tokens_back()
+    ensures { ReadsTokensBack }
 {}
