@@ -24,3 +24,4 @@ mod Spelt
 mod Kinded
 mod Forms
 mod Backs
+mod Kept

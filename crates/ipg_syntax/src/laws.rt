@@ -1,6 +1,6 @@
 //! Laws of reading, each the contract of a function that does nothing.
 
-ghost use Rattle.ipg_syntax.specs.Laws.{OneGrammar, ReadsExactly, SyntaxPlace, LimitPlace, TokensFirst, ReadsTokensBack};
+ghost use Rattle.ipg_syntax.specs.Laws.{OneGrammar, ReadsExactly, SyntaxPlace, LimitPlace, TokensFirst, ReadsTokensBack, KeepsTokens};
 
 /// A text reads as one grammar at most.
 pub fn one_grammar()
@@ -30,4 +30,9 @@ pub fn tokens_first()
 /// A text with the tokens of a well formed grammar reads as that grammar, but for their places.
 pub fn reads_tokens_back()
     ensures { ReadsTokensBack }
+{}
+
+/// The tokens of a text are those of the grammar that it reads as.
+pub fn keeps_tokens()
+    ensures { KeepsTokens }
 {}
