@@ -22,7 +22,7 @@ use Rattle.ipg_syntax.proofs.Images.{made_case, made_local_alt, made_local, made
 
 -- ---- expressions
 
-abbrev form_tree : ExprTree → Form
+abbrev pub form_tree : ExprTree → Form
 form_tree (num z) = alone 1 true
 form_tree eoi = alone 1 true
 form_tree (own i) = alone 1 true
@@ -62,7 +62,7 @@ infix_form both x y = ap form_of (sym (rolls-Both x y)) ∙ fold-roll-Expr Form 
 infix_form (op o) x y =
     ap form_of (sym (rolls-Two o x y)) ∙ fold-roll-Expr Form form_step (Expr-F.Two o x y) ∙ ap (λ l. infixed l (form_of x) (form_of y)) (same_level o)
 
-form_made : (e : ExprTree) → form_of (expr_by made e) ≡ form_tree e
+pub form_made : (e : ExprTree) → form_of (expr_by made e) ≡ form_tree e
 form_made (num z) = ap form_of (sym (rolls-Num z)) ∙ fold-roll-Expr Form form_step (Expr-F.Num z)
 form_made eoi = ap form_of (sym rolls-Eoi) ∙ fold-roll-Expr Form form_step Expr-F.Eoi
 form_made (own i) = ap form_of (sym (rolls-Id i)) ∙ fold-roll-Expr Form form_step (Expr-F.Id i)
@@ -82,7 +82,7 @@ form_made (choose c at a b) =
     ∙ ap (λ f. record { level = 0; depth = max f.depth (max (form_of x).depth (form_of y).depth) + 1; fits = stands 1 f && ((form_of x).fits && (form_of y).fits) }) (form_made c)
     ∙ ap₂ (λ f g. record { level = 0; depth = max (form_tree c).depth (max f.depth g.depth) + 1; fits = stands 1 (form_tree c) && (f.fits && g.fits) }) (form_made a) (form_made b)
 
-depth_form : (e : ExprTree) → (form_tree e).depth ≡ depth e
+pub depth_form : (e : ExprTree) → (form_tree e).depth ≡ depth e
 depth_form (num z) = refl
 depth_form eoi = refl
 depth_form (own i) = refl
@@ -94,7 +94,7 @@ depth_form (isnt e) = ap (λ n. n + 1) (depth_form e)
 depth_form (two i a b) = ap₂ (λ m n. max m n + 1) (depth_form a) (depth_form b)
 depth_form (choose c at a b) = ap₂ (λ k m. max k m + 1) (depth_form c) (ap₂ max (depth_form a) (depth_form b))
 
-any_level : (n : ℕ) → nat_le 0 n ≡ true
+pub any_level : (n : ℕ) → nat_le 0 n ≡ true
 any_level n = le-leb 0 n (omega arith)
 
 form_stands : (e : ExprTree) (l : ℕ) → nat_le l (form_tree e).level ≡ true → (form_tree e).fits ≡ true → Stands l e
@@ -123,7 +123,7 @@ form_stands (choose c at a b) l due fits =
 
 -- ---- sizes within their limits
 
-abbrev Within : List Size → Type 0
+abbrev pub Within : List Size → Type 0
 Within zs = AllByRecursion (λ z. is_over z ≡ false) zs
 
 within_append : (xs ys : List Size) → Within xs → Within ys → Within (xs ++ ys)
@@ -166,7 +166,7 @@ some_from : {X Y : Type 0} (f : X → Y) (P : X → Type 0) (xs : List X) → 0 
 some_from f P [] some each = absurd (let no : ⊥ = omega (arith, some) in no)
 some_from f P (x ∷ xs) some each = each
 
-length_every : {X Y : Type 0} (f : X → Y) (xs : List X) → length (every f xs) ≡ length xs
+pub length_every : {X Y : Type 0} (f : X → Y) (xs : List X) → length (every f xs) ≡ length xs
 length_every f [] = refl
 length_every f (x ∷ xs) = ap suc (length_every f xs)
 
@@ -267,7 +267,7 @@ locals_counted (a ∷ alts) =
     (locals_counted alts)
     ∙ (let none : 0 + length a.locals + locals_in alts ≡ length a.locals + locals_in alts = omega arith in none)
 
-rule_counted : (r : RuleTree) → rules_in (made_rule r) ≡ locals_in r.alts + 1
+pub rule_counted : (r : RuleTree) → rules_in (made_rule r) ≡ locals_in r.alts + 1
 rule_counted r =
     ap (λ x. sum_by Shape.locals_in x.alts + 1) (out-roll-Rule (record { name = r.head; alts = every made_alt r.alts })) ∙ ap (λ n. n + 1) (locals_counted r.alts)
 

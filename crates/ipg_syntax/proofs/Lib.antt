@@ -25,3 +25,5 @@ mod Kinded
 mod Forms
 mod Backs
 mod Kept
+mod Formed
+mod Rising

@@ -91,3 +91,7 @@ ReadsTokensBack = (text : List ℕ) (g : Grammar) (ts : List Token) → IsFormed
 -- the tokens of a text are those of the grammar that it reads as
 abbrev pub KeepsTokens : Type 0
 KeepsTokens = (text : List ℕ) (g : Grammar) (ts : List Token) → Reads text g → tokens_of text ≡ Ok ts → kinds ts ≡ grammar_tokens g
+
+-- what a text reads as within the limits is well formed
+abbrev pub ReadsFormed : Type 0
+ReadsFormed = (text : List ℕ) (g : Grammar) → ReadsWithin text g → IsFormed g

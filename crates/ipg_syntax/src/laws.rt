@@ -1,6 +1,6 @@
 //! Laws of reading, each the contract of a function that does nothing.
 
-ghost use Rattle.ipg_syntax.specs.Laws.{OneGrammar, ReadsExactly, SyntaxPlace, LimitPlace, TokensFirst, ReadsTokensBack, KeepsTokens};
+ghost use Rattle.ipg_syntax.specs.Laws.{OneGrammar, ReadsExactly, SyntaxPlace, LimitPlace, TokensFirst, ReadsTokensBack, KeepsTokens, ReadsFormed};
 
 /// A text reads as one grammar at most.
 pub fn one_grammar()
@@ -35,4 +35,9 @@ pub fn reads_tokens_back()
 /// The tokens of a text are those of the grammar that it reads as.
 pub fn keeps_tokens()
     ensures { KeepsTokens }
+{}
+
+/// What a text reads as within the limits is well formed.
+pub fn reads_formed()
+    ensures { ReadsFormed }
 {}
