@@ -1,23 +1,21 @@
 -- What a text reads as within the limits is well formed.
-use Rattle.std.proofs.Common.{◌≡◌, ℕ, suc, ◌+◌, ◌≤◌, ◌<◌, max, Bool, true, false, cond, ◌&&◌, nat_le, nat_lt, List, [], ◌∷◌, ◌++◌, length, Option, Some, None, refl, ap, ap₂, ◌∙◌, sym, subst, arith, sum_by, lit≤, le_refl}
+use Rattle.std.proofs.Common.{◌≡◌, ℕ, ◌+◌, ◌≤◌, ◌<◌, Bool, true, false, cond, ◌&&◌, nat_le, List, [], ◌∷◌, ◌++◌, length, Some, None, refl, ap, ◌∙◌, sym, subst, arith, lit≤, le_refl}
 use Rattle.std.proofs.lemmas.Bool.{le-leb, ltb-false, and_from}
 use Rattle.std.proofs.lemmas.List.Sums.{sum_by_from}
 use Rattle.std.proofs.lemmas.Option.{none-some}
 use Rattle.std.specs.List.{AllByRecursion}
-use Rattle.ipg_ast.specs.declared.grammar.Grammar.{Grammar}
-use Rattle.ipg_ast.specs.declared.grammar.Alt.{Alt, out-Alt, out-roll-Alt}
-use Rattle.ipg_ast.specs.declared.grammar.Rule.{Rule, out-Rule, out-roll-Rule}
-use Rattle.ipg_ast.specs.Shape.{Form, stands, form_of, IsFilled, IsFormedExpr, IsFormedPlace, IsFormedSlot, IsFormedCase, IsFormedTerm, IsFormedTerms, IsFormedLocalAlt, IsFormedLocal, IsFormedAlt, IsFormedRule, IsFormed, rules_in, count_rules}
+use Rattle.ipg_ast.specs.declared.grammar.Alt.{out-roll-Alt}
+use Rattle.ipg_ast.specs.declared.grammar.Rule.{out-Rule, out-roll-Rule}
+use Rattle.ipg_ast.specs.Shape.{Form, stands, IsFilled, IsFormedExpr, IsFormedPlace, IsFormedCase, IsFormedTerm, IsFormedTerms, IsFormedLocalAlt, IsFormedLocal, IsFormedAlt, IsFormedRule, IsFormed, rules_in, count_rules}
 use Rattle.ipg_syntax.specs.Classes.{level}
-use Rattle.ipg_syntax.specs.Written.{ExprTree, num, eoi, own, part, item, group, neg, isnt, two, choose, PlaceTree, anywhere, long, ends, SlotTree, CaseTree, TermTree, slot_term, set_term, test_term, repeat_term, pick_term, LocalTree, AltTree, RuleTree, spell_expr, spell_case, spell_cases, spell_term, spell_terms, spell_local, spell_alt, spell_rule, Stands, prefix_level, Each, Some_each, PlaceFits, SlotFits, CaseFits, TermFits, TermsFit, LocalFits, AltFits, RuleFits, Fits}
-use Rattle.ipg_syntax.specs.Limits.{Size, Over, past, depth, is_over, first_over, expr_size, place_sizes, slot_sizes, case_sizes, cases_sizes, term_sizes, terms_sizes, local_alts_sizes, locals_sizes, alt_sizes, alts_sizes, locals_in, rules_sizes, sizes}
+use Rattle.ipg_syntax.specs.Written.{ExprTree, num, eoi, own, part, item, group, neg, isnt, two, choose, PlaceTree, anywhere, long, ends, CaseTree, TermTree, slot_term, set_term, test_term, repeat_term, pick_term, LocalTree, AltTree, RuleTree, spell_expr, spell_case, spell_cases, spell_term, spell_terms, spell_local, spell_alt, spell_rule, Stands, prefix_level, Each, Some_each, PlaceFits, CaseFits, TermFits, TermsFit, LocalFits, AltFits, RuleFits, Fits}
+use Rattle.ipg_syntax.specs.Limits.{Size, past, depth, is_over, first_over, expr_size, place_sizes, slot_sizes, case_sizes, cases_sizes, term_sizes, terms_sizes, local_alts_sizes, locals_sizes, alt_sizes, alts_sizes, locals_in, rules_sizes, sizes}
 use Rattle.ipg_syntax.specs.Bare.{every}
-use Rattle.ipg_syntax.specs.Making.{made, alt_of, rule_of, expr_by, place_by, slot_by, cases_by, term_by, grammar_of}
-use Rattle.ipg_syntax.specs.Reading.{ReadsWithin}
+use Rattle.ipg_syntax.specs.Making.{made, expr_by, place_by, term_by, grammar_of}
 use Rattle.ipg_syntax.specs.Laws.{ReadsFormed}
 use Rattle.ipg_syntax.proofs.Frames.{level_high}
 use Rattle.ipg_syntax.proofs.Images.{made_case, made_local_alt, made_local, made_alt, made_rule, cases_made, grammar_made}
-use Rattle.ipg_syntax.proofs.Forms.{Within, form_tree, form_made, depth_form, length_every, rule_counted, any_level}
+use Rattle.ipg_syntax.proofs.Forms.{Within, form_tree, form_made, depth_form, length_every, rule_counted}
 
 -- ---- sizes
 
@@ -55,26 +53,33 @@ tree_stands (part i f) l high stand = record { level = le-leb l 11 (omega arith)
 tree_stands (item i e f) l high stand = record { level = le-leb l 11 (omega arith); fits = (tree_stands e 0 (lit≤ tt) stand).fits }
 tree_stands (group e) l high stand = record { level = le-leb l 11 (omega arith); fits = (tree_stands e 0 (lit≤ tt) stand).fits }
 tree_stands (neg e) l high stand = record {
-    level = le-leb l prefix_level stand.0; fits = both prefix_level (form_tree e) (tree_stands e prefix_level (le_refl prefix_level) stand.1) }
+  level = le-leb l prefix_level stand.0;
+  fits = both prefix_level (form_tree e) (tree_stands e prefix_level (le_refl prefix_level) stand.1);
+}
 tree_stands (isnt e) l high stand = record {
-    level = le-leb l prefix_level stand.0; fits = both prefix_level (form_tree e) (tree_stands e prefix_level (le_refl prefix_level) stand.1) }
+  level = le-leb l prefix_level stand.0;
+  fits = both prefix_level (form_tree e) (tree_stands e prefix_level (le_refl prefix_level) stand.1);
+}
 tree_stands (two i a b) l high stand =
     let low : level i < prefix_level = level_high i in
     record {
-    level = le-leb l (level i) stand.0;
-    fits = and_from (stands (level i) (form_tree a)) (stands (level i + 1) (form_tree b))
-        (both (level i) (form_tree a) (tree_stands a (level i) (omega arith) stand.1))
-        (both (level i + 1) (form_tree b) (tree_stands b (level i + 1) (omega arith) stand.2)) }
+      level = le-leb l (level i) stand.0;
+      fits = and_from (stands (level i) (form_tree a)) (stands (level i + 1) (form_tree b))
+          (both (level i) (form_tree a) (tree_stands a (level i) (omega arith) stand.1))
+          (both (level i + 1) (form_tree b) (tree_stands b (level i + 1) (omega arith) stand.2));
+    }
 tree_stands (choose c at a b) l high stand = record {
-    level = le-leb l 0 stand.0;
-    fits = and_from (stands 1 (form_tree c)) ((form_tree a).fits && (form_tree b).fits)
-        (both 1 (form_tree c) (tree_stands c 1 (lit≤ tt) stand.1))
-        (and_from (form_tree a).fits (form_tree b).fits (tree_stands a 0 (lit≤ tt) stand.2).fits (tree_stands b 0 (lit≤ tt) stand.3).fits) }
+  level = le-leb l 0 stand.0;
+  fits = and_from (stands 1 (form_tree c)) ((form_tree a).fits && (form_tree b).fits)
+      (both 1 (form_tree c) (tree_stands c 1 (lit≤ tt) stand.1))
+      (and_from (form_tree a).fits (form_tree b).fits (tree_stands a 0 (lit≤ tt) stand.2).fits (tree_stands b 0 (lit≤ tt) stand.3).fits);
+}
 
 formed_expr : (e : ExprTree) (at : ℕ) → Stands 0 e → Within (expr_size at e ∷ []) → IsFormedExpr (expr_by made e)
 formed_expr e at stand within = record {
-    fits = ap (λ f. f.fits) (form_made e) ∙ (tree_stands e 0 (lit≤ tt) stand).fits;
-    depth = subst (λ n. n ≤ 64) (sym (ap (λ f. f.depth) (form_made e) ∙ depth_form e)) (ltb-false 64 (depth e) within.0) }
+  fits = ap (λ f. f.fits) (form_made e) ∙ (tree_stands e 0 (lit≤ tt) stand).fits;
+  depth = subst (λ n. n ≤ 64) (sym (ap (λ f. f.depth) (form_made e) ∙ depth_form e)) (ltb-false 64 (depth e) within.0);
+}
 
 -- ---- places, slots, terms
 
@@ -110,16 +115,20 @@ formed_term (test_term span e) at fits within = formed_expr e (at + 1 + 1) fits 
 formed_term (repeat_term x a b i l r) at fits within =
     let from : ℕ = at + 1 + 1 + 1 in
     let second : ℕ = past from (spell_expr a) + 1 in
-    let third : ℕ = past second (spell_expr b) + 1 + 1 in
-    (formed_expr a from fits.0 (within.0, tt), formed_expr b second fits.1 (within.1.0, tt),
-    formed_expr l (third + 1) fits.2 (within.1.1.0, tt), formed_expr r (past (third + 1) (spell_expr l) + 1) fits.3 within.1.1.1)
+    let third : ℕ = past second (spell_expr b) + 1 + 1 in (
+      formed_expr a from fits.0 (within.0, tt),
+      formed_expr b second fits.1 (within.1.0, tt),
+      formed_expr l (third + 1) fits.2 (within.1.1.0, tt),
+      formed_expr r (past (third + 1) (spell_expr l) + 1) fits.3 within.1.1.1,
+    )
 formed_term (pick_term span cs s) at fits within =
     let mid : ℕ = past (at + 1 + 1) (spell_cases cs) + 1 in
     let first : List Size = cases_sizes (at + 1 + 1) cs in
-    let same = sym (cases_made [] cs) in
-    (subst (λ xs. 0 < length xs) same (filled made_case CaseFits cs fits.0),
-    subst (AllByRecursion IsFormedCase) same (formed_cases cs (at + 1 + 1) (all_each CaseFits cs fits.0) (within_left first (slot_sizes mid s) within)),
-    formed_place s.place (mid + 1) fits.1 (within_right first (slot_sizes mid s) within))
+    let same = sym (cases_made [] cs) in (
+      subst (λ xs. 0 < length xs) same (filled made_case CaseFits cs fits.0),
+      subst (AllByRecursion IsFormedCase) same (formed_cases cs (at + 1 + 1) (all_each CaseFits cs fits.0) (within_left first (slot_sizes mid s) within)),
+      formed_place s.place (mid + 1) fits.1 (within_right first (slot_sizes mid s) within),
+    )
 
 formed_terms : (n at : ℕ) (ts : List TermTree) → n ≤ 256 → Each TermFits ts → Within (terms_sizes n at ts)
     → AllByRecursion IsFormedTerm (every (term_by made) ts) × (n + length ts ≤ 256)
@@ -142,10 +151,16 @@ formed_local_alts n at (ts ∷ las) few fits within =
     let next : ℕ = past (at + 1) (spell_terms ts) in
     let rest : List Size = local_alts_sizes (n + 1) next las in
     let shown = sym (out-roll-Alt (record { terms = every (term_by made) ts; locals = [] })) in
-    let others = formed_local_alts (n + 1) next las (ltb-false 64 (n + 1) within.0) fits.1 (within_right (terms_sizes 0 (at + 1) ts) rest within.1) in
-    ((record {
-        terms = subst IsFormedTerms (ap (λ a. a.terms) shown) (all_formed_terms (at + 1) ts fits.0 (within_left (terms_sizes 0 (at + 1) ts) rest within.1));
-        no_locals = ap (λ a. a.locals) (sym shown) }, others.0), omega (arith, others.1))
+    let others = formed_local_alts (n + 1) next las (ltb-false 64 (n + 1) within.0) fits.1 (within_right (terms_sizes 0 (at + 1) ts) rest within.1) in (
+      (
+        record {
+          terms = subst IsFormedTerms (ap (λ a. a.terms) shown) (all_formed_terms (at + 1) ts fits.0 (within_left (terms_sizes 0 (at + 1) ts) rest within.1));
+          no_locals = ap (λ a. a.locals) (sym shown);
+        },
+        others.0,
+      ),
+      omega (arith, others.1),
+    )
 
 formed_local : (l : LocalTree) (at : ℕ) → LocalFits l → Within (local_alts_sizes 0 (at + 1) l.alts) → IsFormedLocal (made_local l)
 formed_local l at fits within =
@@ -170,10 +185,13 @@ formed_alt k at a few fits within =
     let from : ℕ = past at (spell_terms a.terms) + 1 + 1 in
     let first : List Size = terms_sizes 0 at a.terms in
     let rest : List Size = locals_sizes k from a.locals in
-    let locals = formed_locals k from a.locals few fits.1 (within_right first rest within) in
-    (record {
+    let locals = formed_locals k from a.locals few fits.1 (within_right first rest within) in (
+      record {
         terms = subst IsFormedTerms (ap (λ x. x.terms) shown) (all_formed_terms at a.terms fits.0 (within_left first rest within));
-        locals = subst (AllByRecursion IsFormedLocal) (ap (λ x. x.locals) shown) locals.0 }, locals.1)
+        locals = subst (AllByRecursion IsFormedLocal) (ap (λ x. x.locals) shown) locals.0;
+      },
+      locals.1,
+    )
 
 formed_alts : (k n at : ℕ) (alts : List AltTree) → k ≤ 1024 → n ≤ 64 → Each AltFits alts → Within (alts_sizes k n at alts)
     → AllByRecursion IsFormedAlt (every made_alt alts) × (n + length alts ≤ 64) × (k + locals_in alts ≤ 1024)
@@ -194,7 +212,7 @@ formed_rules k at (r ∷ rs) few fits within =
     let first : List Size = alts_sizes (k + 1) 0 (at + 1) r.alts in
     let rest : List Size = rules_sizes (k + 1 + locals_in r.alts) next rs in
     let counted : count_rules (every made_rule (r ∷ rs)) ≡ 0 + (locals_in r.alts + 1) + count_rules (every made_rule rs) =
-        sum_by_from rules_in (0 + rules_in (made_rule r)) (every made_rule rs) ∙ ap (λ n. 0 + n + count_rules (every made_rule rs)) (rule_counted r) in
+    sum_by_from rules_in (0 + rules_in (made_rule r)) (every made_rule rs) ∙ ap (λ n. 0 + n + count_rules (every made_rule rs)) (rule_counted r) in
     let shown : every made_alt r.alts ≡ (out-Rule (made_rule r)).alts = ap (λ x. x.alts) (sym (out-roll-Rule (record { name = r.head; alts = every made_alt r.alts }))) in
     let alts = formed_alts (k + 1) 0 (at + 1) r.alts (ltb-false 1024 (k + 1) within.0) (lit≤ tt) (all_each AltFits r.alts fits.0) (within_left first rest within.1) in
     let count : IsFilled 64 (every made_alt r.alts) = (filled made_alt AltFits r.alts fits.0, omega (arith, alts.1, length_every made_alt r.alts)) in

@@ -27,3 +27,4 @@ mod Backs
 mod Kept
 mod Formed
 mod Rising
+mod Places

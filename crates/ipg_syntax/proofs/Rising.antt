@@ -1,9 +1,8 @@
 -- The sizes of a grammar stand in the order of their tokens.
 use Rattle.std.proofs.Common.{◌≡◌, ℕ, ◌+◌, ◌≤◌, List, [], ◌∷◌, ◌++◌, length, Bool, true, false, cond, Option, Some, None, refl, ap, ◌∙◌, sym, subst, arith, le_refl, le_trans, true≢false}
 use Rattle.std.specs.List.{AllByRecursion}
-use Rattle.std.proofs.lemmas.Option.{none-some}
-use Rattle.ipg_syntax.specs.Classes.{Tok, name, sign, question, colon, dot, comma, equals, arrow, semicolon, left_paren, right_paren, left_bracket, right_bracket, left_brace, right_brace, to_word, do_word, else_word, where_word, slash}
-use Rattle.ipg_syntax.specs.Written.{Toks, ExprTree, PlaceTree, anywhere, long, ends, SlotTree, CaseTree, TermTree, slot_term, set_term, test_term, repeat_term, pick_term, LocalTree, AltTree, RuleTree, what_tok, spell_expr, spell_place, spell_slot, spell_case, spell_cases, spell_term, spell_terms, spell_local_alts, spell_local, spell_locals, spell_where, spell_alt, spell_alts, spell_rule, spell}
+use Rattle.ipg_syntax.specs.Classes.{Tok, name, comma, arrow, semicolon, right_paren, right_bracket, right_brace, to_word, do_word, else_word, slash}
+use Rattle.ipg_syntax.specs.Written.{Toks, ExprTree, PlaceTree, anywhere, long, ends, SlotTree, CaseTree, TermTree, slot_term, set_term, test_term, repeat_term, pick_term, LocalTree, AltTree, RuleTree, spell_expr, spell_place, spell_slot, spell_case, spell_cases, spell_term, spell_terms, spell_local_alts, spell_local, spell_locals, spell_where, spell_alt, spell_alts, spell_rule, spell}
 use Rattle.ipg_syntax.specs.Limits.{Size, Over, past, is_over, first_over, expr_size, place_sizes, slot_sizes, case_sizes, cases_sizes, term_sizes, terms_sizes, local_alts_sizes, locals_sizes, alt_sizes, alts_sizes, locals_in, rules_sizes, sizes}
 use Rattle.ipg_syntax.proofs.TakesExprs.{past_append}
 
@@ -31,9 +30,11 @@ past_rises at (t ∷ ts) = le_trans (let less : at ≤ at + 1 = omega arith in l
 -- after a whole expression and a token
 expr_rises : (at : ℕ) (e : ExprTree) (t : Tok) (tail : Toks) (zs : List Size) → Rising (past at (spell_expr e) + 1) zs (past (past at (spell_expr e) + 1) tail)
     → Rising at (expr_size at e ∷ zs) (past at (spell_expr e ++ (t ∷ tail)))
-expr_rises at e t tail zs rest =
-    (le_refl at, rising_low at (past at (spell_expr e) + 1) zs (past at (spell_expr e ++ (t ∷ tail))) (let less : at ≤ past at (spell_expr e) + 1 = omega (arith, past_rises at (spell_expr e)) in less)
-    (subst (Rising (past at (spell_expr e) + 1) zs) (sym (past_append at (spell_expr e) (t ∷ tail))) rest))
+expr_rises at e t tail zs rest = (
+  le_refl at,
+  rising_low at (past at (spell_expr e) + 1) zs (past at (spell_expr e ++ (t ∷ tail))) (let less : at ≤ past at (spell_expr e) + 1 = omega (arith, past_rises at (spell_expr e)) in less)
+      (subst (Rising (past at (spell_expr e) + 1) zs) (sym (past_append at (spell_expr e) (t ∷ tail))) rest),
+)
 
 one_on : (at : ℕ) → at ≤ at + 1
 one_on at = omega arith
@@ -94,17 +95,21 @@ term_rises at (pick_term span cs s) =
 terms_rise : (n at : ℕ) (ts : List TermTree) → Rising at (terms_sizes n at ts) (past at (spell_terms ts))
 terms_rise n at [] = le_refl at
 terms_rise n at (t ∷ ts) =
-    let next : ℕ = past at (spell_term t) in
-    (le_refl at, subst (Rising at (term_sizes at t ++ terms_sizes (n + 1) next ts)) (sym (past_append at (spell_term t) (spell_terms ts)))
-    (rising_append at (term_sizes at t) next (terms_sizes (n + 1) next ts) (past next (spell_terms ts)) (term_rises at t) (terms_rise (n + 1) next ts)))
+    let next : ℕ = past at (spell_term t) in (
+      le_refl at,
+      subst (Rising at (term_sizes at t ++ terms_sizes (n + 1) next ts)) (sym (past_append at (spell_term t) (spell_terms ts)))
+          (rising_append at (term_sizes at t) next (terms_sizes (n + 1) next ts) (past next (spell_terms ts)) (term_rises at t) (terms_rise (n + 1) next ts)),
+    )
 
 -- from the mark on
 local_alts_rise : (n at : ℕ) (m : Tok) (las : List (List TermTree)) → Rising at (local_alts_sizes n at las) (past at (spell_local_alts m las))
 local_alts_rise n at m [] = le_refl at
 local_alts_rise n at m (ts ∷ las) =
-    let next : ℕ = past (at + 1) (spell_terms ts) in
-    (one_on at, subst (Rising (at + 1) (terms_sizes 0 (at + 1) ts ++ local_alts_sizes (n + 1) next las)) (sym (past_append (at + 1) (spell_terms ts) (spell_local_alts slash las)))
-    (rising_append (at + 1) (terms_sizes 0 (at + 1) ts) next (local_alts_sizes (n + 1) next las) (past next (spell_local_alts slash las)) (terms_rise 0 (at + 1) ts) (local_alts_rise (n + 1) next slash las)))
+    let next : ℕ = past (at + 1) (spell_terms ts) in (
+      one_on at,
+      subst (Rising (at + 1) (terms_sizes 0 (at + 1) ts ++ local_alts_sizes (n + 1) next las)) (sym (past_append (at + 1) (spell_terms ts) (spell_local_alts slash las)))
+          (rising_append (at + 1) (terms_sizes 0 (at + 1) ts) next (local_alts_sizes (n + 1) next las) (past next (spell_local_alts slash las)) (terms_rise 0 (at + 1) ts) (local_alts_rise (n + 1) next slash las)),
+    )
 
 -- up to the token after some, and one more
 and_one : (low at : ℕ) (zs : List Size) (ts : Toks) (t : Tok) → Rising low zs (past at ts) → Rising low zs (past at (ts ++ (t ∷ [])))
@@ -119,9 +124,11 @@ locals_rise : (k at : ℕ) (ls : List LocalTree) → Rising at (locals_sizes k a
 locals_rise k at [] = le_refl at
 locals_rise k at (l ∷ ls) =
     let next : ℕ = past at (spell_local l) in
-    let first : List Size = local_alts_sizes 0 (at + 1) l.alts in
-    (le_refl at, subst (Rising at (first ++ locals_sizes (k + 1) next ls)) (sym (past_append at (spell_local l) (spell_locals ls)))
-    (rising_append at first next (locals_sizes (k + 1) next ls) (past next (spell_locals ls)) (local_rises at l) (locals_rise (k + 1) next ls)))
+    let first : List Size = local_alts_sizes 0 (at + 1) l.alts in (
+      le_refl at,
+      subst (Rising at (first ++ locals_sizes (k + 1) next ls)) (sym (past_append at (spell_local l) (spell_locals ls)))
+          (rising_append at first next (locals_sizes (k + 1) next ls) (past next (spell_locals ls)) (local_rises at l) (locals_rise (k + 1) next ls)),
+    )
 
 where_rises : (k at : ℕ) (ls : List LocalTree) → Rising at (locals_sizes k (at + 1 + 1) ls) (past at (spell_where ls))
 where_rises k at [] = le_refl at
@@ -139,20 +146,24 @@ alts_rise : (k n at : ℕ) (m : Tok) (alts : List AltTree) → Rising at (alts_s
 alts_rise k n at m [] = le_refl at
 alts_rise k n at m (a ∷ alts) =
     let next : ℕ = past (at + 1) (spell_alt a) in
-    let later : ℕ = k + length a.locals in
-    (one_on at, subst (Rising (at + 1) (alt_sizes k (at + 1) a ++ alts_sizes later (n + 1) next alts)) (sym (past_append (at + 1) (spell_alt a) (spell_alts slash alts)))
-    (rising_append (at + 1) (alt_sizes k (at + 1) a) next (alts_sizes later (n + 1) next alts) (past next (spell_alts slash alts)) (alt_rises k (at + 1) a) (alts_rise later (n + 1) next slash alts)))
+    let later : ℕ = k + length a.locals in (
+      one_on at,
+      subst (Rising (at + 1) (alt_sizes k (at + 1) a ++ alts_sizes later (n + 1) next alts)) (sym (past_append (at + 1) (spell_alt a) (spell_alts slash alts)))
+          (rising_append (at + 1) (alt_sizes k (at + 1) a) next (alts_sizes later (n + 1) next alts) (past next (spell_alts slash alts)) (alt_rises k (at + 1) a) (alts_rise later (n + 1) next slash alts)),
+    )
 
 rules_rise : (k at : ℕ) (rs : List RuleTree) → Rising at (rules_sizes k at rs) (past at (spell rs))
 rules_rise k at [] = le_refl at
 rules_rise k at (r ∷ rs) =
     let next : ℕ = past at (spell_rule r) in
     let later : ℕ = k + 1 + locals_in r.alts in
-    let first : List Size = alts_sizes (k + 1) 0 (at + 1) r.alts in
-    (le_refl at, subst (Rising at (first ++ rules_sizes later next rs)) (sym (past_append at (spell_rule r) (spell rs)))
-    (rising_append at first next (rules_sizes later next rs) (past next (spell rs))
-    (rising_low at (at + 1) first next (one_on at) (and_one (at + 1) (at + 1) first (spell_alts arrow r.alts) semicolon (alts_rise (k + 1) 0 (at + 1) arrow r.alts)))
-    (rules_rise later next rs)))
+    let first : List Size = alts_sizes (k + 1) 0 (at + 1) r.alts in (
+      le_refl at,
+      subst (Rising at (first ++ rules_sizes later next rs)) (sym (past_append at (spell_rule r) (spell rs)))
+          (rising_append at first next (rules_sizes later next rs) (past next (spell rs))
+          (rising_low at (at + 1) first next (one_on at) (and_one (at + 1) (at + 1) first (spell_alts arrow r.alts) semicolon (alts_rise (k + 1) 0 (at + 1) arrow r.alts)))
+          (rules_rise later next rs)),
+    )
 
 -- ---- the first is the least
 
@@ -174,9 +185,11 @@ over_least low (z ∷ zs) high o rising first = go (is_over z) refl first (λ re
     same_at : (ys : List Size) (at : ℕ) → z.at ≡ at → AllByRecursion (λ y. z.at ≤ y.at) ys → AllByRecursion (NotBefore at) ys
     same_at [] at is all = tt
     same_at (y ∷ ys) at is all = (λ over. subst (λ n. n ≤ y.at) is all.0, same_at ys at is all.1)
+
     place_in : Option Over → ℕ → ℕ
     place_in (Some x) n = x.at
     place_in None n = n
+
     go : (b : Bool) → is_over z ≡ b → cond b (Some (record { which = z.which; at = z.at })) (first_over zs) ≡ Some o
         → (first_over zs ≡ Some o → AllByRecursion (NotBefore o.at) zs) → AllByRecursion (NotBefore o.at) (z ∷ zs)
     go true is here rest =

@@ -1,5 +1,6 @@
 -- What the answer for a text is, in the words of the grammar of grammars.
-use Rattle.std.specs.Prelude.{◌≡◌, ℕ, List, [], ◌∷◌, ◌++◌, length, Some, Ok, Err, ◌↔◌}
+use Rattle.std.specs.Prelude.{◌≡◌, ℕ, ◌≤◌, true, List, [], ◌∷◌, ◌++◌, length, Some, Ok, Err, ◌↔◌}
+use Rattle.std.specs.List.{AllByRecursion}
 use Rattle.ipg_ast.specs.declared.grammar.Grammar.{Grammar}
 use Rattle.ipg_ast.specs.declared.token.TokenKind.{TokenKind}
 use Rattle.ipg_ast.specs.Spelling.{grammar_tokens}
@@ -11,7 +12,7 @@ use Rattle.ipg_tokens.specs.declared.fault.ReadFault.TheVariants.{Syntax, Limit}
 use Rattle.ipg_tokens.specs.declared.fault.Which.{Which}
 use Rattle.ipg_syntax.specs.Classes.{classes}
 use Rattle.ipg_syntax.specs.Written.{RuleTree, Fits, spell}
-use Rattle.ipg_syntax.specs.Limits.{sizes, first_over}
+use Rattle.ipg_syntax.specs.Limits.{Over, is_over, sizes, first_over}
 use Rattle.ipg_syntax.specs.Bare.{bare, every}
 use Rattle.ipg_syntax.specs.Reading.{ReadsTree, Reads, ReadsWithin, place_of, read_of}
 
@@ -95,3 +96,8 @@ KeepsTokens = (text : List ℕ) (g : Grammar) (ts : List Token) → Reads text g
 -- what a text reads as within the limits is well formed
 abbrev pub ReadsFormed : Type 0
 ReadsFormed = (text : List ℕ) (g : Grammar) → ReadsWithin text g → IsFormed g
+
+-- no other limit is passed at a lesser place
+abbrev pub LimitIsLeast : Type 0
+LimitIsLeast = (text : List ℕ) (tree : List RuleTree) (r : ReadsTree text tree) (over : Over) → first_over (sizes tree) ≡ Some over
+    → AllByRecursion (λ z. is_over z ≡ true → place_of text r.tokens over.at ≤ place_of text r.tokens z.at) (sizes tree)

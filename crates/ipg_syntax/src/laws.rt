@@ -1,6 +1,6 @@
 //! Laws of reading, each the contract of a function that does nothing.
 
-ghost use Rattle.ipg_syntax.specs.Laws.{OneGrammar, ReadsExactly, SyntaxPlace, LimitPlace, TokensFirst, ReadsTokensBack, KeepsTokens, ReadsFormed};
+ghost use Rattle.ipg_syntax.specs.Laws.{OneGrammar, ReadsExactly, SyntaxPlace, LimitPlace, TokensFirst, ReadsTokensBack, KeepsTokens, ReadsFormed, LimitIsLeast};
 
 /// A text reads as one grammar at most.
 pub fn one_grammar()
@@ -40,4 +40,9 @@ pub fn keeps_tokens()
 /// What a text reads as within the limits is well formed.
 pub fn reads_formed()
     ensures { ReadsFormed }
+{}
+
+/// No limit is passed at a lesser place than the one that is told.
+pub fn limit_is_least()
+    ensures { LimitIsLeast }
 {}
