@@ -1,0 +1,186 @@
+-- Each well formed grammar of the public types is made of a tree.
+use Rattle.std.proofs.Common.{◌≡◌, List, [], ◌∷◌, ◌++◌, refl, ap, ap₂, ◌∙◌, sym, subst, append_assoc, append-nil}
+use Rattle.std.specs.List.{AllByRecursion}
+use Rattle.ipg_ast.specs.declared.grammar.Expr.{Expr, roll-Expr, map-Expr}
+use Rattle.ipg_ast.specs.declared.grammar.Expr.TheOpen.{Expr-F}
+use Rattle.ipg_ast.specs.declared.grammar.Expr.TheOpen.Expr-F.{Num, Eoi, Id, Part, Item, Group, Neg, Not, Two, Both, Either, Cond}
+use Rattle.ipg_ast.specs.declared.grammar.Expr.TheFolds.{ind-Expr}
+use Rattle.ipg_ast.specs.declared.grammar.Expr.TheVariants as E
+use Rattle.ipg_ast.specs.declared.grammar.Expr.TheVariants.{rolls-Num, rolls-Eoi, rolls-Id, rolls-Part, rolls-Item, rolls-Group, rolls-Neg, rolls-Not, rolls-Two, rolls-Both, rolls-Either, rolls-Cond}
+use Rattle.ipg_ast.specs.declared.grammar.Place.{Place}
+use Rattle.ipg_ast.specs.declared.grammar.Place.TheVariants.{Open, Length, Ends}
+use Rattle.ipg_ast.specs.declared.grammar.Slot.{Slot}
+use Rattle.ipg_ast.specs.declared.grammar.Case.{Case}
+use Rattle.ipg_ast.specs.declared.grammar.Term.{Term}
+use Rattle.ipg_ast.specs.declared.grammar.Term.TheVariants as T
+use Rattle.ipg_ast.specs.declared.grammar.Alt.{Alt, out-Alt, roll-out-Alt}
+use Rattle.ipg_ast.specs.declared.grammar.Rule.{Rule, out-Rule, roll-out-Rule}
+use Rattle.ipg_ast.specs.declared.grammar.Grammar.{Grammar}
+use Rattle.ipg_ast.specs.Shape.{IsFormedLocalAlt, IsFormedLocal, IsFormedAlt, IsFormedRule, IsFormed}
+use Rattle.ipg_syntax.specs.Classes.{either, both, op}
+use Rattle.ipg_syntax.specs.Written.{ExprTree, num, eoi, own, part, item, group, neg, isnt, two, choose, anywhere, long, ends, CaseTree, TermTree, slot_term, set_term, test_term, repeat_term, pick_term, LocalTree, AltTree, RuleTree}
+use Rattle.ipg_syntax.specs.Bare.{every}
+use Rattle.ipg_syntax.specs.Making.{made, last, alt_of, rule_of, expr_by, place_by, slot_by, cases_by, term_by, terms_by, local_alts_by, locals_by, alts_by, rules_by, grammar_of}
+use Rattle.ipg_syntax.proofs.Selfs.{moved}
+
+pub record ExprOf (e : Expr) : Type 0 where
+  pub tree : ExprTree
+  pub is : expr_by made tree ≡ e
+
+abbrev Child : Type 0
+Child = (e : Expr) × ExprOf e
+
+abbrev whole : Child → Expr
+whole c = c.0
+
+layer : (y : Expr-F Child) → ExprOf (roll-Expr (map-Expr Child Expr whole y))
+layer (Num n) = record { tree = num n; is = sym (rolls-Num n) }
+layer Eoi = record { tree = eoi; is = sym rolls-Eoi }
+layer (Id i) = record { tree = own i; is = sym (rolls-Id i) }
+layer (Part i f) = record { tree = part i f; is = sym (rolls-Part i f) }
+layer (Item i c f) = record { tree = item i c.1.tree f; is = ap (λ e. E.Item i e f) c.1.is ∙ sym (rolls-Item i c.0 f) }
+layer (Group c) = record { tree = group c.1.tree; is = ap (λ e. E.Group e) c.1.is ∙ sym (rolls-Group c.0) }
+layer (Neg c) = record { tree = neg c.1.tree; is = ap (λ e. E.Neg e) c.1.is ∙ sym (rolls-Neg c.0) }
+layer (Not c) = record { tree = isnt c.1.tree; is = ap (λ e. E.Not e) c.1.is ∙ sym (rolls-Not c.0) }
+layer (Two o a b) = record { tree = two (op o) a.1.tree b.1.tree; is = ap₂ (λ x y. E.Two o x y) a.1.is b.1.is ∙ sym (rolls-Two o a.0 b.0) }
+layer (Both a b) = record { tree = two both a.1.tree b.1.tree; is = ap₂ (λ x y. E.Both x y) a.1.is b.1.is ∙ sym (rolls-Both a.0 b.0) }
+layer (Either a b) = record { tree = two either a.1.tree b.1.tree; is = ap₂ (λ x y. E.Either x y) a.1.is b.1.is ∙ sym (rolls-Either a.0 b.0) }
+layer (Cond c a b) = record {
+  tree = choose c.1.tree (record { from = 0; to = 0 }) a.1.tree b.1.tree;
+  is = ap (λ x. E.Cond x (expr_by made a.1.tree) (expr_by made b.1.tree)) c.1.is ∙ ap₂ (λ x y. E.Cond c.0 x y) a.1.is b.1.is ∙ sym (rolls-Cond c.0 a.0 b.0);
+}
+
+pub expr_of : (e : Expr) → ExprOf e
+expr_of = ind-Expr ExprOf (λ x y is. subst (λ z. ExprOf (roll-Expr z)) is (layer y))
+
+-- ---- what trees are made into, member by member
+
+abbrev pub made_case : CaseTree → Case
+made_case c = record { cond = expr_by made c.test; slot = slot_by made c.slot }
+
+abbrev pub made_local_alt : List TermTree → Alt
+made_local_alt ts = alt_of (every (term_by made) ts) []
+
+abbrev pub made_local : LocalTree → Rule
+made_local l = rule_of l.head (every made_local_alt l.alts)
+
+abbrev pub made_alt : AltTree → Alt
+made_alt a = alt_of (every (term_by made) a.terms) (every made_local a.locals)
+
+abbrev pub made_rule : RuleTree → Rule
+made_rule r = rule_of r.head (every made_alt r.alts)
+
+pub cases_made : (before : List Case) (cs : List CaseTree) → cases_by made before cs ≡ before ++ every made_case cs
+cases_made before [] = sym (append-nil before)
+cases_made before (c ∷ cs) = cases_made (last before (made_case c)) cs ∙ append_assoc before (made_case c ∷ []) (every made_case cs)
+
+pub terms_made : (before : List Term) (ts : List TermTree) → terms_by made before ts ≡ before ++ every (term_by made) ts
+terms_made before [] = sym (append-nil before)
+terms_made before (t ∷ ts) = terms_made (last before (term_by made t)) ts ∙ append_assoc before (term_by made t ∷ []) (every (term_by made) ts)
+
+local_alts_made : (before : List Alt) (las : List (List TermTree)) → local_alts_by made before las ≡ before ++ every made_local_alt las
+local_alts_made before [] = sym (append-nil before)
+local_alts_made before (ts ∷ las) =
+    local_alts_made (last before (alt_of (terms_by made [] ts) [])) las
+    ∙ moved before (alt_of (terms_by made [] ts) []) (made_local_alt ts) (every made_local_alt las) (ap (λ x. alt_of x []) (terms_made [] ts))
+
+locals_made : (before : List Rule) (ls : List LocalTree) → locals_by made before ls ≡ before ++ every made_local ls
+locals_made before [] = sym (append-nil before)
+locals_made before (l ∷ ls) =
+    locals_made (last before (rule_of l.head (local_alts_by made [] l.alts))) ls
+    ∙ moved before (rule_of l.head (local_alts_by made [] l.alts)) (made_local l) (every made_local ls) (ap (rule_of l.head) (local_alts_made [] l.alts))
+
+alts_made : (before : List Alt) (alts : List AltTree) → alts_by made before alts ≡ before ++ every made_alt alts
+alts_made before [] = sym (append-nil before)
+alts_made before (a ∷ alts) =
+    alts_made (last before (alt_of (terms_by made [] a.terms) (locals_by made [] a.locals))) alts
+    ∙ moved before (alt_of (terms_by made [] a.terms) (locals_by made [] a.locals)) (made_alt a) (every made_alt alts)
+    (ap₂ alt_of (terms_made [] a.terms) (locals_made [] a.locals))
+
+rules_made : (before : List Rule) (rs : List RuleTree) → rules_by made before rs ≡ before ++ every made_rule rs
+rules_made before [] = sym (append-nil before)
+rules_made before (r ∷ rs) =
+    rules_made (last before (rule_of r.head (alts_by made [] r.alts))) rs
+    ∙ moved before (rule_of r.head (alts_by made [] r.alts)) (made_rule r) (every made_rule rs) (ap (rule_of r.head) (alts_made [] r.alts))
+
+pub grammar_made : (rs : List RuleTree) → grammar_of rs ≡ record { rules = every made_rule rs }
+grammar_made rs = ap (λ x. record { rules = x }) (rules_made [] rs)
+
+-- ---- each well formed grammar is made of a tree
+
+pub record Of {X Y : Type 0} (f : X → Y) (y : Y) : Type 0 where
+  pub tree : X
+  pub is : f tree ≡ y
+
+each_of : {X Y : Type 0} (f : X → Y) (P : Y → Type 0) → ((y : Y) → P y → Of f y) → (ys : List Y) → AllByRecursion P ys → Of (every f) ys
+each_of f P one [] all = record { tree = []; is = refl }
+each_of f P one (y ∷ ys) all =
+    let first : Of f y = one y all.0 in
+    let rest : Of (every f) ys = each_of f P one ys all.1 in
+    record { tree = first.tree ∷ rest.tree; is = ap₂ (λ x xs. x ∷ xs) first.is rest.is }
+
+abbrev Any : {Y : Type 0} → Y → Type 0
+Any y = Unit {0}
+
+all_any : {Y : Type 0} (ys : List Y) → AllByRecursion Any ys
+all_any [] = tt
+all_any (y ∷ ys) = (tt, all_any ys)
+
+place_tree : (p : Place) → Of (place_by made) p
+place_tree Open = record { tree = anywhere; is = refl }
+place_tree (Length e) = record { tree = long (expr_of e).tree; is = ap (λ x. Length x) (expr_of e).is }
+place_tree (Ends l r) = record { tree = ends (expr_of l).tree (expr_of r).tree; is = ap₂ (λ x y. Ends x y) (expr_of l).is (expr_of r).is }
+
+slot_tree : (s : Slot) → Of (slot_by made) s
+slot_tree s = record {
+  tree = record { what = s.what; span = s.span; place = (place_tree s.place).tree };
+  is = ap (λ p. record { what = s.what; span = s.span; place = p }) (place_tree s.place).is;
+}
+
+case_tree : (c : Case) → Unit {0} → Of made_case c
+case_tree c any = record {
+  tree = record { test = (expr_of c.cond).tree; slot = (slot_tree c.slot).tree };
+  is = ap₂ (λ e s. record { cond = e; slot = s }) (expr_of c.cond).is (slot_tree c.slot).is;
+}
+
+term_tree : (t : Term) → Unit {0} → Of (term_by made) t
+term_tree (T.Slot s) any = record { tree = slot_term (slot_tree s).tree; is = ap (λ x. T.Slot x) (slot_tree s).is }
+term_tree (T.Set x e) any = record { tree = set_term x (expr_of e).tree; is = ap (λ y. T.Set x y) (expr_of e).is }
+term_tree (T.Test at e) any = record { tree = test_term at (expr_of e).tree; is = ap (λ y. T.Test at y) (expr_of e).is }
+term_tree (T.Repeat x a b i l r) any = record {
+  tree = repeat_term x (expr_of a).tree (expr_of b).tree i (expr_of l).tree (expr_of r).tree;
+  is = ap₂ (λ c d. T.Repeat x c d i (expr_by made (expr_of l).tree) (expr_by made (expr_of r).tree)) (expr_of a).is (expr_of b).is
+      ∙ ap₂ (λ c d. T.Repeat x a b i c d) (expr_of l).is (expr_of r).is;
+}
+term_tree (T.Pick at cs s) any =
+    let cases : Of (every made_case) cs = each_of made_case Any case_tree cs (all_any cs) in
+    record { tree = pick_term at cases.tree (slot_tree s).tree; is = ap₂ (λ x y. T.Pick at x y) (cases_made [] cases.tree ∙ cases.is) (slot_tree s).is }
+
+terms_tree : (ts : List Term) → Of (every (term_by made)) ts
+terms_tree ts = each_of (term_by made) Any term_tree ts (all_any ts)
+
+local_alt_tree : (a : Alt) → IsFormedLocalAlt a → Of made_local_alt a
+local_alt_tree a formed =
+    let ts : Of (every (term_by made)) (out-Alt a).terms = terms_tree (out-Alt a).terms in
+    record { tree = ts.tree; is = ap₂ alt_of ts.is (sym formed.no_locals) ∙ roll-out-Alt a }
+
+local_tree : (r : Rule) → IsFormedLocal r → Of made_local r
+local_tree r formed =
+    let las : Of (every made_local_alt) (out-Rule r).alts = each_of made_local_alt IsFormedLocalAlt local_alt_tree (out-Rule r).alts formed.each in
+    record { tree = record { head = (out-Rule r).name; alts = las.tree }; is = ap (rule_of (out-Rule r).name) las.is ∙ roll-out-Rule r }
+
+alt_tree : (a : Alt) → IsFormedAlt a → Of made_alt a
+alt_tree a formed =
+    let ts : Of (every (term_by made)) (out-Alt a).terms = terms_tree (out-Alt a).terms in
+    let ls : Of (every made_local) (out-Alt a).locals = each_of made_local IsFormedLocal local_tree (out-Alt a).locals formed.locals in
+    record { tree = record { terms = ts.tree; locals = ls.tree }; is = ap₂ alt_of ts.is ls.is ∙ roll-out-Alt a }
+
+rule_tree : (r : Rule) → IsFormedRule r → Of made_rule r
+rule_tree r formed =
+    let alts : Of (every made_alt) (out-Rule r).alts = each_of made_alt IsFormedAlt alt_tree (out-Rule r).alts formed.each in
+    record { tree = record { head = (out-Rule r).name; alts = alts.tree }; is = ap (rule_of (out-Rule r).name) alts.is ∙ roll-out-Rule r }
+
+pub grammar_tree : (g : Grammar) → IsFormed g → Of grammar_of g
+grammar_tree g formed =
+    let rules : Of (every made_rule) g.rules = each_of made_rule IsFormedRule rule_tree g.rules formed.each in
+    record { tree = rules.tree; is = grammar_made rules.tree ∙ ap (λ rs. record { rules = rs }) rules.is }

@@ -1,0 +1,103 @@
+-- What the answer for a text is, in the words of the grammar of grammars.
+use Rattle.std.specs.Prelude.{◌≡◌, ℕ, ◌≤◌, true, List, [], ◌∷◌, ◌++◌, length, Some, Ok, Err, ◌↔◌}
+use Rattle.std.specs.List.{AllByRecursion}
+use Rattle.ipg_ast.specs.declared.grammar.Grammar.{Grammar}
+use Rattle.ipg_ast.specs.declared.token.TokenKind.{TokenKind}
+use Rattle.ipg_ast.specs.Spelling.{grammar_tokens}
+use Rattle.ipg_ast.specs.Shape.{IsFormed}
+use Rattle.ipg_tokens.specs.Lexical.{tokens_of}
+use Rattle.ipg_tokens.specs.declared.token.Token.{Token}
+use Rattle.ipg_tokens.specs.declared.fault.ReadFault.{ReadFault}
+use Rattle.ipg_tokens.specs.declared.fault.ReadFault.TheVariants.{Syntax, Limit}
+use Rattle.ipg_tokens.specs.declared.fault.Which.{Which}
+use Rattle.ipg_syntax.specs.Classes.{classes}
+use Rattle.ipg_syntax.specs.Written.{RuleTree, Fits, spell}
+use Rattle.ipg_syntax.specs.Limits.{Over, is_over, sizes, first_over}
+use Rattle.ipg_syntax.specs.Bare.{bare, every}
+use Rattle.ipg_syntax.specs.Reading.{ReadsTree, Reads, ReadsWithin, place_of, read_of}
+
+-- the tokens are those of a grammar, whatever its size
+pub record IsGrammar (ts : List Token) : Type 0 where
+  pub tree : List RuleTree
+  pub fits : Fits tree
+  pub spelled : spell tree ≡ classes ts
+
+-- some grammar begins with the tokens
+pub record Begins (ts : List Token) : Type 0 where
+  pub more : List Token
+  pub grammar : IsGrammar (ts ++ more)
+
+-- no grammar begins with the first tokens and the next; where no token is left, the first are no grammar themselves
+abbrev pub EndsBefore : List Token → List Token → Type 0
+EndsBefore before [] = IsGrammar before → ⊥
+EndsBefore before (t ∷ after) = Begins (before ++ (t ∷ [])) → ⊥
+
+-- the first byte of the first of the tokens left, or the end of the text
+abbrev pub first_place : List ℕ → List Token → ℕ
+first_place text [] = length text
+first_place text (t ∷ ts) = t.span.from
+
+-- a grammar begins with the tokens before the place, and none goes on with the token there
+pub record Breaks (text : List ℕ) (place : ℕ) : Type 0 where
+  pub before : List Token
+  pub after : List Token
+  pub falls : tokens_of text ≡ Ok (before ++ after)
+  pub begins : Begins before
+  pub stops : EndsBefore before after
+  pub is : place ≡ first_place text after
+
+-- the text is a grammar, and this limit is the first that it passes
+pub record PassesLimit (text : List ℕ) (which : Which) (place : ℕ) : Type 0 where
+  pub tree : List RuleTree
+  pub reads : ReadsTree text tree
+  pub at : ℕ
+  pub first : first_over (sizes tree) ≡ Some (record { which = which; at = at })
+  pub is : place ≡ place_of text reads.tokens at
+
+-- a text reads as one grammar at most
+abbrev pub OneGrammar : Type 0
+OneGrammar = (text : List ℕ) (g h : Grammar) → Reads text g → Reads text h → g ≡ h
+
+-- the answer is a grammar exactly where the text reads as it within the limits
+abbrev pub ReadsExactly : Type 0
+ReadsExactly = (text : List ℕ) (g : Grammar) → (read_of text ≡ Ok g) ↔ ReadsWithin text g
+
+-- a fault of syntax has exactly the place up to which a grammar goes on
+abbrev pub SyntaxPlace : Type 0
+SyntaxPlace = (text : List ℕ) (place : ℕ) → (read_of text ≡ Err (Syntax place)) ↔ Breaks text place
+
+-- a fault of a limit is the first that the grammar passes
+abbrev pub LimitPlace : Type 0
+LimitPlace = (text : List ℕ) (which : Which) (place : ℕ) → (read_of text ≡ Err (Limit which place)) ↔ PassesLimit text which place
+
+-- a fault of the tokens comes first
+abbrev pub TokensFirst : Type 0
+TokensFirst = (text : List ℕ) (fault : ReadFault) → tokens_of text ≡ Err fault → read_of text ≡ Err fault
+
+-- ---- back from tokens
+
+abbrev pub kinds : List Token → List TokenKind
+kinds ts = every (λ t. t.kind) ts
+
+-- the answer is the grammar but for the places of its tokens
+pub record ReadsBack (text : List ℕ) (g : Grammar) : Type 0 where
+  pub found : Grammar
+  pub answer : read_of text ≡ Ok found
+  pub same : bare found ≡ bare g
+
+-- a text with the tokens of a well formed grammar reads as that grammar
+abbrev pub ReadsTokensBack : Type 0
+ReadsTokensBack = (text : List ℕ) (g : Grammar) (ts : List Token) → IsFormed g → tokens_of text ≡ Ok ts → kinds ts ≡ grammar_tokens g → ReadsBack text g
+
+-- the tokens of a text are those of the grammar that it reads as
+abbrev pub KeepsTokens : Type 0
+KeepsTokens = (text : List ℕ) (g : Grammar) (ts : List Token) → Reads text g → tokens_of text ≡ Ok ts → kinds ts ≡ grammar_tokens g
+
+-- what a text reads as within the limits is well formed
+abbrev pub ReadsFormed : Type 0
+ReadsFormed = (text : List ℕ) (g : Grammar) → ReadsWithin text g → IsFormed g
+
+-- no other limit is passed at a lesser place
+abbrev pub LimitIsLeast : Type 0
+LimitIsLeast = (text : List ℕ) (tree : List RuleTree) (r : ReadsTree text tree) (over : Over) → first_over (sizes tree) ≡ Some over
+    → AllByRecursion (λ z. is_over z ≡ true → place_of text r.tokens over.at ≤ place_of text r.tokens z.at) (sizes tree)

@@ -1,0 +1,14 @@
+-- what the public contracts rest on: tokens by class, grammars as written with their tokens, and their limits
+pub mod Classes
+pub mod Written
+pub mod Limits
+-- the machine that reads tokens, whatever it makes, and what it counts and makes
+pub mod Machine
+pub mod Counting
+pub mod Making
+-- the answer for a text
+pub mod Reading
+-- a grammar without the places of its tokens
+pub mod Bare
+-- the laws that public functions promise
+pub mod Laws

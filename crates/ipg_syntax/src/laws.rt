@@ -1,0 +1,48 @@
+//! Laws of reading, each the contract of a function that does nothing.
+
+ghost use Rattle.ipg_syntax.specs.Laws.{OneGrammar, ReadsExactly, SyntaxPlace, LimitPlace, TokensFirst, ReadsTokensBack, KeepsTokens, ReadsFormed, LimitIsLeast};
+
+/// A text reads as one grammar at most.
+pub fn one_grammar()
+    ensures { OneGrammar }
+{}
+
+/// The answer is a grammar exactly where the text reads as it within the limits.
+pub fn reads_exactly()
+    ensures { ReadsExactly }
+{}
+
+/// A fault of syntax stands exactly where no grammar goes on.
+pub fn syntax_place()
+    ensures { SyntaxPlace }
+{}
+
+/// A fault of a limit is the first limit that the grammar passes.
+pub fn limit_place()
+    ensures { LimitPlace }
+{}
+
+/// A fault of the tokens comes before all others.
+pub fn tokens_first()
+    ensures { TokensFirst }
+{}
+
+/// A text with the tokens of a well formed grammar reads as that grammar, but for their places.
+pub fn reads_tokens_back()
+    ensures { ReadsTokensBack }
+{}
+
+/// The tokens of a text are those of the grammar that it reads as.
+pub fn keeps_tokens()
+    ensures { KeepsTokens }
+{}
+
+/// What a text reads as within the limits is well formed.
+pub fn reads_formed()
+    ensures { ReadsFormed }
+{}
+
+/// No limit is passed at a lesser place than the one that is told.
+pub fn limit_is_least()
+    ensures { LimitIsLeast }
+{}
