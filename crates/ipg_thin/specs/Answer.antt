@@ -1,5 +1,5 @@
 -- What is answered of a grammar: that it isn't thin, that a call doesn't go on, or its core grammar.
-use Rattle.std.specs.Prelude.{Bool, if◌then◌else◌, Result, Ok, Err}
+use Rattle.std.specs.Prelude.{if◌then◌else◌, Result, Ok, Err}
 use Rattle.ipg_ast.specs.declared.grammar.Grammar as written
 use Rattle.ipg_core.specs.Grammar.{Grammar}
 use Rattle.ipg_thin.specs.Form.{is_thin}

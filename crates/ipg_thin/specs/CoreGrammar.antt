@@ -5,7 +5,6 @@ use Rattle.ipg_ast.specs.declared.grammar.Rule.{Rule, out-Rule}
 use Rattle.ipg_ast.specs.declared.grammar.Alt.{Alt, out-Alt}
 use Rattle.ipg_ast.specs.declared.grammar.Term.{Term}
 use Rattle.ipg_ast.specs.declared.grammar.Term.TheVariants as term
-use Rattle.ipg_ast.specs.declared.grammar.Slot.{Slot}
 use Rattle.ipg_ast.specs.declared.grammar.What.{What}
 use Rattle.ipg_ast.specs.declared.grammar.What.TheVariants as what
 use Rattle.ipg_ast.specs.declared.grammar.Place.{Place}

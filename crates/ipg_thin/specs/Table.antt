@@ -1,5 +1,5 @@
 -- The table of the rules' names, as the list of them.
-use Rattle.std.specs.Prelude.{◌≡◌, ℕ, Bool, true, false, List, [], map, Option, None, Some}
+use Rattle.std.specs.Prelude.{◌≡◌, ℕ, true, false, List, [], map, Option, None, Some}
 use denote.Ref.{Bor}
 use Rattle.indexmap.specs.IndexSet.{IndexSet}
 use Rattle.ipg_thin.specs.Form.{differ_after}

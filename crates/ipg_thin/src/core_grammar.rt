@@ -39,11 +39,7 @@ fn core_rule(alloc: Global, heads: &Heads<'_>, rule: &Rule) -> Result<CoreRule, 
     })
 }
 
-fn core_alts(
-    alloc: Global,
-    heads: &Heads<'_>,
-    alts: &[Alt],
-) -> Result<List<CoreAlt>, AllocError>
+fn core_alts(alloc: Global, heads: &Heads<'_>, alts: &[Alt]) -> Result<List<CoreAlt>, AllocError>
     requires few { length (names_of heads.now) ≤ max_rules }
     requires formed { AllByRecursion IsFormedAlt alts.now }
     ensures { IfOk result (λ made. made ≡ map (alt_of (names_of heads.now)) alts.now) }

@@ -21,7 +21,8 @@ pub fn go_on(heads: &Heads<'_>, rules: &[Rule]) -> bool
 fn alts_go_on(heads: &Heads<'_>, rule: usize, alts: &[Alt]) -> bool
     ensures { result ≡ list_all (alt_goes_on (names_of heads.now) rule) alts.now }
 {
-    alts.iter().all(|alt| terms_go_on(heads, rule, alt.terms.as_slice()))
+    alts.iter()
+        .all(|alt| terms_go_on(heads, rule, alt.terms.as_slice()))
 }
 
 fn terms_go_on(heads: &Heads<'_>, rule: usize, terms: &[Term]) -> bool

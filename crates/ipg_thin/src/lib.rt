@@ -6,8 +6,6 @@ mod fault;
 mod form;
 mod heads;
 mod later;
-#[cfg(test)]
-mod tests;
 mod thin;
 
 pub use fault::ThinFault;
