@@ -1,0 +1,14 @@
+//! Decides formulas over a box of whole numbers: by values that solve them, or by a refutation that checks.
+#![tactic(auto)]
+
+mod closing;
+mod counting;
+mod cut;
+mod decision;
+mod halving;
+mod least;
+mod span;
+
+
+
+pub use decision::Decision;
