@@ -4,3 +4,4 @@ pub mod Decides
 pub mod Spans
 pub mod Closes
 pub mod Cuts
+pub mod Crossed

@@ -65,7 +65,7 @@ fn combine_of(
     Ok(Step::Combine(List::from_vec(entries)))
 }
 
-fn push_step(steps: &mut Vec<Step>, step: Step) -> Result<(), AllocError>
+pub fn push_step(steps: &mut Vec<Step>, step: Step) -> Result<(), AllocError>
     ensures { OnOk result (steps.new.items ≡ steps.old.items ++ step ∷ []) }
 {
     steps.push(step)?;

@@ -7,8 +7,12 @@ mod cut;
 mod decision;
 mod halving;
 mod least;
+#[cfg(test)]
+mod small;
 mod span;
+#[cfg(test)]
+mod tests;
 
 
 
-pub use decision::Decision;
+pub use decision::{Decision, decide};
