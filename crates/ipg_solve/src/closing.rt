@@ -49,12 +49,7 @@ fn put_ends(
 }
 
 /// The Combine of a form's fact and the ends at which it is least.
-fn combine_of(
-    alloc: Global,
-    form: &Linear,
-    number: u64,
-    spans: &[Span],
-) -> Result<Step, AllocError>
+fn combine_of(alloc: Global, form: &Linear, number: u64, spans: &[Span]) -> Result<Step, AllocError>
     requires { terms_width form.now.terms ≤ length spans.now }
     ensures rule { IfOk result (λ _. IsTrue (in_rule form.now.terms)) }
     ensures step { IfOk result (λ step. step ≡ Combine ((1, number) ∷ map (entry_of spans.now) form.now.terms)) }

@@ -13,6 +13,4 @@ mod span;
 #[cfg(test)]
 mod tests;
 
-
-
 pub use decision::{Decision, decide};

@@ -56,11 +56,7 @@ fn form(alloc: Global, state: &mut u64) -> Result<Linear, Fail>
         4 => Ok(Linear::new(alloc, &[(0, a), (3, b)], constant)?),
         5 => Ok(Linear::new(alloc, &[(2, a), (3, b)], constant)?),
         6 => Ok(Linear::new(alloc, &[(0, a), (2, b), (3, a)], constant)?),
-        _ => Ok(Linear::new(
-            alloc,
-            &[(0, b), (1, a), (2, a), (3, b)],
-            constant,
-        )?),
+        _ => Ok(Linear::new(alloc, &[(0, b), (1, a), (2, a), (3, b)], constant)?),
     }
 }
 

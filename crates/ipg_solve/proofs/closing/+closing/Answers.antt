@@ -17,9 +17,9 @@ pub close-returns-in_ok-combine_of-in-Atom : goal.close-returns-in_ok-combine_of
 close-returns-in_ok-combine_of-in-Atom t c =
     on_ok c.push_step.result _ _
     (λ e. subst (λ facts. ClosesFacts c.args.spans.now c.args.number c.args.next facts c.args.steps.now.items c.push_step.new.steps.items) (sym (ap facts_of c.in-Atom.is ∙ facts_of-Atom c.in-Atom.form))
-        (closes_atom c.args.spans.now c.args.number c.args.next c.in-Atom.form c.args.steps.now.items c.push_step.new.steps.items c.in_ok-combine_of-in-Atom.field-0
-        (width-Atom c.args.f.now c.in-Atom.form c.args.spans.now c.in-Atom.is c.requires.width) c.in_ok-combine_of-in-Atom.ensures.rule
-        (rules_out-Atom c.args.f.now c.in-Atom.form c.args.spans.now c.in-Atom.is c.requires.ruled_out) c.in_ok-combine_of-in-Atom.ensures.step e)) c.push_step.ensures
+    (closes_atom c.args.spans.now c.args.number c.args.next c.in-Atom.form c.args.steps.now.items c.push_step.new.steps.items c.in_ok-combine_of-in-Atom.field-0
+    (width-Atom c.args.f.now c.in-Atom.form c.args.spans.now c.in-Atom.is c.requires.width) c.in_ok-combine_of-in-Atom.ensures.rule
+    (rules_out-Atom c.args.f.now c.in-Atom.form c.args.spans.now c.in-Atom.is c.requires.ruled_out) c.in_ok-combine_of-in-Atom.ensures.step e)) c.push_step.ensures
 
 pub close-returns-in-All : goal.close-returns-in-All
 close-returns-in-All t c =
@@ -41,8 +41,8 @@ close_all-returns-then-rules_out t c =
     on_ok c.close.result (ClosesFacts spans c.loop-member.first c.args.next (facts_of member) c.loop-member.steps.items c.close.new.steps.items)
     (ClosesFacts spans c.args.number c.args.next own c.args.steps.now.items c.close.new.steps.items)
     (λ closes. subst (λ old. ClosesFacts spans c.args.number c.args.next own old c.close.new.steps.items) c.loop-member.invariant.steps
-        (closes_members spans c.args.number c.args.next c.loop-member.first members (take at members) (drop (at + 1) members) member c.loop-member.steps.items c.close.new.steps.items
-        (parted members at member (omega arith) c.member-item.is) c.loop-member.invariant.number closes)) c.close.ensures
+    (closes_members spans c.args.number c.args.next c.loop-member.first members (take at members) (drop (at + 1) members) member c.loop-member.steps.items c.close.new.steps.items
+    (parted members at member (omega arith) c.member-item.is) c.loop-member.invariant.number closes)) c.close.ensures
 
 pub close_any-returns : goal.close_any-returns
 close_any-returns t c =
