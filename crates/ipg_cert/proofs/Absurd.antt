@@ -33,7 +33,7 @@ left_zero : (totals : List ℤ) → AreZero totals → none_left totals ≡ true
 left_zero [] h = refl
 left_zero (z ∷ totals) h = ap (λ b. b && none_left totals) ((Decides-int_eq z (pos 0)).1 (h 0)) ∙ left_zero totals (λ x. h (suc x))
 
-in_zero : (all ts : List (ℕ × ℤ)) → ((x : ℕ) → coefficient x all ≡ pos 0) → none_in all ts ≡ true
+pub in_zero : (all ts : List (ℕ × ℤ)) → ((x : ℕ) → coefficient x all ≡ pos 0) → none_in all ts ≡ true
 in_zero all [] h = refl
 in_zero all (t ∷ ts) h = ap (λ b. b && none_in all ts) ((Decides-int_eq (coefficient t.0 all) (pos 0)).1 (h t.0)) ∙ in_zero all ts h
 

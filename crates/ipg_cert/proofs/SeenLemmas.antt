@@ -25,11 +25,11 @@ rule_few terms h = leb-true (length terms) 64 (both_true (nat_le (length terms) 
 pub rule_small : (terms : List (ℕ × ℤ)) → in_rule terms ≡ true → are_coefficients terms ≡ true
 rule_small terms h = (both_true (rises 0 terms) (are_coefficients terms) (both_true (nat_le (length terms) 64) (rises 0 terms && are_coefficients terms) h).1).1
 
-coefficient-append : (x : ℕ) (xs ys : List (ℕ × ℤ)) → coefficient x (xs ++ ys) ≡ coefficient x xs +ℤ coefficient x ys
+pub coefficient-append : (x : ℕ) (xs ys : List (ℕ × ℤ)) → coefficient x (xs ++ ys) ≡ coefficient x xs +ℤ coefficient x ys
 coefficient-append x [] ys = same_in _ _ (omega (arith, ints))
 coefficient-append x (t ∷ xs) ys = ap (λ z. cond (nat_eq t.0 x) t.1 (pos 0) +ℤ z) (coefficient-append x xs ys) ∙ same_in _ _ (omega (arith, ints))
 
-coefficient-scaled : (x w : ℕ) (xs : List (ℕ × ℤ)) → coefficient x (map (λ (t : ℕ × ℤ). (t.0, pos w *ℤ t.1)) xs) ≡ pos w *ℤ coefficient x xs
+pub coefficient-scaled : (x w : ℕ) (xs : List (ℕ × ℤ)) → coefficient x (map (λ (t : ℕ × ℤ). (t.0, pos w *ℤ t.1)) xs) ≡ pos w *ℤ coefficient x xs
 coefficient-scaled x w [] = same_in _ _ (omega (arith, product_is (pos w) (pos 0)))
 coefficient-scaled x w (t ∷ xs) =
     ap (λ z. cond (nat_eq t.0 x) (pos w *ℤ t.1) (pos 0) +ℤ z) (coefficient-scaled x w xs)

@@ -1,0 +1,75 @@
+ghost use Rattle.std.specs.Prelude.{◌≡◌, ◌+◌, ◌≤◌, [], ◌∷◌, length, int_lt, MatchOption, IfOk};
+ghost use Rattle.ipg_lin.specs.Formula.{width, depth};
+ghost use Rattle.ipg_cert.specs.declared.refutation.Step.TheVariants.{Combine};
+ghost use Rattle.ipg_solve.specs.Decides.{Decides, IsExact};
+ghost use Rattle.ipg_solve.specs.Spans.{AreFull};
+ghost use Rattle.ipg_solve.specs.Cuts.{start_spans};
+ghost use Rattle.ipg_solve.specs.Crossed.{IsCrossed};
+
+use crate::counting::counted;
+use crate::halving::halve;
+use ipg_cert::{Refutation, Step};
+use ipg_lin::{Boxed, Formula};
+use ipg_num::List;
+use std::alloc::{AllocError, Global};
+
+/// Whether a formula can hold in a box.
+#[derive(Drop)]
+pub enum Decision {
+    /// A value for each variable.
+    Solution(List<i64>),
+    Refuted(Refutation),
+}
+
+fn is_crossed(bound: &(i64, i64)) -> bool
+    ensures { result ≡ int_lt bound.now.1 bound.now.0 }
+{
+    bound.1 < bound.0
+}
+
+/// A variable whose least value is above its greatest.
+fn crossed(bounds: &[(i64, i64)]) -> Option<usize>
+    ensures { MatchOption result (AreFull (start_spans 0 bounds.now)) (λ x. IsCrossed bounds.now x) }
+{
+    for (x, bound) in bounds.iter().enumerate() {
+        if is_crossed(bound) {
+            return Some(x);
+        }
+    }
+    None
+}
+
+/// The Combine of the two bounds of a variable that cross.
+fn crossing(alloc: Global, x: usize) -> Result<Refutation, AllocError>
+    ensures { IfOk result (λ r. r ≡ record { steps = Combine ((1, x + x) ∷ (1, x + x + 1) ∷ []) ∷ [] }) }
+{
+    let low_at = counted(x as u64, x as u64)?;
+    let high_at = counted(low_at, 1)?;
+    let entries = Vec::from_slice(alloc, &[(1, low_at), (1, high_at)])?;
+    let mut steps = List::new(alloc);
+    steps.push(Step::Combine(List::from_vec(entries)))?;
+    Ok(Refutation { steps })
+}
+
+/// A solution of the formula in the box, exactly where there is one, and otherwise a refutation that
+/// checks. It goes as deep as members stand in one another, so formulas that nest deeper than 4096 are
+/// not asked.
+pub fn decide(alloc: Global, f: &Formula, b: &Boxed) -> Result<Decision, AllocError>
+    requires valued { width f.now ≤ length b.now.bounds }
+    requires shallow { depth f.now ≤ 4096 }
+    ensures decided { IfOk result (λ decision. Decides f.now b.now decision) }
+    ensures exact { IfOk result (λ decision. IsExact f.now b.now decision) }
+{
+    let decision = decided(alloc, f, b)?;
+    Ok(decision)
+}
+
+fn decided(alloc: Global, f: &Formula, b: &Boxed) -> Result<Decision, AllocError>
+    requires { width f.now ≤ length b.now.bounds }
+    ensures { IfOk result (λ decision. Decides f.now b.now decision) }
+{
+    if let Some(x) = crossed(b.bounds.as_slice()) {
+        return Ok(Decision::Refuted(crossing(alloc, x)?));
+    }
+    halve(alloc, f, b)
+}

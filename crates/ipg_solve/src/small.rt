@@ -1,0 +1,137 @@
+//! Random small systems, decided and tried at every point.
+
+ghost use Rattle.std.specs.Prelude.{◌≡◌, ◌+◌, ◌*◌, ◌<◌, ◌≤◌, pos, negsuc, ◌≤ℤ◌, length, IfOk};
+ghost use Rattle.ipg_lin.specs.Form.{terms_width};
+ghost use Rattle.ipg_lin.specs.Formula.{width, depth};
+
+use super::*;
+use ipg_cert::check;
+use ipg_lin::{Boxed, Formula, Linear, holds};
+use ipg_num::List;
+use std::alloc::Global;
+use std::test::Fail;
+
+/// The next number of the generator, below n.
+fn draw(state: &mut u64, n: u64) -> u64
+    requires { 0 < n }
+    ensures { result < n }
+{
+    *state = state
+        .wrapping_mul(6364136223846793005)
+        .wrapping_add(1442695040888963407);
+    (*state >> 33) % n
+}
+
+fn coefficient(state: &mut u64) -> i64 {
+    match draw(state, 6) {
+        0 => -3,
+        1 => -2,
+        2 => -1,
+        3 => 1,
+        4 => 2,
+        _ => 3,
+    }
+}
+
+/// From -most to most.
+fn around_zero(state: &mut u64, most: u64) -> i64
+    requires { most < 100 }
+    ensures least { negsuc 99 ≤ℤ result }
+    ensures most { result ≤ℤ pos 99 }
+{
+    draw(state, 2 * most + 1) as i64 - most as i64
+}
+
+fn form(alloc: Global, state: &mut u64) -> Result<Linear, Fail>
+    ensures { IfOk result (λ form. terms_width form.terms ≤ 4) }
+{
+    let constant = around_zero(state, 12);
+    let a = coefficient(state);
+    let b = coefficient(state);
+    match draw(state, 8) {
+        0 => Ok(Linear::new(alloc, &[(0, a)], constant)?),
+        1 => Ok(Linear::new(alloc, &[(1, a)], constant)?),
+        2 => Ok(Linear::new(alloc, &[(0, a), (1, b)], constant)?),
+        3 => Ok(Linear::new(alloc, &[(1, a), (2, b)], constant)?),
+        4 => Ok(Linear::new(alloc, &[(0, a), (3, b)], constant)?),
+        5 => Ok(Linear::new(alloc, &[(2, a), (3, b)], constant)?),
+        6 => Ok(Linear::new(alloc, &[(0, a), (2, b), (3, a)], constant)?),
+        _ => Ok(Linear::new(alloc, &[(0, b), (1, a), (2, a), (3, b)], constant)?),
+    }
+}
+
+/// An atom, or at a level above 0 an All or an Any of up to three formulas of the level below.
+fn formula(alloc: Global, state: &mut u64, level: u64) -> Result<Formula, Fail>
+    requires { level ≤ 3 }
+    ensures width { IfOk result (λ f. width f ≤ 4) }
+    ensures depth { IfOk result (λ f. depth f ≤ level) }
+{
+    if level == 0 {
+        return Ok(Formula::Atom(form(alloc, state)?));
+    }
+    let mut members = List::new(alloc);
+    let count = draw(state, 4);
+    for _member in 0..count {
+        members.push(formula(alloc, state, level - 1)?)?;
+    }
+    if draw(state, 2) == 0 {
+        Ok(Formula::All(members))
+    } else {
+        Ok(Formula::Any(members))
+    }
+}
+
+/// Four variables, each of up to eight values.
+fn bounds(state: &mut u64) -> [(i64, i64); 4] {
+    [span(state), span(state), span(state), span(state)]
+}
+
+fn span(state: &mut u64) -> (i64, i64) {
+    let low = around_zero(state, 6);
+    (low, low + draw(state, 8) as i64)
+}
+
+/// Whether the formula holds at some point of the box, by trying each.
+fn is_solvable(f: &Formula, bounds: &[(i64, i64); 4]) -> bool
+    requires width { width f.now ≤ 4 }
+    requires depth { depth f.now ≤ 4096 }
+{
+    for a in bounds[0].0..=bounds[0].1 {
+        for b in bounds[1].0..=bounds[1].1 {
+            for c in bounds[2].0..=bounds[2].1 {
+                for d in bounds[3].0..=bounds[3].1 {
+                    if holds(f, &[a, b, c, d]) {
+                        return true;
+                    }
+                }
+            }
+        }
+    }
+    false
+}
+
+/// Whether the decision is right, and stands.
+fn is_right(alloc: Global, f: &Formula, bounds: &[(i64, i64); 4]) -> Result<bool, Fail>
+    requires width { width f.now ≤ 4 }
+    requires depth { depth f.now ≤ 4096 }
+{
+    let b = Boxed {
+        bounds: List::from_vec(Vec::from_slice(alloc, bounds)?),
+    };
+    match decide(alloc, f, &b)? {
+        Decision::Solution(_) => Ok(is_solvable(f, bounds)),
+        Decision::Refuted(r) => Ok(!is_solvable(f, bounds) && check(alloc, f, &b, &r)?),
+    }
+}
+
+#[test]
+fn small_systems_are_decided_as_trying_every_point_does(rt: HostRuntime) -> Result<(), Fail> {
+    let alloc = rt.alloc();
+    let mut state = 7;
+    for _ in 0..2000 {
+        let f = formula(alloc, &mut state, 3)?;
+        let bounds = bounds(&mut state);
+        assert!(rt; is_right(alloc, &f, &bounds)?);
+    }
+    Ok(())
+}

@@ -1,0 +1,11 @@
+ghost use Rattle.std.specs.Prelude.{◌≡◌, ◌<◌, length};
+ghost use Rattle.ipg_solve.specs.Spans.{span_at};
+
+/// What a variable can be, and the numbers of the facts that say so.
+#[derive(Clone, Copy)]
+pub struct Span {
+    pub low: i64,
+    pub low_at: u64,
+    pub high: i64,
+    pub high_at: u64,
+}

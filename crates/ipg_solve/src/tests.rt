@@ -1,0 +1,187 @@
+ghost use Rattle.std.specs.Prelude.{◌≡◌, ◌≤◌, length, IfOk};
+ghost use Rattle.ipg_lin.specs.Formula.{width, depth};
+
+use super::*;
+use ipg_cert::{Refutation, check, refutation_text};
+use ipg_lin::{Boxed, Formula, Linear};
+use ipg_num::List;
+use std::alloc::Global;
+use std::test::Fail;
+
+const LEAST: i64 = i64::MIN;
+
+const MOST: i64 = i64::MAX;
+
+fn box_of(alloc: Global, bounds: &[(i64, i64)]) -> Result<Boxed, Fail>
+    ensures { IfOk result (λ b. b.bounds ≡ bounds.now) }
+{
+    let bounds = List::from_vec(Vec::from_slice(alloc, bounds)?);
+    Ok(Boxed { bounds })
+}
+
+/// `coefficient * x + constant <= 0`.
+fn one(alloc: Global, coefficient: i64, constant: i64) -> Result<Formula, Fail>
+    ensures width { IfOk result (λ f. width f ≤ 1) }
+    ensures depth { IfOk result (λ f. depth f ≡ 0) }
+{
+    Ok(Formula::Atom(Linear::new(alloc, &[(0, coefficient)], constant)?))
+}
+
+/// `a * x + b * y + constant <= 0`.
+fn two(alloc: Global, a: i64, b: i64, constant: i64) -> Result<Formula, Fail>
+    ensures width { IfOk result (λ f. width f ≤ 2) }
+    ensures depth { IfOk result (λ f. depth f ≡ 0) }
+{
+    Ok(Formula::Atom(Linear::new(alloc, &[(0, a), (1, b)], constant)?))
+}
+
+/// Both of two formulas that nest little.
+fn both(alloc: Global, f: Formula, g: Formula) -> Result<Formula, Fail>
+    requires depth { depth f ≤ 9 }
+    requires other_depth { depth g ≤ 9 }
+    requires width { width f ≤ 2 }
+    requires other_width { width g ≤ 2 }
+    ensures width { IfOk result (λ f. width f ≤ 2) }
+    ensures depth { IfOk result (λ f. depth f ≤ 10) }
+{
+    let mut members = List::new(alloc);
+    members.push(f)?;
+    members.push(g)?;
+    Ok(Formula::All(members))
+}
+
+fn either(alloc: Global, f: Formula, g: Formula) -> Result<Formula, Fail>
+    requires depth { depth f ≤ 8 }
+    requires other_depth { depth g ≤ 8 }
+    requires width { width f ≤ 2 }
+    requires other_width { width g ≤ 2 }
+    ensures width { IfOk result (λ f. width f ≤ 2) }
+    ensures depth { IfOk result (λ f. depth f ≤ 9) }
+{
+    let mut members = List::new(alloc);
+    members.push(f)?;
+    members.push(g)?;
+    Ok(Formula::Any(members))
+}
+
+fn solution(decision: Decision) -> Result<List<i64>, Fail> {
+    match decision {
+        Decision::Solution(values) => Ok(values),
+        Decision::Refuted(_) => Err("refuted")?,
+    }
+}
+
+fn refutation(decision: Decision) -> Result<Refutation, Fail> {
+    match decision {
+        Decision::Solution(_) => Err("solved")?,
+        Decision::Refuted(r) => Ok(r),
+    }
+}
+
+/// The words of the refutation of this formula, which checks.
+fn words(alloc: Global, f: &Formula, b: &Boxed) -> Result<Vec<u8>, Fail>
+    requires valued { width f.now ≤ length b.now.bounds }
+    requires shallow { depth f.now ≤ 4096 }
+{
+    let r = refutation(decide(alloc, f, b)?)?;
+    if !check(alloc, f, b, &r)? {
+        return Err("unchecked")?;
+    }
+    Ok(refutation_text(alloc, &r)?)
+}
+
+#[test]
+fn two_bounds_meet_at_four(rt: HostRuntime) -> Result<(), Fail> {
+    let alloc = rt.alloc();
+    let f = both(alloc, one(alloc, 2, -8)?, one(alloc, -2, 8)?)?;
+    let b = box_of(alloc, &[(0, 10), (0, 0)])?;
+    let values = solution(decide(alloc, &f, &b)?)?;
+    assert!(rt; values.as_slice() == [4, 0].as_slice());
+    Ok(())
+}
+
+#[test]
+fn three_and_a_half_is_refuted(rt: HostRuntime) -> Result<(), Fail> {
+    let alloc = rt.alloc();
+    let f = both(alloc, one(alloc, 2, -7)?, one(alloc, -2, 7)?)?;
+    let b = box_of(alloc, &[(LEAST, MOST), (0, 0)])?;
+    let _words = words(alloc, &f, &b)?;
+    Ok(())
+}
+
+fn empty_all(alloc: Global) -> Formula
+    ensures width { width result ≡ 0 }
+    ensures depth { depth result ≤ 1 }
+{
+    Formula::All(List::new(alloc))
+}
+
+fn empty_any(alloc: Global) -> Formula
+    ensures width { width result ≡ 0 }
+    ensures depth { depth result ≤ 1 }
+{
+    Formula::Any(List::new(alloc))
+}
+
+#[test]
+fn bounds_that_cross_are_refuted(rt: HostRuntime) -> Result<(), Fail> {
+    let alloc = rt.alloc();
+    let f = empty_all(alloc);
+    let b = box_of(alloc, &[(1, 0)])?;
+    assert!(rt; words(alloc, &f, &b)?.as_slice() == b"c 2 1 0 1 1".as_slice());
+    Ok(())
+}
+
+#[test]
+fn nothing_is_solved_by_nothing(rt: HostRuntime) -> Result<(), Fail> {
+    let alloc = rt.alloc();
+    let f = empty_all(alloc);
+    let b = box_of(alloc, &[])?;
+    assert_eq!(rt; solution(decide(alloc, &f, &b)?)?.len(), 0);
+    Ok(())
+}
+
+#[test]
+fn an_empty_any_is_refuted(rt: HostRuntime) -> Result<(), Fail> {
+    let alloc = rt.alloc();
+    let f = both(alloc, one(alloc, 1, 0)?, empty_any(alloc))?;
+    let b = box_of(alloc, &[(0, 0), (0, 0)])?;
+    assert!(rt; words(alloc, &f, &b)?.as_slice() == b"e 5 0".as_slice());
+    Ok(())
+}
+
+#[test]
+fn an_any_of_alls_takes_the_member_that_holds(rt: HostRuntime) -> Result<(), Fail> {
+    let alloc = rt.alloc();
+    let low = both(alloc, one(alloc, 1, 3)?, two(alloc, -1, 1, 0)?)?;
+    let high = both(alloc, one(alloc, -1, 3)?, two(alloc, 1, 1, -3)?)?;
+    let f = deep_either(alloc, low, high)?;
+    let b = box_of(alloc, &[(-2, 5), (0, 1)])?;
+    let values = solution(decide(alloc, &f, &b)?)?;
+    assert!(rt; values.as_slice() == [3, 0].as_slice());
+    Ok(())
+}
+
+fn deep_either(alloc: Global, f: Formula, g: Formula) -> Result<Formula, Fail>
+    requires depth { depth f ≤ 10 }
+    requires other_depth { depth g ≤ 10 }
+    requires width { width f ≤ 2 }
+    requires other_width { width g ≤ 2 }
+    ensures width { IfOk result (λ f. width f ≤ 2) }
+    ensures depth { IfOk result (λ f. depth f ≤ 11) }
+{
+    let mut members = List::new(alloc);
+    members.push(f)?;
+    members.push(g)?;
+    Ok(Formula::Any(members))
+}
+
+#[test]
+fn ends_of_64_bits_are_reached(rt: HostRuntime) -> Result<(), Fail> {
+    let alloc = rt.alloc();
+    let f = both(alloc, one(alloc, 1, MOST)?, two(alloc, -1, -1, 0)?)?;
+    let b = box_of(alloc, &[(LEAST, MOST), (LEAST, MOST)])?;
+    let values = solution(decide(alloc, &f, &b)?)?;
+    assert!(rt; values.as_slice() == [-MOST, MOST].as_slice());
+    Ok(())
+}
