@@ -28,3 +28,4 @@ mod Kept
 mod Formed
 mod Rising
 mod Places
+mod Shapes

@@ -1,11 +1,12 @@
 -- What the answer for a text is, in the words of the grammar of grammars.
-use Rattle.std.specs.Prelude.{◌≡◌, ℕ, ◌≤◌, true, List, [], ◌∷◌, ◌++◌, length, Some, Ok, Err, ◌↔◌}
+use Rattle.std.specs.Prelude.{◌≡◌, ℕ, ◌≤◌, ◌^◌, true, List, [], ◌∷◌, ◌++◌, length, Some, Ok, Err, ◌↔◌}
 use Rattle.std.specs.List.{AllByRecursion}
 use Rattle.ipg_ast.specs.declared.grammar.Grammar.{Grammar}
 use Rattle.ipg_ast.specs.declared.token.TokenKind.{TokenKind}
 use Rattle.ipg_ast.specs.Spelling.{grammar_tokens}
 use Rattle.ipg_ast.specs.Shape.{IsFormed}
 use Rattle.ipg_tokens.specs.Lexical.{tokens_of}
+use Rattle.ipg_tokens.specs.Shaped.{IsShaped, canonical_text}
 use Rattle.ipg_tokens.specs.declared.token.Token.{Token}
 use Rattle.ipg_tokens.specs.declared.fault.ReadFault.{ReadFault}
 use Rattle.ipg_tokens.specs.declared.fault.ReadFault.TheVariants.{Syntax, Limit}
@@ -101,3 +102,7 @@ ReadsFormed = (text : List ℕ) (g : Grammar) → ReadsWithin text g → IsForme
 abbrev pub LimitIsLeast : Type 0
 LimitIsLeast = (text : List ℕ) (tree : List RuleTree) (r : ReadsTree text tree) (over : Over) → first_over (sizes tree) ≡ Some over
     → AllByRecursion (λ z. is_over z ≡ true → place_of text r.tokens over.at ≤ place_of text r.tokens z.at) (sizes tree)
+
+-- what a text reads as within the limits is in shape, where its canonical text is short enough to be read
+abbrev pub ReadsShaped : Type 0
+ReadsShaped = (text : List ℕ) (g : Grammar) → ReadsWithin text g → length (canonical_text g) ≤ 2 ^ 20 → IsShaped g

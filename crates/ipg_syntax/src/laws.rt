@@ -1,6 +1,6 @@
 //! Laws of reading, each the contract of a function that does nothing.
 
-ghost use Rattle.ipg_syntax.specs.Laws.{OneGrammar, ReadsExactly, SyntaxPlace, LimitPlace, TokensFirst, ReadsTokensBack, KeepsTokens, ReadsFormed, LimitIsLeast};
+ghost use Rattle.ipg_syntax.specs.Laws.{OneGrammar, ReadsExactly, SyntaxPlace, LimitPlace, TokensFirst, ReadsTokensBack, KeepsTokens, ReadsFormed, LimitIsLeast, ReadsShaped};
 
 /// A text reads as one grammar at most.
 pub fn one_grammar()
@@ -45,4 +45,9 @@ pub fn reads_formed()
 /// No limit is passed at a lesser place than the one that is told.
 pub fn limit_is_least()
     ensures { LimitIsLeast }
+{}
+
+/// What a text reads as within the limits is in shape, where its canonical text is short enough.
+pub fn reads_shaped()
+    ensures { ReadsShaped }
 {}
