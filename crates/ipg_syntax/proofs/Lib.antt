@@ -29,3 +29,4 @@ mod Formed
 mod Rising
 mod Places
 mod Shapes
+mod Trips

@@ -106,3 +106,18 @@ LimitIsLeast = (text : List ℕ) (tree : List RuleTree) (r : ReadsTree text tree
 -- what a text reads as within the limits is in shape, where its canonical text is short enough to be read
 abbrev pub ReadsShaped : Type 0
 ReadsShaped = (text : List ℕ) (g : Grammar) → ReadsWithin text g → length (canonical_text g) ≤ 2 ^ 20 → IsShaped g
+
+-- ---- canonical texts
+
+-- the canonical text of a grammar in shape reads as that grammar
+abbrev pub RoundTrip : Type 0
+RoundTrip = (g : Grammar) → IsShaped g → ReadsBack (canonical_text g) g
+
+pub record StaysWritten (g : Grammar) : Type 0 where
+  pub found : Grammar
+  pub answer : read_of (canonical_text g) ≡ Ok found
+  pub same : canonical_text found ≡ canonical_text g
+
+-- the canonical text of what is read, where it is short enough, is its own canonical text
+abbrev pub CanonicalStays : Type 0
+CanonicalStays = (text : List ℕ) (g : Grammar) → read_of text ≡ Ok g → length (canonical_text g) ≤ 2 ^ 20 → StaysWritten g

@@ -1,6 +1,8 @@
 //! Laws of reading, each the contract of a function that does nothing.
 
-ghost use Rattle.ipg_syntax.specs.Laws.{OneGrammar, ReadsExactly, SyntaxPlace, LimitPlace, TokensFirst, ReadsTokensBack, KeepsTokens, ReadsFormed, LimitIsLeast, ReadsShaped};
+ghost use Rattle.ipg_syntax.specs.Laws.{OneGrammar, ReadsExactly, SyntaxPlace, LimitPlace, TokensFirst, ReadsTokensBack, KeepsTokens, ReadsFormed, LimitIsLeast, ReadsShaped, RoundTrip, CanonicalStays};
+
+use ipg_lexis::gives_tokens_back;
 
 /// A text reads as one grammar at most.
 pub fn one_grammar()
@@ -51,3 +53,17 @@ pub fn limit_is_least()
 pub fn reads_shaped()
     ensures { ReadsShaped }
 {}
+
+/// The canonical text of a grammar in shape reads as that grammar, but for the places of its tokens.
+pub fn round_trip()
+    ensures { RoundTrip }
+{
+    gives_tokens_back();
+}
+
+/// The canonical text of what is read, where it is short enough, is its own canonical text.
+pub fn canonical_stays()
+    ensures { CanonicalStays }
+{
+    gives_tokens_back();
+}
