@@ -8,11 +8,11 @@ use Rattle.ipg_tokens.specs.Lexical.{tokens_of}
 use Rattle.ipg_tokens.specs.Shaped.{IsShaped, placed, canonical_text}
 use Rattle.ipg_lexis.specs.Back.{GivesTokensBack}
 use Rattle.ipg_syntax.specs.Reading.{Reads, ReadsWithin}
-use Rattle.ipg_syntax.specs.Laws.{kinds, ReadsBack, RoundTrip, CanonicalStays}
+use Rattle.ipg_canon.specs.Laws.{kinds, ReadsBack, RoundTrip, CanonicalStays}
 use Rattle.ipg_syntax.proofs.Readings.{reads_exactly}
-use Rattle.ipg_syntax.proofs.Backs.{reads_tokens_back}
-use Rattle.ipg_syntax.proofs.Kept.{keeps_tokens}
-use Rattle.ipg_syntax.proofs.Shapes.{reads_shaped}
+use Rattle.ipg_canon.proofs.Backs.{reads_tokens_back}
+use Rattle.ipg_canon.proofs.Kept.{keeps_tokens}
+use Rattle.ipg_canon.proofs.Shapes.{reads_shaped}
 
 kinds_placed : (at : ℕ) (ks : List TokenKind) → kinds (placed at ks) ≡ ks
 kinds_placed at [] = refl

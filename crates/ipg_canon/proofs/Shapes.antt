@@ -14,9 +14,9 @@ use Rattle.ipg_tokens.specs.declared.string.Item.{Item}
 use Rattle.ipg_tokens.specs.declared.string.Item.TheVariants.{End, Byte, Bad}
 use Rattle.ipg_tokens.specs.Lexical.{Lexed, lexed, beginning, front_at, token_first, large_first, tokens_of, in_class, run, is_white, is_letter, is_digit, is_hexadecimal, is_plain, is_single, is_pair, is_prefixed, is_one_of, reserved, digit_value, value, below_limit, front_of_value, decimal_front, hexadecimal_front, number_front, name_front, escape, item, Quoted, after_bytes, with_item, quoted, text_front, string_front, single_front, symbol_front}
 use Rattle.ipg_tokens.specs.Shaped.{is_name, is_byte, IsToken}
-use Rattle.ipg_syntax.specs.Laws.{kinds, ReadsShaped}
-use Rattle.ipg_syntax.proofs.Formed.{reads_formed}
-use Rattle.ipg_syntax.proofs.Kept.{keeps_tokens}
+use Rattle.ipg_canon.specs.Laws.{kinds, ReadsShaped}
+use Rattle.ipg_canon.proofs.Formed.{reads_formed}
+use Rattle.ipg_canon.proofs.Kept.{keeps_tokens}
 
 choose : {A : Type 0} (P : A → Type 0) (c : Bool) (x y : A) → (c ≡ true → P x) → (c ≡ false → P y) → P (cond c x y)
 choose P true x y f g = f refl
