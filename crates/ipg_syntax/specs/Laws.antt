@@ -1,5 +1,5 @@
 -- What the answer for a text is, in the words of the grammar of grammars.
-use Rattle.std.specs.Prelude.{◌≡◌, ℕ, ◌≤◌, true, List, [], ◌∷◌, ◌++◌, length, Some, Ok, Err, ◌↔◌}
+use Rattle.std.specs.Prelude.{◌≡◌, ℕ, ◌≤◌, ◌<◌, true, List, [], ◌∷◌, ◌++◌, length, Some, Ok, Err, ◌↔◌}
 use Rattle.std.specs.List.{AllByRecursion}
 use Rattle.ipg_ast.specs.declared.grammar.Grammar.{Grammar}
 use Rattle.ipg_tokens.specs.Lexical.{tokens_of}
@@ -70,7 +70,7 @@ LimitPlace = (text : List ℕ) (which : Which) (place : ℕ) → (read_of text �
 abbrev pub TokensFirst : Type 0
 TokensFirst = (text : List ℕ) (fault : ReadFault) → tokens_of text ≡ Err fault → read_of text ≡ Err fault
 
--- no other limit is passed at a lesser place
+-- the token of the limit told is there, and no other limit is passed at a lesser place
 abbrev pub LimitIsLeast : Type 0
 LimitIsLeast = (text : List ℕ) (tree : List RuleTree) (r : ReadsTree text tree) (over : Over) → first_over (sizes tree) ≡ Some over
-    → AllByRecursion (λ z. is_over z ≡ true → place_of text r.tokens over.at ≤ place_of text r.tokens z.at) (sizes tree)
+    → (over.at < length r.tokens) × AllByRecursion (λ z. is_over z ≡ true → place_of text r.tokens over.at ≤ place_of text r.tokens z.at) (sizes tree)
