@@ -14,10 +14,6 @@ module _ (A : Acts) where
   abbrev st : A.Log → Pos A → State A
   st log pos = record { log = log; pos = pos }
 
-  plain_alts : (rest : List (List TermTree)) (more : Toks) → NoBracket (spell_local_alts slash rest ++ (semicolon ∷ more))
-  plain_alts [] more = refl
-  plain_alts (ts ∷ rest) more = refl
-
   -- the alternatives of a local rule after the mark of one, up to the `;`
   takes_local_alts : (h : Head A) (outer : A.Terms) (ls : A.Locals) (n : Ident) (log : A.Log) (las : A.LocalAlts) (ts : List TermTree) (rest : List (List TermTree))
       (at : ℕ) (more : Toks) → TermsFit ts → Each TermsFit rest
