@@ -175,11 +175,6 @@ abbrev Closes : Toks → Type 0
 Closes [] = Unit {0}
 Closes (t ∷ ts) = Ends 0 t
 
-use_closes : (u : SlotUse trees) (site : Site trees) → Closes (classes (close_use u (close_site site)))
-use_closes alone site = (le_refl 0, refl)
-use_closes (chosen x cs c) site = (le_refl 0, refl)
-use_closes (other x cs) site = (le_refl 0, refl)
-
 base_closes : (base : Base trees) (rest : Tokens) → Closes (classes (close_base base rest))
 base_closes (Machine.length_or_left u w span) rest = (le_refl 0, refl)
 base_closes (Machine.right_of u w span l) rest = (le_refl 0, refl)

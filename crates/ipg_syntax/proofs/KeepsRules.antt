@@ -3,7 +3,7 @@ use Rattle.std.proofs.Common.{◌≡◌, ℕ, List, [], ◌∷◌, ◌++◌, Opt
 use Rattle.ipg_ast.specs.declared.grammar.Ident.{Ident}
 use Rattle.ipg_num.specs.declared.op.Op2.TheVariants.{Div}
 use Rattle.ipg_syntax.specs.Classes.{op, Tok, name, sign, arrow, slash, semicolon, left_brace, right_brace, where_word}
-use Rattle.ipg_syntax.specs.Written.{Toks, TermTree, LocalTree, AltTree, spell_terms, spell_local_alts, spell_locals, spell_alt, spell_alts, spell, TermFits, TermsFit, LocalFits, AltFits, RuleFits, Each, Some_each}
+use Rattle.ipg_syntax.specs.Written.{Toks, TermTree, LocalTree, AltTree, spell_terms, spell_local_alts, spell_locals, spell_alt, spell_alts, spell, TermFits, TermsFit, LocalFits, AltFits, RuleFits, Each, SomeEach}
 use Rattle.ipg_syntax.specs.Machine
 use Rattle.ipg_syntax.specs.Machine.{Head, Site, global, local, Pos, Part, State, Turn}
 use Rattle.ipg_syntax.specs.Making.{trees, last}
@@ -38,7 +38,7 @@ local_added ls n las r =
     ap (λ toks. spell_locals ls ++ (name n ∷ toks)) (sym (append_assoc (spell_local_alts arrow las) (semicolon ∷ []) r))
     ∙ sym (locals_last ls (record { head = n; alts = las }) r)
 
-where_spelled : (ts : List TermTree) (ls : List LocalTree) (r : Toks) → Some_each LocalFits ls
+where_spelled : (ts : List TermTree) (ls : List LocalTree) (r : Toks) → SomeEach LocalFits ls
     → spell_terms ts ++ (where_word ∷ left_brace ∷ (spell_locals ls ++ (right_brace ∷ r))) ≡ spell_alt (record { terms = ts; locals = ls }) ++ r
 where_spelled ts [] r some = absurd some
 where_spelled ts (l ∷ ls) r some =
@@ -110,10 +110,10 @@ turned_keeps at site ts t (Some (Machine.passed log x)) before ib kept fits same
     (λ r. same r ∙ ap (λ toks. site_before site (spell_terms ts ++ toks)) (next.same r) ∙ ap (site_before site) (sym (terms_last ts x r)))
 turned_keeps at site ts t None before ib kept fits same next = tt
 
-slash_next : (h : Head trees) → Some_each AltFits h.alts → mark h.alts ≡ slash
+slash_next : (h : Head trees) → SomeEach AltFits h.alts → mark h.alts ≡ slash
 slash_next h some = go h.alts some
   where
-    go : (alts : List AltTree) → Some_each AltFits alts → mark alts ≡ slash
+    go : (alts : List AltTree) → SomeEach AltFits alts → mark alts ≡ slash
     go [] some_one = absurd some_one
     go (a ∷ rest) some_one = refl
 

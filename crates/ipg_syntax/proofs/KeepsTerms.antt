@@ -5,7 +5,7 @@ use Rattle.ipg_ast.specs.declared.grammar.Span.{Span}
 use Rattle.ipg_ast.specs.declared.grammar.What.{What}
 use Rattle.ipg_syntax.specs.Classes.{level, Tok, name, text, sign, question, colon, dot, comma, equals, left_paren, right_paren, left_bracket, right_bracket, left_brace, right_brace, for_word, to_word, do_word, switch_word, case_word, else_word}
 use Rattle.ipg_syntax.specs.Written
-use Rattle.ipg_syntax.specs.Written.{Toks, ExprTree, SlotTree, CaseTree, TermTree, what_tok, spell_expr, spell_slot, spell_case, spell_cases, spell_term, Stands, prefix_level, SlotFits, CaseFits, TermFits, Each, Some_each}
+use Rattle.ipg_syntax.specs.Written.{Toks, ExprTree, SlotTree, CaseTree, TermTree, what_tok, spell_expr, spell_slot, spell_case, spell_cases, spell_term, Stands, prefix_level, SlotFits, CaseFits, TermFits, Each, SomeEach}
 use Rattle.ipg_syntax.specs.Machine
 use Rattle.ipg_syntax.specs.Machine.{Frame, group, index, then_of, close, Closing, Inner, want, have, Base, SlotUse, alone, chosen, other, Part, Turn, still}
 use Rattle.ipg_syntax.specs.Making.{trees, last}
@@ -34,7 +34,7 @@ slot_done_keeps log (chosen at cs c) s t before kept fits same = record {
 }
 slot_done_keeps log (other at cs) s t before kept fits same = record { kept = (kept, fits); same = same }
 
-case_keeps : (log : _) (at : Span) (cs : List CaseTree) (t : Tok) (before : Toks → Toks) → Some_each CaseFits cs → ((r : Toks) → before r ≡ pick_before at cs r)
+case_keeps : (log : _) (at : Span) (cs : List CaseTree) (t : Tok) (before : Toks → Toks) → SomeEach CaseFits cs → ((r : Toks) → before r ≡ pick_before at cs r)
     → Next (TurnNext before t) (Machine.case_move trees log at cs t)
 case_keeps log at cs case_word before kept same = record { kept = some_each CaseFits cs kept; same = λ r. same (case_word ∷ r) }
 case_keeps log at cs else_word before kept same = record { kept = kept; same = λ r. same (else_word ∷ r) }
@@ -46,7 +46,7 @@ pick_done at cs s r = ap (λ toks. switch_word at ∷ left_brace ∷ toks)
     (ap (λ toks. spell_cases cs ++ (else_word ∷ toks)) (sym (append_assoc (spell_slot s) (right_brace ∷ []) r))
     ∙ sym (append_assoc (spell_cases cs) (else_word ∷ (spell_slot s ++ (right_brace ∷ []))) r))
 
-pick_keeps : (log : _) (at : Span) (cs : List CaseTree) (s : SlotTree) (t : Tok) (before : Toks → Toks) → Some_each CaseFits cs → SlotFits s
+pick_keeps : (log : _) (at : Span) (cs : List CaseTree) (s : SlotTree) (t : Tok) (before : Toks → Toks) → SomeEach CaseFits cs → SlotFits s
     → ((r : Toks) → before r ≡ pick_before at cs (else_word ∷ (spell_slot s ++ r))) → Next (TurnNext before t) (Machine.close_move trees log at cs s t)
 pick_keeps log at cs s right_brace before kept fits same = record { fits = (kept, fits); same = λ r. same (right_brace ∷ r) ∙ pick_done at cs s r }
 pick_keeps log at cs s t before kept fits same = tt

@@ -1,16 +1,16 @@
 -- Lists with one more member at the end: their tokens, and what each member keeps.
 use Rattle.std.proofs.Common.{◌≡◌, List, [], ◌∷◌, ◌++◌, ap, ◌∙◌, sym, append_assoc}
 use Rattle.ipg_syntax.specs.Classes.{arrow, slash}
-use Rattle.ipg_syntax.specs.Written.{Toks, CaseTree, TermTree, LocalTree, AltTree, RuleTree, spell_case, spell_cases, spell_term, spell_terms, spell_local_alts, spell_local, spell_locals, spell_alt, spell_alts, spell_rule, spell, Each, Some_each}
+use Rattle.ipg_syntax.specs.Written.{Toks, CaseTree, TermTree, LocalTree, AltTree, RuleTree, spell_case, spell_cases, spell_term, spell_terms, spell_local_alts, spell_local, spell_locals, spell_alt, spell_alts, spell_rule, spell, Each, SomeEach}
 use Rattle.ipg_syntax.specs.Making.{last}
 use Rattle.ipg_syntax.proofs.Taken.{mark}
 
-pub some_last : {A : Type 0} (P : A → Type 0) (xs : List A) (x : A) → Each P xs → P x → Some_each P (last xs x)
+pub some_last : {A : Type 0} (P : A → Type 0) (xs : List A) (x : A) → Each P xs → P x → SomeEach P (last xs x)
 some_last P [] x each one = (one, tt)
 some_last P (y ∷ []) x each one = (each.0, (one, tt))
 some_last P (y ∷ z ∷ xs) x each one = (each.0, some_last P (z ∷ xs) x each.1 one)
 
-pub some_each : {A : Type 0} (P : A → Type 0) (xs : List A) → Some_each P xs → Each P xs
+pub some_each : {A : Type 0} (P : A → Type 0) (xs : List A) → SomeEach P xs → Each P xs
 some_each P [] none = absurd none
 some_each P (x ∷ xs) some = some
 

@@ -1,9 +1,9 @@
 mod Rows
 pub mod Frames
 mod TakesExprs
-mod Logs
+pub mod Logs
 mod TakesTerms
-mod TakesRules
+pub mod TakesRules
 pub mod Maps
 pub mod Plain
 mod Taken
@@ -11,20 +11,12 @@ mod KeepsExprs
 mod Lasts
 mod KeepsTerms
 mod KeepsRules
-mod Runs
+pub mod Runs
 mod Closers
-mod Selfs
-mod Counts
+pub mod Selfs
+pub mod Counts
 mod Lexed
-mod Outcomes
-mod Readings
-mod Images
-mod Bares
-mod Spelt
-mod Kinded
-mod Forms
-mod Backs
-mod Kept
-mod Formed
+pub mod Outcomes
+pub mod Readings
 mod Rising
 mod Places

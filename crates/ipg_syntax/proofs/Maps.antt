@@ -7,9 +7,19 @@ use Rattle.ipg_ast.specs.declared.grammar.What.{What}
 use Rattle.ipg_ast.specs.declared.grammar.Field.{Field}
 use Rattle.ipg_ast.specs.declared.grammar.Field.TheVariants.{Id as Attribute, Start, End}
 use Rattle.ipg_syntax.specs.Classes.{Infix, op, level, Tok, name, number, text, sign, bang, question, colon, dot, comma, equals, arrow, semicolon, left_paren, right_paren, left_bracket, right_bracket, left_brace, right_brace, for_word, to_word, do_word, switch_word, case_word, else_word, where_word, start_word, end_word, eoi_word}
-use Rattle.ipg_syntax.specs.Bare.{no_span, bare_ident as plain_ident, bare_field as plain_field}
 use Rattle.ipg_syntax.specs.Machine
 use Rattle.ipg_syntax.specs.Machine.{Acts, Frame, Inner, SlotUse, Base, Part, Head, Site, Pos, State, Closing, Turn, Read, verdict}
+
+abbrev pub no_span : Span
+no_span = record { from = 0; to = 0 }
+
+abbrev pub plain_ident : Ident → Ident
+plain_ident i = record { name = i.name; span = no_span }
+
+abbrev pub plain_field : Field → Field
+plain_field (Attribute i) = Attribute (plain_ident i)
+plain_field Start = Start
+plain_field End = End
 
 -- a token without its place
 abbrev pub plain : Tok → Tok

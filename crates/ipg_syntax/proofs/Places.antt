@@ -1,15 +1,16 @@
 -- The places of a text's tokens ascend.
-use Rattle.std.proofs.Common.{◌≡◌, ℕ, zero, suc, ◌+◌, ◌-◌, ◌≤◌, ◌^◌, List, [], ◌∷◌, Bool, true, false, cond, Ok, Err, nat_lt, length, refl, sym, subst, arith, le_refl, le_trans}
+use Rattle.std.proofs.Common.{◌≡◌, ℕ, zero, suc, ◌+◌, ◌-◌, ◌≤◌, ◌<◌, ◌^◌, List, [], ◌∷◌, Bool, true, false, cond, Ok, Err, nat_lt, length, refl, ap, sym, subst, arith, le_refl, le_trans}
 use Rattle.std.specs.List.{AllByRecursion}
 use Rattle.ipg_tokens.specs.Lexical.{Lexed, lexed, beginning, front_at, token_first, large_first, tokens_of}
 use Rattle.ipg_tokens.specs.declared.token.Token.{Token}
 use Rattle.ipg_tokens.specs.declared.fault.ReadFault.TheVariants.{TooLong, Lex, Number, Syntax, Limit, Memory}
 use Rattle.ipg_tokens.specs.declared.front.Front.{Front}
 use Rattle.ipg_tokens.specs.declared.front.Front.TheVariants.{Nothing, Blank, Large, Token as Begins}
+use Rattle.ipg_syntax.specs.Classes.{classes}
 use Rattle.ipg_syntax.specs.Limits.{Size, is_over, sizes}
 use Rattle.ipg_syntax.specs.Reading.{place_of}
 use Rattle.ipg_syntax.specs.Laws.{LimitIsLeast}
-use Rattle.ipg_syntax.proofs.Rising.{NotBefore, first_least}
+use Rattle.ipg_syntax.proofs.Rising.{NotBefore, first_least, first_there}
 
 -- from one place on, up to another
 abbrev Ascends : ℕ → ℕ → List Token → Type 0
@@ -76,9 +77,16 @@ places_ascend text low high (t ∷ ts) zero (suc n) ends ascends less = low_plac
 places_ascend text low high (t ∷ ts) (suc m) zero ends ascends less = absurd (let no : ⊥ = omega arith in no)
 places_ascend text low high (t ∷ ts) (suc m) (suc n) ends ascends less = places_ascend text t.span.from high ts m n ends ascends.1 (omega arith)
 
+length_classes : (ts : List Token) → length (classes ts) ≡ length ts
+length_classes [] = refl
+length_classes (t ∷ ts) = ap suc (length_classes ts)
+
 pub limit_is_least : LimitIsLeast
-limit_is_least text tree r over first = go (sizes tree) (first_least tree over first)
+limit_is_least text tree r over first = (there, go (sizes tree) (first_least tree r.fits over first))
   where
+    there : over.at < length r.tokens
+    there = omega (arith, first_there tree r.fits over first, ap length r.spelled, length_classes r.tokens)
+
     ascends : Ascends 0 (0 + length text) r.tokens
     ascends = subst (AscendsIfOk 0 (0 + length text)) r.falls (tokens_ascend text)
 

@@ -1,7 +1,7 @@
 -- The tokens that a position stands for, before those that are left, and what it keeps.
 use Rattle.std.proofs.Common.{◌≡◌, ◌≤◌, List, [], ◌∷◌, ◌++◌, Option, Some, None}
 use Rattle.ipg_syntax.specs.Classes.{level, Tok, name, sign, bang, question, colon, dot, comma, equals, arrow, left_paren, right_paren, left_bracket, left_brace, for_word, to_word, do_word, switch_word, case_word, else_word, where_word, minus, slash}
-use Rattle.ipg_syntax.specs.Written.{Toks, TermTree, what_tok, spell_expr, spell_slot, spell_cases, spell_term, spell_terms, spell_local_alts, spell_locals, spell_alts, spell, Stands, prefix_level, Each, Some_each, SlotFits, CaseFits, TermFits, TermsFit, LocalFits, AltFits, RuleFits, Fits}
+use Rattle.ipg_syntax.specs.Written.{Toks, TermTree, what_tok, spell_expr, spell_slot, spell_cases, spell_term, spell_terms, spell_local_alts, spell_locals, spell_alts, spell, Stands, prefix_level, Each, SomeEach, SlotFits, CaseFits, TermFits, TermsFit, LocalFits, AltFits, RuleFits, Fits}
 use Rattle.ipg_syntax.specs.Machine.{Frame, neg, isnt, left, group, index, then_of, else_of, Inner, want, have, named, dotted, indexed, index_dotted, SlotUse, alone, chosen, other, Base, length_or_left, right_of, value_of, test_of, first_bound, last_bound, item_left, item_right, case_of, Part, slot_named, expr, set_open, set_named, test_open, repeat_open, repeat_named, item_due, item_named, pick_open, first_case, next_case, case_open, slot_due, pick_close, Head, Site, global, local, Pos, start, between, rule_named, local_named, before_term, in_term, after_term, where_named, before_local, after_local, after_where, State, Turn, still, done, passed}
 use Rattle.ipg_syntax.specs.Making.{trees}
 use Rattle.ipg_syntax.proofs.Frames.{need}
@@ -111,7 +111,7 @@ KeptInner (index_dotted fs i e) = KeptFrames fs × Stands 0 e
 abbrev pub KeptUse : SlotUse trees → Type 0
 KeptUse alone = Unit {0}
 KeptUse (chosen at cs c) = Each CaseFits cs × Stands 0 c
-KeptUse (other at cs) = Some_each CaseFits cs
+KeptUse (other at cs) = SomeEach CaseFits cs
 
 abbrev pub KeptBase : Base trees → Type 0
 KeptBase (length_or_left u w at) = KeptUse u
@@ -136,10 +136,10 @@ KeptPart (item_due x a b) = Stands 0 a × Stands 0 b
 KeptPart (item_named x a b i) = Stands 0 a × Stands 0 b
 KeptPart (pick_open at) = Unit {0}
 KeptPart (first_case at) = Unit {0}
-KeptPart (next_case at cs) = Some_each CaseFits cs
+KeptPart (next_case at cs) = SomeEach CaseFits cs
 KeptPart (case_open at cs) = Each CaseFits cs
 KeptPart (slot_due u) = KeptUse u
-KeptPart (pick_close at cs s) = Some_each CaseFits cs × SlotFits s
+KeptPart (pick_close at cs s) = SomeEach CaseFits cs × SlotFits s
 
 abbrev pub KeptHead : Head trees → Type 0
 KeptHead h = Each RuleFits h.rules × Each AltFits h.alts
@@ -158,8 +158,8 @@ KeptPos (in_term site ts p) = KeptSite site × Each TermFits ts × KeptPart p
 KeptPos (after_term site ts) = KeptSite site × TermsFit ts
 KeptPos (where_named h ts) = KeptHead h × TermsFit ts
 KeptPos (before_local h ts) = KeptHead h × TermsFit ts
-KeptPos (after_local h ts ls) = KeptHead h × TermsFit ts × Some_each LocalFits ls
-KeptPos (after_where h) = Each RuleFits h.rules × Some_each AltFits h.alts
+KeptPos (after_local h ts ls) = KeptHead h × TermsFit ts × SomeEach LocalFits ls
+KeptPos (after_where h) = Each RuleFits h.rules × SomeEach AltFits h.alts
 
 -- ---- after a step, if there is one
 

@@ -2,7 +2,7 @@
 use Rattle.std.proofs.Common.{◌≡◌, ℕ, ◌+◌, List, [], ◌∷◌, ◌++◌, Bool, true, false, Ok, refl, ap, ◌∙◌, sym, append_assoc}
 use Rattle.ipg_ast.specs.declared.grammar.Ident.{Ident}
 use Rattle.ipg_syntax.specs.Classes.{Tok, slash, semicolon, right_brace}
-use Rattle.ipg_syntax.specs.Written.{Toks, TermTree, LocalTree, AltTree, RuleTree, spell_terms, spell_local_alts, spell_local, spell_locals, spell_where, spell_alt, spell_alts, spell_rule, spell, TermsFit, LocalFits, AltFits, RuleFits, Fits, Each, Some_each}
+use Rattle.ipg_syntax.specs.Written.{Toks, TermTree, LocalTree, AltTree, RuleTree, spell_terms, spell_local_alts, spell_local, spell_locals, spell_where, spell_alt, spell_alts, spell_rule, spell, TermsFit, LocalFits, AltFits, RuleFits, Fits, Each, SomeEach}
 use Rattle.ipg_syntax.specs.Limits.{past}
 use Rattle.ipg_syntax.specs.Machine.{Acts, Head, global, local, Pos, State, between, before_term, after_term, after_local, after_where, with_alt, verdict, start_state}
 use Rattle.ipg_syntax.specs.Making.{terms_by, local_alts_by, locals_by, alts_by, rules_by}
@@ -13,10 +13,6 @@ use Rattle.ipg_syntax.proofs.Logs.{log_terms, log_local_alts, log_locals, log_al
 module _ (A : Acts) where
   abbrev st : A.Log → Pos A → State A
   st log pos = record { log = log; pos = pos }
-
-  plain_alts : (rest : List (List TermTree)) (more : Toks) → NoBracket (spell_local_alts slash rest ++ (semicolon ∷ more))
-  plain_alts [] more = refl
-  plain_alts (ts ∷ rest) more = refl
 
   -- the alternatives of a local rule after the mark of one, up to the `;`
   takes_local_alts : (h : Head A) (outer : A.Terms) (ls : A.Locals) (n : Ident) (log : A.Log) (las : A.LocalAlts) (ts : List TermTree) (rest : List (List TermTree))
@@ -40,7 +36,7 @@ module _ (A : Acts) where
       ∙ ap (λ k. verdict A (k + 1) (st (log_local_alts A next mid (us ∷ rest) told) (after_local h outer (A.with_local ls n (local_alts_by A next (us ∷ rest))))) more)
       (sym (past_append (at + 1) (spell_terms ts) (spell_local_alts slash (us ∷ rest))))
 
-  takes_local_of : (h : Head A) (outer : A.Terms) (ls : A.Locals) (log : A.Log) (n : Ident) (alts : List (List TermTree)) (at : ℕ) (more : Toks) → Some_each TermsFit alts
+  takes_local_of : (h : Head A) (outer : A.Terms) (ls : A.Locals) (log : A.Log) (n : Ident) (alts : List (List TermTree)) (at : ℕ) (more : Toks) → SomeEach TermsFit alts
       → verdict A at (st log (after_local h outer ls)) (spell_local (record { head = n; alts = alts }) ++ more)
       ≡ verdict A (past at (spell_local (record { head = n; alts = alts })))
       (st (log_local_alts A A.no_local_alts (at + 1) alts (A.saw_rule at log)) (after_local h outer (A.with_local ls n (local_alts_by A A.no_local_alts alts)))) more
@@ -122,7 +118,7 @@ module _ (A : Acts) where
       ∙ ap (λ k. verdict A (k + 1) (st (log_alts A next.alts mid (b ∷ rest) told) (between (A.with_rule h.rules h.name (alts_by A next.alts (b ∷ rest))))) more)
       (sym (past_append (at + 1) (spell_alt a) (spell_alts slash (b ∷ rest))))
 
-  takes_rule_of : (done : A.Rules) (log : A.Log) (n : Ident) (alts : List AltTree) (at : ℕ) (more : Toks) → Some_each AltFits alts
+  takes_rule_of : (done : A.Rules) (log : A.Log) (n : Ident) (alts : List AltTree) (at : ℕ) (more : Toks) → SomeEach AltFits alts
       → verdict A at (st log (between done)) (spell_rule (record { head = n; alts = alts }) ++ more)
       ≡ verdict A (past at (spell_rule (record { head = n; alts = alts })))
       (st (log_alts A A.no_alts (at + 1) alts (A.saw_rule at log)) (between (A.with_rule done n (alts_by A A.no_alts alts)))) more

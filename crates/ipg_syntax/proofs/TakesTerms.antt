@@ -4,7 +4,7 @@ use Rattle.ipg_ast.specs.declared.grammar.Span.{Span}
 use Rattle.ipg_ast.specs.declared.grammar.What.{What}
 use Rattle.ipg_ast.specs.declared.grammar.What.TheVariants.{Text, Call}
 use Rattle.ipg_syntax.specs.Classes.{Tok, name, comma, right_paren, left_bracket, right_bracket, right_brace, to_word, do_word, else_word}
-use Rattle.ipg_syntax.specs.Written.{Toks, ExprTree, PlaceTree, anywhere, long, ends, SlotTree, CaseTree, TermTree, slot_term, set_term, test_term, repeat_term, pick_term, what_tok, spell_expr, spell_place, spell_slot, spell_case, spell_cases, spell_term, spell_terms, Stands, PlaceFits, SlotFits, CaseFits, TermFits, TermsFit, Each, Some_each}
+use Rattle.ipg_syntax.specs.Written.{Toks, ExprTree, PlaceTree, anywhere, long, ends, SlotTree, CaseTree, TermTree, slot_term, set_term, test_term, repeat_term, pick_term, what_tok, spell_expr, spell_place, spell_slot, spell_case, spell_cases, spell_term, spell_terms, Stands, PlaceFits, SlotFits, CaseFits, TermFits, TermsFit, Each, SomeEach}
 use Rattle.ipg_syntax.specs.Limits.{past}
 use Rattle.ipg_syntax.specs.Machine
 use Rattle.ipg_syntax.specs.Machine.{Acts, want, have, Base, SlotUse, alone, chosen, other, Site, State, Turn, in_term, after_term, slot_named, slot_due, next_case, pick_close, expr, turned, onward, slot_done, slot_passed, slot_move, verdict}
@@ -123,12 +123,12 @@ module _ (A : Acts) (site : Site A) (before : A.Terms) where
       ∙ takes_cases (log_case A at c log) span more cs (past at (spell_case c)) rest fits.1 plain
       ∙ ap (λ n. verdict A n (part_state (log_cases A at (c ∷ cs) log) (next_case span (cases_by A more cs))) rest) (sym (past_append at (spell_case c) (spell_cases cs)))
 
-  first_case_as_next : (log : A.Log) (span : Span) (cs : List CaseTree) (at : ℕ) (rest : Toks) → Some_each CaseFits cs
+  first_case_as_next : (log : A.Log) (span : Span) (cs : List CaseTree) (at : ℕ) (rest : Toks) → SomeEach CaseFits cs
       → verdict A at (part_state log (Machine.first_case span)) (spell_cases cs ++ rest) ≡ verdict A at (part_state log (next_case span A.no_cases)) (spell_cases cs ++ rest)
   first_case_as_next log span [] at rest fits = absurd fits
   first_case_as_next log span (c ∷ cs) at rest fits = refl
 
-  all_cases : (cs : List CaseTree) → Some_each CaseFits cs → Each CaseFits cs
+  all_cases : (cs : List CaseTree) → SomeEach CaseFits cs → Each CaseFits cs
   all_cases [] fits = tt
   all_cases (c ∷ cs) fits = fits
 

@@ -1,10 +1,7 @@
 -- What the answer for a text is, in the words of the grammar of grammars.
-use Rattle.std.specs.Prelude.{◌≡◌, ℕ, ◌≤◌, true, List, [], ◌∷◌, ◌++◌, length, Some, Ok, Err, ◌↔◌}
+use Rattle.std.specs.Prelude.{◌≡◌, ℕ, ◌≤◌, ◌<◌, true, List, [], ◌∷◌, ◌++◌, length, Some, Ok, Err, ◌↔◌}
 use Rattle.std.specs.List.{AllByRecursion}
 use Rattle.ipg_ast.specs.declared.grammar.Grammar.{Grammar}
-use Rattle.ipg_ast.specs.declared.token.TokenKind.{TokenKind}
-use Rattle.ipg_ast.specs.Spelling.{grammar_tokens}
-use Rattle.ipg_ast.specs.Shape.{IsFormed}
 use Rattle.ipg_tokens.specs.Lexical.{tokens_of}
 use Rattle.ipg_tokens.specs.declared.token.Token.{Token}
 use Rattle.ipg_tokens.specs.declared.fault.ReadFault.{ReadFault}
@@ -13,7 +10,6 @@ use Rattle.ipg_tokens.specs.declared.fault.Which.{Which}
 use Rattle.ipg_syntax.specs.Classes.{classes}
 use Rattle.ipg_syntax.specs.Written.{RuleTree, Fits, spell}
 use Rattle.ipg_syntax.specs.Limits.{Over, is_over, sizes, first_over}
-use Rattle.ipg_syntax.specs.Bare.{bare, every}
 use Rattle.ipg_syntax.specs.Reading.{ReadsTree, Reads, ReadsWithin, place_of, read_of}
 
 -- the tokens are those of a grammar, whatever its size
@@ -74,30 +70,7 @@ LimitPlace = (text : List ℕ) (which : Which) (place : ℕ) → (read_of text �
 abbrev pub TokensFirst : Type 0
 TokensFirst = (text : List ℕ) (fault : ReadFault) → tokens_of text ≡ Err fault → read_of text ≡ Err fault
 
--- ---- back from tokens
-
-abbrev pub kinds : List Token → List TokenKind
-kinds ts = every (λ t. t.kind) ts
-
--- the answer is the grammar but for the places of its tokens
-pub record ReadsBack (text : List ℕ) (g : Grammar) : Type 0 where
-  pub found : Grammar
-  pub answer : read_of text ≡ Ok found
-  pub same : bare found ≡ bare g
-
--- a text with the tokens of a well formed grammar reads as that grammar
-abbrev pub ReadsTokensBack : Type 0
-ReadsTokensBack = (text : List ℕ) (g : Grammar) (ts : List Token) → IsFormed g → tokens_of text ≡ Ok ts → kinds ts ≡ grammar_tokens g → ReadsBack text g
-
--- the tokens of a text are those of the grammar that it reads as
-abbrev pub KeepsTokens : Type 0
-KeepsTokens = (text : List ℕ) (g : Grammar) (ts : List Token) → Reads text g → tokens_of text ≡ Ok ts → kinds ts ≡ grammar_tokens g
-
--- what a text reads as within the limits is well formed
-abbrev pub ReadsFormed : Type 0
-ReadsFormed = (text : List ℕ) (g : Grammar) → ReadsWithin text g → IsFormed g
-
--- no other limit is passed at a lesser place
+-- the token of the limit told is there, and no other limit is passed at a lesser place
 abbrev pub LimitIsLeast : Type 0
 LimitIsLeast = (text : List ℕ) (tree : List RuleTree) (r : ReadsTree text tree) (over : Over) → first_over (sizes tree) ≡ Some over
-    → AllByRecursion (λ z. is_over z ≡ true → place_of text r.tokens over.at ≤ place_of text r.tokens z.at) (sizes tree)
+    → (over.at < length r.tokens) × AllByRecursion (λ z. is_over z ≡ true → place_of text r.tokens over.at ≤ place_of text r.tokens z.at) (sizes tree)

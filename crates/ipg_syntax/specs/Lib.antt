@@ -8,7 +8,5 @@ pub mod Counting
 pub mod Making
 -- the answer for a text
 pub mod Reading
--- a grammar without the places of its tokens
-pub mod Bare
 -- the laws that public functions promise
 pub mod Laws

@@ -165,9 +165,9 @@ Each P [] = Unit {0}
 Each P (x ∷ xs) = P x × Each P xs
 
 -- one at least, and each
-abbrev pub Some_each : {A : Type 0} → (A → Type 0) → List A → Type 0
-Some_each P [] = ⊥
-Some_each P (x ∷ xs) = P x × Each P xs
+abbrev pub SomeEach : {A : Type 0} → (A → Type 0) → List A → Type 0
+SomeEach P [] = ⊥
+SomeEach P (x ∷ xs) = P x × Each P xs
 
 abbrev pub PlaceFits : PlaceTree → Type 0
 PlaceFits anywhere = Unit {0}
@@ -185,19 +185,19 @@ TermFits (slot_term s) = SlotFits s
 TermFits (set_term x e) = Stands 0 e
 TermFits (test_term at e) = Stands 0 e
 TermFits (repeat_term x a b i l r) = Stands 0 a × Stands 0 b × Stands 0 l × Stands 0 r
-TermFits (pick_term at cs other) = Some_each CaseFits cs × SlotFits other
+TermFits (pick_term at cs other) = SomeEach CaseFits cs × SlotFits other
 
 abbrev pub TermsFit : List TermTree → Type 0
-TermsFit = Some_each TermFits
+TermsFit = SomeEach TermFits
 
 abbrev pub LocalFits : LocalTree → Type 0
-LocalFits r = Some_each TermsFit r.alts
+LocalFits r = SomeEach TermsFit r.alts
 
 abbrev pub AltFits : AltTree → Type 0
 AltFits a = TermsFit a.terms × Each LocalFits a.locals
 
 abbrev pub RuleFits : RuleTree → Type 0
-RuleFits r = Some_each AltFits r.alts
+RuleFits r = SomeEach AltFits r.alts
 
 abbrev pub Fits : List RuleTree → Type 0
-Fits = Some_each RuleFits
+Fits = SomeEach RuleFits

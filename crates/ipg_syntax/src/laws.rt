@@ -1,6 +1,6 @@
 //! Laws of reading, each the contract of a function that does nothing.
 
-ghost use Rattle.ipg_syntax.specs.Laws.{OneGrammar, ReadsExactly, SyntaxPlace, LimitPlace, TokensFirst, ReadsTokensBack, KeepsTokens, ReadsFormed, LimitIsLeast};
+ghost use Rattle.ipg_syntax.specs.Laws.{OneGrammar, ReadsExactly, SyntaxPlace, LimitPlace, TokensFirst, LimitIsLeast};
 
 /// A text reads as one grammar at most.
 pub fn one_grammar()
@@ -25,21 +25,6 @@ pub fn limit_place()
 /// A fault of the tokens comes before all others.
 pub fn tokens_first()
     ensures { TokensFirst }
-{}
-
-/// A text with the tokens of a well formed grammar reads as that grammar, but for their places.
-pub fn reads_tokens_back()
-    ensures { ReadsTokensBack }
-{}
-
-/// The tokens of a text are those of the grammar that it reads as.
-pub fn keeps_tokens()
-    ensures { KeepsTokens }
-{}
-
-/// What a text reads as within the limits is well formed.
-pub fn reads_formed()
-    ensures { ReadsFormed }
 {}
 
 /// No limit is passed at a lesser place than the one that is told.

@@ -14,8 +14,8 @@ use Rattle.ipg_tokens.specs.Lexical.{is_same}
 use Rattle.ipg_tokens.specs.declared.token.Token.{Token}
 use Rattle.ipg_syntax.specs.Classes.{either, both, op, Tok, name, sign, bang, question, colon, dot, comma, equals, arrow, semicolon, left_paren, right_paren, left_bracket, right_bracket, left_brace, right_brace, for_word, to_word, do_word, switch_word, case_word, else_word, where_word, start_word, end_word, eoi_word, stray, slash, word_class, single_class, pair_class, kind_class, class_of, classes}
 use Rattle.ipg_syntax.specs.Written.{Toks, ExprTree, num, eoi, own, part, item, group, neg, isnt, two, choose, PlaceTree, anywhere, long, ends, SlotTree, CaseTree, TermTree, slot_term, set_term, test_term, repeat_term, pick_term, LocalTree, AltTree, RuleTree, field_tok, what_tok, spell_expr, spell_place, spell_slot, spell_case, spell_cases, spell_term, spell_terms, spell_local_alts, spell_local, spell_locals, spell_where, spell_alt, spell_alts, spell_rule, spell}
-use Rattle.ipg_syntax.specs.Laws.{kinds, KeepsTokens}
-use Rattle.ipg_syntax.proofs.Spelt.{kind_of, kinds_of, spell_kinds}
+use Rattle.ipg_canon.specs.Laws.{kinds, KeepsTokens}
+use Rattle.ipg_canon.proofs.Spelt.{kind_of, kinds_of, spell_kinds}
 
 same_bytes : (a b : List ℕ) → is_same a b ≡ true → b ≡ a
 same_bytes [] [] same = refl

@@ -14,11 +14,11 @@ use Rattle.ipg_ast.specs.declared.grammar.Rule.{out-Rule, out-roll-Rule}
 use Rattle.ipg_ast.specs.Shape.{Form, alone, stands, prefixed, infixed, form_step, form_of, level_of, IsFilled, IsFormedExpr, IsFormedPlace, IsFormedSlot, IsFormedCase, IsFormedTerm, IsFormedTerms, IsFormedLocalAlt, IsFormedLocal, IsFormedAlt, IsFormedRule, IsFormed, rules_in, count_rules}
 use Rattle.ipg_ast.specs.Shape
 use Rattle.ipg_syntax.specs.Classes.{Infix, either, both, op, level, op_level}
-use Rattle.ipg_syntax.specs.Written.{ExprTree, num, eoi, own, part, item, group, neg, isnt, two, choose, PlaceTree, anywhere, long, ends, CaseTree, TermTree, slot_term, set_term, test_term, repeat_term, pick_term, LocalTree, AltTree, RuleTree, spell_expr, spell_case, spell_cases, spell_term, spell_terms, spell_local, spell_alt, spell_rule, Stands, prefix_level, Each, Some_each, PlaceFits, CaseFits, TermFits, TermsFit, LocalFits, AltFits, RuleFits, Fits}
+use Rattle.ipg_syntax.specs.Written.{ExprTree, num, eoi, own, part, item, group, neg, isnt, two, choose, PlaceTree, anywhere, long, ends, CaseTree, TermTree, slot_term, set_term, test_term, repeat_term, pick_term, LocalTree, AltTree, RuleTree, spell_expr, spell_case, spell_cases, spell_term, spell_terms, spell_local, spell_alt, spell_rule, Stands, prefix_level, Each, SomeEach, PlaceFits, CaseFits, TermFits, TermsFit, LocalFits, AltFits, RuleFits, Fits}
 use Rattle.ipg_syntax.specs.Limits.{Size, past, depth, is_over, first_over, expr_size, place_sizes, slot_sizes, case_sizes, cases_sizes, term_sizes, terms_sizes, local_alts_sizes, locals_sizes, alt_sizes, alts_sizes, locals_in, rules_sizes, sizes}
-use Rattle.ipg_syntax.specs.Bare.{every}
+use Rattle.ipg_canon.specs.Bare.{every}
 use Rattle.ipg_syntax.specs.Making.{made, infix_expr, expr_by, place_by, term_by, grammar_of}
-use Rattle.ipg_syntax.proofs.Images.{made_case, made_local_alt, made_local, made_alt, made_rule, cases_made, grammar_made}
+use Rattle.ipg_canon.proofs.Images.{made_case, made_local_alt, made_local, made_alt, made_rule, cases_made, grammar_made}
 
 -- ---- expressions
 
@@ -162,7 +162,7 @@ cases_formed (c ∷ cs) at formed =
     ((first.0, rest.0), within_append (case_sizes at c) (cases_sizes (past at (spell_case c)) cs) first.1 rest.1)
 
 -- one at least
-some_from : {X Y : Type 0} (f : X → Y) (P : X → Type 0) (xs : List X) → 0 < length (every f xs) → Each P xs → Some_each P xs
+some_from : {X Y : Type 0} (f : X → Y) (P : X → Type 0) (xs : List X) → 0 < length (every f xs) → Each P xs → SomeEach P xs
 some_from f P [] some each = absurd (let no : ⊥ = omega (arith, some) in no)
 some_from f P (x ∷ xs) some each = each
 

@@ -8,10 +8,10 @@ use Rattle.ipg_tokens.specs.Lexical.{is_same}
 use Rattle.ipg_tokens.specs.declared.token.Token.{Token}
 use Rattle.ipg_syntax.specs.Classes.{either, both, op, Tok, name, number, text, sign, bang, question, colon, dot, comma, equals, arrow, semicolon, left_paren, right_paren, left_bracket, right_bracket, left_brace, right_brace, for_word, to_word, do_word, switch_word, case_word, else_word, where_word, start_word, end_word, eoi_word, stray, kind_class, classes}
 use Rattle.ipg_syntax.specs.Written.{Toks}
-use Rattle.ipg_syntax.specs.Bare.{no_span}
-use Rattle.ipg_syntax.specs.Laws.{kinds}
+use Rattle.ipg_canon.specs.Bare.{no_span}
+use Rattle.ipg_canon.specs.Laws.{kinds}
 use Rattle.ipg_syntax.proofs.Maps.{plain, plains}
-use Rattle.ipg_syntax.proofs.Spelt.{kind_of, kinds_of}
+use Rattle.ipg_canon.proofs.Spelt.{kind_of, kinds_of}
 
 word_places : (b1 b2 b3 b4 : Bool) (rest : Tok) (at : Span) → plain (cond b1 for_word (cond b2 to_word (cond b3 do_word (cond b4 (switch_word at) rest))))
     ≡ plain (cond b1 for_word (cond b2 to_word (cond b3 do_word (cond b4 (switch_word no_span) rest))))

@@ -8,14 +8,14 @@ use Rattle.ipg_ast.specs.declared.grammar.Alt.{out-roll-Alt}
 use Rattle.ipg_ast.specs.declared.grammar.Rule.{out-Rule, out-roll-Rule}
 use Rattle.ipg_ast.specs.Shape.{Form, stands, IsFilled, IsFormedExpr, IsFormedPlace, IsFormedCase, IsFormedTerm, IsFormedTerms, IsFormedLocalAlt, IsFormedLocal, IsFormedAlt, IsFormedRule, IsFormed, rules_in, count_rules}
 use Rattle.ipg_syntax.specs.Classes.{level}
-use Rattle.ipg_syntax.specs.Written.{ExprTree, num, eoi, own, part, item, group, neg, isnt, two, choose, PlaceTree, anywhere, long, ends, CaseTree, TermTree, slot_term, set_term, test_term, repeat_term, pick_term, LocalTree, AltTree, RuleTree, spell_expr, spell_case, spell_cases, spell_term, spell_terms, spell_local, spell_alt, spell_rule, Stands, prefix_level, Each, Some_each, PlaceFits, CaseFits, TermFits, TermsFit, LocalFits, AltFits, RuleFits, Fits}
+use Rattle.ipg_syntax.specs.Written.{ExprTree, num, eoi, own, part, item, group, neg, isnt, two, choose, PlaceTree, anywhere, long, ends, CaseTree, TermTree, slot_term, set_term, test_term, repeat_term, pick_term, LocalTree, AltTree, RuleTree, spell_expr, spell_case, spell_cases, spell_term, spell_terms, spell_local, spell_alt, spell_rule, Stands, prefix_level, Each, SomeEach, PlaceFits, CaseFits, TermFits, TermsFit, LocalFits, AltFits, RuleFits, Fits}
 use Rattle.ipg_syntax.specs.Limits.{Size, past, depth, is_over, first_over, expr_size, place_sizes, slot_sizes, case_sizes, cases_sizes, term_sizes, terms_sizes, local_alts_sizes, locals_sizes, alt_sizes, alts_sizes, locals_in, rules_sizes, sizes}
-use Rattle.ipg_syntax.specs.Bare.{every}
+use Rattle.ipg_canon.specs.Bare.{every}
 use Rattle.ipg_syntax.specs.Making.{made, expr_by, place_by, term_by, grammar_of}
-use Rattle.ipg_syntax.specs.Laws.{ReadsFormed}
+use Rattle.ipg_canon.specs.Laws.{ReadsFormed}
 use Rattle.ipg_syntax.proofs.Frames.{level_high}
-use Rattle.ipg_syntax.proofs.Images.{made_case, made_local_alt, made_local, made_alt, made_rule, cases_made, grammar_made}
-use Rattle.ipg_syntax.proofs.Forms.{Within, form_tree, form_made, depth_form, length_every, rule_counted}
+use Rattle.ipg_canon.proofs.Images.{made_case, made_local_alt, made_local, made_alt, made_rule, cases_made, grammar_made}
+use Rattle.ipg_canon.proofs.Forms.{Within, form_tree, form_made, depth_form, length_every, rule_counted}
 
 -- ---- sizes
 
@@ -100,11 +100,11 @@ formed_cases (c ∷ cs) at fits within =
     (formed_case c at fits.0 (within_left (case_sizes at c) rest within), formed_cases cs (past at (spell_case c)) fits.1 (within_right (case_sizes at c) rest within))
 
 -- one at least
-filled : {X Y : Type 0} (f : X → Y) (P : X → Type 0) (xs : List X) → Some_each P xs → 0 < length (every f xs)
+filled : {X Y : Type 0} (f : X → Y) (P : X → Type 0) (xs : List X) → SomeEach P xs → 0 < length (every f xs)
 filled f P [] some = absurd some
 filled f P (x ∷ xs) some = omega arith
 
-all_each : {X : Type 0} (P : X → Type 0) (xs : List X) → Some_each P xs → Each P xs
+all_each : {X : Type 0} (P : X → Type 0) (xs : List X) → SomeEach P xs → Each P xs
 all_each P [] some = absurd some
 all_each P (x ∷ xs) some = some
 

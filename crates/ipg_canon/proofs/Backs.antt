@@ -12,22 +12,22 @@ use Rattle.ipg_syntax.specs.Limits.{Over, sizes, first_over}
 use Rattle.ipg_syntax.specs.Machine.{Acts, Read, verdict, start_state}
 use Rattle.ipg_syntax.specs.Counting.{counters}
 use Rattle.ipg_syntax.specs.Making.{trees, made, grammar_of, rules_by}
-use Rattle.ipg_syntax.specs.Bare.{bare, bare_rule, every}
+use Rattle.ipg_canon.specs.Bare.{bare, bare_rule, every}
 use Rattle.ipg_syntax.specs.Reading.{ReadsTree}
-use Rattle.ipg_syntax.specs.Laws.{ReadsBack, ReadsTokensBack}
+use Rattle.ipg_canon.specs.Laws.{ReadsBack, ReadsTokensBack}
 use Rattle.ipg_syntax.proofs.TakesRules.{takes}
 use Rattle.ipg_syntax.proofs.Logs.{log_rules}
 use Rattle.ipg_syntax.proofs.Maps.{Maps, plains, on_read, whole_map}
 use Rattle.ipg_syntax.proofs.Plain.{fault, same_fault_plain}
-use Rattle.ipg_syntax.proofs.Bares.{bared}
+use Rattle.ipg_canon.proofs.Bares.{bared}
 use Rattle.ipg_syntax.proofs.Runs.{OnGood, Spelled, run_spelled}
 use Rattle.ipg_syntax.proofs.Counts.{counted}
 use Rattle.ipg_syntax.proofs.Outcomes.{tree_taken}
 use Rattle.ipg_syntax.proofs.Readings.{reads_within}
-use Rattle.ipg_syntax.proofs.Images.{Of, grammar_tree}
-use Rattle.ipg_syntax.proofs.Spelt.{spell_kinds}
-use Rattle.ipg_syntax.proofs.Kinded.{same_kinds}
-use Rattle.ipg_syntax.proofs.Forms.{formed_fits}
+use Rattle.ipg_canon.proofs.Images.{Of, grammar_tree}
+use Rattle.ipg_canon.proofs.Spelt.{spell_kinds}
+use Rattle.ipg_canon.proofs.Kinded.{same_kinds}
+use Rattle.ipg_canon.proofs.Forms.{formed_fits}
 
 -- the counters do not look at places
 abbrev blind : Maps counters counters

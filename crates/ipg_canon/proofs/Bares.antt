@@ -9,7 +9,7 @@ use Rattle.ipg_ast.specs.declared.grammar.Alt.{Alt, out-roll-Alt, roll-Alt}
 use Rattle.ipg_ast.specs.declared.grammar.Rule.{Rule, out-roll-Rule, roll-Rule}
 use Rattle.ipg_ast.specs.declared.grammar.Term.{Term}
 use Rattle.ipg_syntax.specs.Classes.{Infix, either, both, op}
-use Rattle.ipg_syntax.specs.Bare.{bare_ident, bare_step, bare_expr, every, bare_place, bare_slot, bare_case, bare_term, bare_local_alt, bare_local, bare_alt, bare_rule}
+use Rattle.ipg_canon.specs.Bare.{bare_ident, bare_step, bare_expr, every, bare_place, bare_slot, bare_case, bare_term, bare_local_alt, bare_local, bare_alt, bare_rule}
 use Rattle.ipg_syntax.specs.Making.{made, last, infix_expr, alt_of, rule_of}
 use Rattle.ipg_syntax.proofs.Maps.{Maps}
 

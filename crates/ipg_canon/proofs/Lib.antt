@@ -1,0 +1,10 @@
+mod Images
+mod Bares
+mod Spelt
+mod Kinded
+mod Forms
+mod Backs
+mod Formed
+mod Kept
+mod Shapes
+mod Trips
