@@ -2,22 +2,14 @@
 use Rattle.std.proofs.Common.{ℕ, zero, suc, ◌+◌, ◌-◌, ◌^◌, List, [], ◌∷◌, Bool, true, false, Ok, Err, nat_lt, length, cond}
 use Rattle.ipg_tokens.specs.Lexical.{Lexed, lexed, beginning, front_at, token_first, large_first, tokens_of}
 use Rattle.ipg_tokens.specs.declared.token.Token.{Token}
-use Rattle.ipg_tokens.specs.declared.fault.ReadFault.{ReadFault}
 use Rattle.ipg_tokens.specs.declared.fault.ReadFault.TheVariants.{TooLong, Lex, Number, Syntax, Limit, Memory}
 use Rattle.ipg_tokens.specs.declared.front.Front.{Front}
+use Rattle.ipg_syntax.specs.Laws.{IsOfTokens}
 use Rattle.ipg_tokens.specs.declared.front.Front.TheVariants.{Nothing, Blank, Large, Token as Begins}
-
-abbrev pub OfTokens : ReadFault → Type 0
-OfTokens TooLong = Unit {0}
-OfTokens (Lex at) = Unit {0}
-OfTokens (Number at) = Unit {0}
-OfTokens (Syntax at) = ⊥
-OfTokens (Limit which at) = ⊥
-OfTokens Memory = ⊥
 
 abbrev pub FailsByTokens : Lexed → Type 0
 FailsByTokens (Ok ts) = Unit {0}
-FailsByTokens (Err f) = OfTokens f
+FailsByTokens (Err f) = IsOfTokens f
 
 after_token : (t : Token) (rest : Lexed) → FailsByTokens rest → FailsByTokens (token_first t rest)
 after_token t (Ok ts) fails = tt

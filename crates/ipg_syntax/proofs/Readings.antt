@@ -12,8 +12,8 @@ use Rattle.ipg_syntax.specs.Limits.{Over, sizes, first_over}
 use Rattle.ipg_syntax.specs.Machine.{Read, verdict, start_state}
 use Rattle.ipg_syntax.specs.Making.{trees, grammar_of}
 use Rattle.ipg_syntax.specs.Reading.{ReadsTree, ReadsWithin, place_of, tokens_answer, within_answer, read_of}
-use Rattle.ipg_syntax.specs.Laws.{IsGrammar, Begins, EndsBefore, first_place, Breaks, PassesLimit, OneGrammar, ReadsExactly, SyntaxPlace, LimitPlace, TokensFirst}
-use Rattle.ipg_syntax.proofs.Lexed.{OfTokens, FailsByTokens, tokens_fail}
+use Rattle.ipg_syntax.specs.Laws.{IsGrammar, Begins, EndsBefore, first_place, Breaks, PassesLimit, IsOfTokens, OneGrammar, ReadsExactly, SyntaxPlace, LimitPlace, TokensFirst}
+use Rattle.ipg_syntax.proofs.Lexed.{FailsByTokens, tokens_fail}
 use Rattle.ipg_syntax.proofs.Outcomes.{Outcome, by_tokens, by_syntax, by_tree, outcome, tree_taken, grammar_answer, made_grammar}
 
 abbrev Answer : Type 0
@@ -60,10 +60,10 @@ fault_in (Ok x) f = f
 fault_in (Err e) f = e
 
 -- what the lexer finds is no fault of syntax, and none of a limit
-tokens_never : (text : List ℕ) (f g : ReadFault) → tokens_of text ≡ Err f → read_of text ≡ Err g → OfTokens g
+tokens_never : (text : List ℕ) (f g : ReadFault) → tokens_of text ≡ Err f → read_of text ≡ Err g → IsOfTokens g
 tokens_never text f g falls is =
     let same : f ≡ g = ap (λ r. fault_in r f) (sym (ap (tokens_answer text) falls) ∙ is) in
-    subst OfTokens same (subst FailsByTokens falls (tokens_fail text))
+    subst IsOfTokens same (subst FailsByTokens falls (tokens_fail text))
 
 -- ---- one grammar
 
@@ -215,5 +215,18 @@ limit_place text which place = (
   λ p. passes_limit text p.tree p.reads (record { which = which; at = p.at }) p.first ∙ ap (λ q. Err (Limit which q)) (sym p.is),
 )
 
+-- a fault of the tokens is none of a grammar
+tokens_back : (text : List ℕ) (fault : ReadFault) → IsOfTokens fault → read_of text ≡ Err fault → Outcome text → tokens_of text ≡ Err fault
+tokens_back text fault of_tokens is (by_tokens f falls) =
+    let same : f ≡ fault = ap (λ a. fault_in a f) (sym (ap (tokens_answer text) falls) ∙ is) in
+    falls ∙ ap Err same
+tokens_back text fault of_tokens is (by_syntax p broken fails) =
+    absurd (subst IsOfTokens (ap (λ a. fault_in a fault) (sym is ∙ fails)) of_tokens)
+tokens_back text fault of_tokens is (by_tree tree r) = go (first_over (sizes tree)) refl
+  where
+    go : (o : Option Over) → first_over (sizes tree) ≡ o → tokens_of text ≡ Err fault
+    go (Some o) passed = absurd (subst IsOfTokens (ap (λ a. fault_in a fault) (sym is ∙ passes_limit text tree r o passed)) of_tokens)
+    go None within = absurd (not_both (reads_within text tree r within) is)
+
 pub tokens_first : TokensFirst
-tokens_first text fault falls = ap (tokens_answer text) falls
+tokens_first text fault = (λ falls. (subst FailsByTokens falls (tokens_fail text), ap (tokens_answer text) falls), λ both. tokens_back text fault both.0 both.1 (outcome text))

@@ -5,7 +5,7 @@ use Rattle.ipg_ast.specs.declared.grammar.Grammar.{Grammar}
 use Rattle.ipg_tokens.specs.Lexical.{tokens_of}
 use Rattle.ipg_tokens.specs.declared.token.Token.{Token}
 use Rattle.ipg_tokens.specs.declared.fault.ReadFault.{ReadFault}
-use Rattle.ipg_tokens.specs.declared.fault.ReadFault.TheVariants.{Syntax, Limit}
+use Rattle.ipg_tokens.specs.declared.fault.ReadFault.TheVariants.{TooLong, Lex, Number, Syntax, Limit, Memory}
 use Rattle.ipg_tokens.specs.declared.fault.Which.{Which}
 use Rattle.ipg_syntax.specs.Classes.{classes}
 use Rattle.ipg_syntax.specs.Written.{RuleTree, Fits, spell}
@@ -66,9 +66,18 @@ SyntaxPlace = (text : List ℕ) (place : ℕ) → (read_of text ≡ Err (Syntax 
 abbrev pub LimitPlace : Type 0
 LimitPlace = (text : List ℕ) (which : Which) (place : ℕ) → (read_of text ≡ Err (Limit which place)) ↔ PassesLimit text which place
 
--- a fault of the tokens comes first
+-- a text too long, a place where no token begins, or a number too large
+abbrev pub IsOfTokens : ReadFault → Type 0
+IsOfTokens TooLong = Unit {0}
+IsOfTokens (Lex at) = Unit {0}
+IsOfTokens (Number at) = Unit {0}
+IsOfTokens (Syntax at) = ⊥
+IsOfTokens (Limit which at) = ⊥
+IsOfTokens Memory = ⊥
+
+-- such a fault is answered exactly where the text falls into no tokens, and is that of its tokens
 abbrev pub TokensFirst : Type 0
-TokensFirst = (text : List ℕ) (fault : ReadFault) → tokens_of text ≡ Err fault → read_of text ≡ Err fault
+TokensFirst = (text : List ℕ) (fault : ReadFault) → (tokens_of text ≡ Err fault) ↔ (IsOfTokens fault × (read_of text ≡ Err fault))
 
 -- the token of the limit told is there, and no other limit is passed at a lesser place
 abbrev pub LimitIsLeast : Type 0

@@ -22,7 +22,7 @@ pub fn limit_place()
     ensures { LimitPlace }
 {}
 
-/// A fault of the tokens comes before all others.
+/// A fault of the tokens is answered exactly where the tokens have it.
 pub fn tokens_first()
     ensures { TokensFirst }
 {}
