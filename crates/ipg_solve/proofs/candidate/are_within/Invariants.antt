@@ -1,4 +1,4 @@
-use Rattle.std.proofs.Common.{◌≡◌, ℕ, ◌<◌, pos, get_or}
+use Rattle.std.proofs.Common.{ℕ, ◌<◌, pos, get_or}
 use Rattle.std.specs.Prelude.{◌≤ℤ◌}
 use Rattle.ipg_solve.specs.Within.{no_bounds}
 use Rattle.ipg_solve.proofs.candidate.are_within.Given as goal
