@@ -1,11 +1,11 @@
 -- Going back along the cuts.
-use Rattle.std.proofs.Common.{◌≡◌, ℕ, ◌+◌, ◌<◌, ◌≤◌, Bool, true, false, cond, List, [], ◌∷◌, ◌++◌, length, set, get_or, reverse, refl, sym, ◌∙◌, ap, subst, zero-add}
+use Rattle.std.proofs.Common.{◌≡◌, ℕ, ◌+◌, true, false, cond, List, [], ◌∷◌, ◌++◌, length, set, reverse, sym, ◌∙◌, ap, subst, zero-add}
 use Rattle.std.proofs.lemmas.List.{reverse-append, length-reverse, set-set, set-get_or}
 use Rattle.ipg_cert.specs.Facts.{Fact}
 use Rattle.ipg_solve.specs.declared.span.Span.{Span}
 use Rattle.ipg_solve.specs.declared.cut.Cut.{Cut}
-use Rattle.ipg_solve.specs.Spans.{span_at, no_span}
-use Rattle.ipg_solve.specs.Cuts.{side_of, above, spans_after, facts_after, AreCuts, waiting, work, work_in, work_waiting, Backs}
+use Rattle.ipg_solve.specs.Spans.{no_span}
+use Rattle.ipg_solve.specs.Cuts.{side_of, above, spans_after, facts_after, AreCuts, waiting, work_in, work_waiting, Backs}
 
 pub reverse_push : {X : Type 0} (xs : List X) (x : X) → reverse (xs ++ x ∷ []) ≡ x ∷ reverse xs
 reverse_push xs x = reverse-append xs (x ∷ [])

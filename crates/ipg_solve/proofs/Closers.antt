@@ -1,17 +1,17 @@
 -- Steps that refute the facts at hand, by what the formula is that the spans rule out.
-use Rattle.std.proofs.Common.{◌≡◌, ℕ, zero, suc, ◌+◌, ◌<◌, ◌≤◌, Bool, true, false, ◌&&◌, ◌||◌, ℤ, pos, List, [], ◌∷◌, ◌++◌, map, take, drop, get_or, length, refl, sym, ◌∙◌, ap, subst, arith, length-append, append_assoc, take-append-drop, eq-eqb}
-use Rattle.std.specs.Prelude.{Option, None, Some, slice_get, int_lt, IsTrue}
+use Rattle.std.proofs.Common.{◌≡◌, ℕ, zero, suc, ◌+◌, ◌<◌, ◌≤◌, true, ◌&&◌, pos, List, [], ◌∷◌, ◌++◌, map, take, drop, get_or, length, refl, sym, ◌∙◌, ap, subst, length-append, append_assoc, take-append-drop, eq-eqb}
+use Rattle.std.specs.Prelude.{Some, slice_get, int_lt}
 use Rattle.std.specs.List.{flat_map}
 use Rattle.std.proofs.lemmas.List.{drop-drop, drop_at, drop_more, append-nil}
 use Rattle.ipg_lin.specs.Form.{Form, in_rule, terms_width}
 use Rattle.ipg_lin.specs.declared.formula.Formula.{Formula}
 use Rattle.ipg_cert.specs.Facts.{Fact, AtMost, Choice, facts_of}
-use Rattle.ipg_cert.specs.Checks.{refutes, cases_of, combines, is_choice, members_in}
+use Rattle.ipg_cert.specs.Checks.{refutes, cases_of, is_choice, members_in}
 use Rattle.ipg_cert.specs.declared.refutation.Step.{Step}
 use Rattle.ipg_cert.specs.declared.refutation.Step.TheVariants.{Combine, Either}
 use Rattle.ipg_solve.specs.declared.span.Span.{Span}
-use Rattle.ipg_solve.specs.Spans.{span_at, least_of}
-use Rattle.ipg_solve.specs.Closes.{entry_of, AreSpans, CloseAll, StandAt, ClosesFacts, ClosesCases, ClosesSome}
+use Rattle.ipg_solve.specs.Spans.{least_of}
+use Rattle.ipg_solve.specs.Closes.{entry_of, AreSpans, StandAt, ClosesFacts, ClosesCases, ClosesSome}
 use Rattle.ipg_solve.proofs.Ends.{atom_combines}
 
 pub get_from_drop : {X : Type 0} (n : ℕ) (xs ys : List X) (y : X) → drop n xs ≡ y ∷ ys → slice_get xs n ≡ Some y

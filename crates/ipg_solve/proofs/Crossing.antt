@@ -1,16 +1,16 @@
 -- The box with a variable that can have no value.
-use Rattle.std.proofs.Common.{◌≡◌, ℕ, zero, suc, ◌+◌, ◌<◌, ◌≤◌, Bool, true, false, ◌&&◌, ℤ, pos, negsuc, ◌+ℤ◌, ◌*ℤ◌, nat_le, List, [], ◌∷◌, length, get_or, refl, sym, ◌∙◌, ap, subst, arith}
-use Rattle.std.specs.Prelude.{Option, None, Some, slice_get, int_lt, ◌≤ℤ◌, ◌<ℤ◌}
+use Rattle.std.proofs.Common.{◌≡◌, ℕ, ◌+◌, ◌<◌, true, false, ◌&&◌, ℤ, pos, negsuc, ◌+ℤ◌, ◌*ℤ◌, List, [], ◌∷◌, length, get_or, refl, sym, ◌∙◌, ap, subst, arith}
+use Rattle.std.specs.Prelude.{Some, int_lt, ◌≤ℤ◌, ◌<ℤ◌}
 use Rattle.std.proofs.lemmas.Int.{ints}
 use Rattle.std.proofs.lemmas.Option.{slice_get-get_or, slice_get_within}
 use borrow.Author.Tests.{le-leb}
-use borrow.Author.Differences.{up, down, same_in, product_is}
+use borrow.Author.Differences.{product_is}
 use Rattle.ipg_lin.specs.Form.{Form, in_rule}
-use Rattle.ipg_lin.specs.Formula.{assigned, Solvable}
+use Rattle.ipg_lin.specs.Formula.{assigned}
 use Rattle.ipg_lin.specs.declared.formula.Formula.{Formula}
 use Rattle.ipg_lin.specs.declared.formula.Boxed.{Boxed}
-use Rattle.ipg_cert.specs.Facts.{Fact, AtMost, at_least}
-use Rattle.ipg_cert.specs.Checks.{combines, refutes, checks, root_facts}
+use Rattle.ipg_cert.specs.Facts.{at_least}
+use Rattle.ipg_cert.specs.Checks.{combines, checks, root_facts}
 use Rattle.ipg_cert.specs.declared.refutation.Refutation.{Refutation}
 use Rattle.ipg_cert.specs.declared.refutation.Step.TheVariants.{Combine}
 use Rattle.ipg_cert.proofs.Root.{refuted}

@@ -1,19 +1,19 @@
 -- An atom that the spans rule out, and the ends at which it is least, sum up to a constant above 0.
-use Rattle.std.proofs.Common.{◌≡◌, ℕ, zero, suc, ◌+◌, ◌*◌, ◌^◌, ◌<◌, ◌≤◌, max, Bool, true, false, cond, ◌&&◌, nat_eq, nat_le, nat_lt, ℤ, pos, negsuc, ◌+ℤ◌, ◌*ℤ◌, neg_ℤ, List, [], ◌∷◌, ◌++◌, map, length, refl, sym, ◌∙◌, ap, subst, arith}
-use Rattle.std.specs.Prelude.{Option, None, Some, slice_get, option_and_then, int_lt}
+use Rattle.std.proofs.Common.{◌≡◌, ℕ, suc, ◌*◌, ◌^◌, ◌<◌, ◌≤◌, true, false, cond, ◌&&◌, nat_eq, nat_le, ℤ, pos, negsuc, ◌+ℤ◌, ◌*ℤ◌, neg_ℤ, List, [], ◌∷◌, map, length, refl, ◌∙◌, ap, arith}
+use Rattle.std.specs.Prelude.{None, Some, slice_get, option_and_then, int_lt}
 use Rattle.std.specs.Int.RustNames.{unsigned_abs}
 use Rattle.std.proofs.lemmas.Int.{ints}
 use Rattle.std.proofs.lemmas.List.{length-map}
 use borrow.Author.Tests.{le-leb}
-use borrow.Author.Differences.{up, down, same_in, product_is, neg_is}
+use borrow.Author.Differences.{same_in, product_is, neg_is}
 use Rattle.ipg_lin.specs.Form.{Form, are_coefficients, is_coefficient, in_rule, terms_width}
-use Rattle.ipg_cert.specs.Facts.{Fact, AtMost, at_least, at_most}
+use Rattle.ipg_cert.specs.Facts.{Fact, AtMost}
 use Rattle.ipg_cert.specs.Checks.{atom_in, coefficient, plus_times, zero_form, form_of_entry, sum_from, weighted_sum, is_absurd, combines}
 use Rattle.ipg_cert.proofs.Sums.{both_true}
 use Rattle.ipg_cert.proofs.SeenLemmas.{coefficient-append, coefficient-scaled, rule_few, rule_small}
 use Rattle.ipg_cert.proofs.Absurd.{in_zero}
 use Rattle.ipg_solve.specs.declared.span.Span.{Span}
-use Rattle.ipg_solve.specs.Spans.{span_at, end_of, fact_of_end, least, least_of}
+use Rattle.ipg_solve.specs.Spans.{span_at, end_of, least, least_of}
 use Rattle.ipg_solve.specs.Closes.{entry_of, AreSpans}
 
 -- the form of the fact at which the term is least

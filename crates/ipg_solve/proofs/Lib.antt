@@ -6,3 +6,4 @@ pub mod Parts
 pub mod Turning
 pub mod Solved
 pub mod Crossing
+pub mod Greatest

@@ -1,6 +1,6 @@
 -- The parts of a box: their facts, their spans and their points.
-use Rattle.std.proofs.Common.{◌≡◌, ℕ, zero, suc, ◌+◌, ◌-◌, ◌*◌, ◌<◌, ◌≤◌, ◌⊎◌, inl, inr, Bool, true, false, cond, ℤ, pos, negsuc, ◌+ℤ◌, ◌-ℤ◌, List, [], ◌∷◌, ◌++◌, length, set, get_or, drop, refl, sym, ◌∙◌, ap, subst, arith, length-append, append_assoc}
-use Rattle.std.specs.Prelude.{Option, None, Some, slice_get, ◌≤ℤ◌, ◌<ℤ◌}
+use Rattle.std.proofs.Common.{◌≡◌, ℕ, zero, suc, ◌+◌, ◌*◌, ◌<◌, ◌≤◌, inl, inr, true, false, cond, ℤ, pos, ◌+ℤ◌, ◌-ℤ◌, List, [], ◌∷◌, ◌++◌, length, set, drop, refl, sym, ◌∙◌, ap, subst, arith, length-append, append_assoc}
+use Rattle.std.specs.Prelude.{Some, slice_get, ◌≤ℤ◌, ◌<ℤ◌}
 use Rattle.std.specs.Int.RustNames.{unsigned_abs}
 use Rattle.std.proofs.lemmas.Int.{ints}
 use Rattle.std.proofs.lemmas.Bool.{cases_eq}
@@ -13,7 +13,7 @@ use Rattle.ipg_solve.specs.declared.span.Span.{Span}
 use Rattle.ipg_solve.specs.declared.cut.Cut.{Cut}
 use Rattle.ipg_solve.specs.Spans.{span_at, no_span, width_of, points, AreFull}
 use Rattle.ipg_solve.specs.Closes.{AreSpans, StandAt}
-use Rattle.ipg_solve.specs.Cuts.{start_spans, fact_of_cut, side_of, above, lower, spans_after, facts_after, AreCuts, work, work_in, work_waiting}
+use Rattle.ipg_solve.specs.Cuts.{start_spans, fact_of_cut, side_of, above, lower, spans_after, facts_after, AreCuts, work, work_in}
 use Rattle.ipg_solve.proofs.Closers.{get_append, get_behind}
 
 -- what holds of each span, and of the one that is put in, holds of each afterwards

@@ -1,12 +1,12 @@
 -- What the spans rule out, by what the formula is.
-use Rattle.std.proofs.Common.{◌≡◌, ℕ, ◌≤◌, Bool, true, ℤ, pos, List, length, refl, sym, ◌∙◌, ap, subst}
+use Rattle.std.proofs.Common.{◌≡◌, ℕ, ◌≤◌, Bool, true, pos, List, length, sym, ◌∙◌, ap, subst}
 use Rattle.std.specs.Prelude.{int_lt}
 use Rattle.ipg_lin.specs.Form.{Form, terms_width}
 use Rattle.ipg_lin.specs.Formula.{width, width_step}
 use Rattle.ipg_lin.specs.declared.formula.Formula.{Formula}
 use Rattle.ipg_lin.specs.declared.formula.Formula.TheVariants as formula
-use Rattle.ipg_lin.specs.declared.formula.Formula.TheOpen.Formula-F.{Atom, All, Any}
-use Rattle.ipg_lin.specs.declared.formula.Formula.TheFolds.{fold-Formula, fold-roll-Formula}
+use Rattle.ipg_lin.specs.declared.formula.Formula.TheOpen.Formula-F.{Atom}
+use Rattle.ipg_lin.specs.declared.formula.Formula.TheFolds.{fold-roll-Formula}
 use Rattle.ipg_solve.specs.declared.span.Span.{Span}
 use Rattle.ipg_solve.specs.Spans.{rules_out, rules_out_step, least_of}
 

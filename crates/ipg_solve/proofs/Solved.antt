@@ -1,22 +1,22 @@
 -- A point that the spans don't rule out solves the formula.
-use Rattle.std.proofs.Common.{◌≡◌, ℕ, zero, suc, ◌+◌, ◌<◌, ◌≤◌, max, Bool, true, false, ◌&&◌, ◌||◌, not, ℤ, pos, negsuc, ◌+ℤ◌, ◌*ℤ◌, List, [], ◌∷◌, map, length, refl, sym, ◌∙◌, ap, subst, arith}
-use Rattle.std.specs.Prelude.{Option, None, Some, slice_get, int_le, int_lt, ◌≤ℤ◌}
+use Rattle.std.proofs.Common.{◌≡◌, ℕ, zero, suc, ◌+◌, ◌<◌, ◌≤◌, Bool, true, false, ◌&&◌, ◌||◌, not, ℤ, pos, negsuc, ◌+ℤ◌, ◌*ℤ◌, List, [], ◌∷◌, map, length, refl, sym, ◌∙◌, ap, subst, arith}
+use Rattle.std.specs.Prelude.{int_le, int_lt, ◌≤ℤ◌}
 use Rattle.std.proofs.lemmas.Int.{ints}
 use Rattle.std.proofs.lemmas.List.{length-map}
 use Rattle.std.proofs.lemmas.Option.{slice_get_within}
-use Rattle.ipg_lin.specs.Form.{Form, Assignment, sum_at, value_at, terms_width}
+use Rattle.ipg_lin.specs.Form.{Form, sum_at, value_at, terms_width}
 use Rattle.ipg_lin.specs.Formula.{holds_at, holds_step, every, some, greatest, width, width_step, assigned, LiesIn}
 use Rattle.ipg_lin.specs.declared.formula.Formula.{Formula, roll-Formula, map-Formula}
 use Rattle.ipg_lin.specs.declared.formula.Formula.TheOpen.{Formula-F}
 use Rattle.ipg_lin.specs.declared.formula.Formula.TheOpen.Formula-F.{Atom, All, Any}
-use Rattle.ipg_lin.specs.declared.formula.Formula.TheFolds.{fold-Formula, fold-roll-Formula, ind-Formula}
+use Rattle.ipg_lin.specs.declared.formula.Formula.TheFolds.{fold-roll-Formula, ind-Formula}
 use Rattle.ipg_lin.specs.declared.formula.Boxed.{Boxed}
 use Rattle.ipg_cert.specs.declared.refutation.Step.{Step}
 use Rattle.ipg_solve.specs.declared.span.Span.{Span}
 use Rattle.ipg_solve.specs.declared.cut.Cut.{Cut}
 use Rattle.ipg_solve.specs.Decides.{Solves}
-use Rattle.ipg_solve.specs.Spans.{span_at, end_of, least, least_of, rules_out, rules_out_step, AreFull, ArePoints}
-use Rattle.ipg_solve.specs.Cuts.{start_spans, spans_after, Halved}
+use Rattle.ipg_solve.specs.Spans.{span_at, end_of, least, rules_out, rules_out_step, AreFull, ArePoints}
+use Rattle.ipg_solve.specs.Cuts.{start_spans, Halved}
 use Rattle.ipg_solve.proofs.Parts.{length_after, start_length, start_at, within_after, full_after, start_span, LiesWithin}
 
 -- the lower ends as values

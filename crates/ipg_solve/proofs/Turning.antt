@@ -1,10 +1,9 @@
 -- A turn of the halving.
-use Rattle.std.proofs.Common.{◌≡◌, ℕ, zero, suc, ◌+◌, ◌-◌, ◌*◌, ◌<◌, ◌≤◌, Bool, true, false, cond, ◌&&◌, nat_lt, ℤ, pos, ◌+ℤ◌, List, [], ◌∷◌, ◌++◌, map, length, set, get_or, reverse, refl, sym, ◌∙◌, ap, subst, arith, append_assoc}
+use Rattle.std.proofs.Common.{◌≡◌, ℕ, ◌+◌, ◌<◌, true, false, ◌&&◌, List, [], ◌∷◌, ◌++◌, length, set, reverse, refl, sym, ◌∙◌, ap, subst, arith, append_assoc}
 use Rattle.std.proofs.lemmas.List.{length-reverse, append-nil}
 use borrow.Author.Tests.{lt-ltb}
 use Rattle.ipg_lin.specs.declared.formula.Formula.{Formula}
 use Rattle.ipg_lin.specs.declared.formula.Boxed.{Boxed}
-use Rattle.ipg_cert.specs.Facts.{Fact, at_least, at_most, facts_of}
 use Rattle.ipg_cert.specs.Checks.{refutes, root_facts}
 use Rattle.ipg_cert.specs.declared.refutation.Step.{Step}
 use Rattle.ipg_cert.specs.declared.refutation.Step.TheVariants.{Split}
@@ -12,11 +11,11 @@ use Rattle.std.specs.Prelude.{◌≤ℤ◌, ◌<ℤ◌}
 use Rattle.ipg_solve.specs.declared.span.Span.{Span}
 use Rattle.ipg_solve.specs.declared.cut.Cut.{Cut}
 use Rattle.ipg_solve.specs.declared.halving.Turn.TheVariants.{More, Refuted}
-use Rattle.ipg_solve.specs.Spans.{span_at, AreFull}
+use Rattle.ipg_solve.specs.Spans.{span_at}
 use Rattle.ipg_solve.specs.Closes.{AreSpans, ClosesFormula, CloseAll}
-use Rattle.ipg_solve.specs.Cuts.{start_spans, side_of, above, lower, spans_after, facts_after, waiting, work, work_in, work_waiting, Leads, Halved, IsCut, Backs, Turns}
+use Rattle.ipg_solve.specs.Cuts.{start_spans, side_of, lower, spans_after, facts_after, waiting, work, Leads, Halved, IsCut, Backs, Turns}
 use Rattle.ipg_solve.proofs.Backing.{reverse_push}
-use Rattle.ipg_solve.proofs.Parts.{spans_hold, start_holds, formula_stands, facts_length, length_after, start_length, cut_falls, work_some, full_after}
+use Rattle.ipg_solve.proofs.Parts.{spans_hold, start_holds, formula_stands, facts_length, length_after, start_length, cut_falls, work_some}
 
 -- before the first turn
 pub begun : (f : Formula) (box : Boxed) (first : ℕ) (spans : List Span) (cuts : List Cut) (steps : List Step) → first ≡ length (root_facts f box) → spans ≡ start_spans 0 box.bounds → cuts ≡ [] → steps ≡ [] → Halved f box first spans (reverse cuts) steps

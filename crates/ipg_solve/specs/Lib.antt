@@ -5,3 +5,4 @@ pub mod Spans
 pub mod Closes
 pub mod Cuts
 pub mod Crossed
+pub mod Within

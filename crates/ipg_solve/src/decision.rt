@@ -6,8 +6,10 @@ ghost use Rattle.ipg_solve.specs.Spans.{AreFull};
 ghost use Rattle.ipg_solve.specs.Cuts.{start_spans};
 ghost use Rattle.ipg_solve.specs.Crossed.{IsCrossed};
 
+use crate::candidate::checked;
 use crate::counting::counted;
 use crate::halving::halve;
+use crate::seeking::seek;
 use ipg_cert::{Refutation, Step};
 use ipg_lin::{Boxed, Formula};
 use ipg_num::List;
@@ -65,11 +67,15 @@ pub fn decide(alloc: Global, f: &Formula, b: &Boxed) -> Result<Decision, AllocEr
 }
 
 fn decided(alloc: Global, f: &Formula, b: &Boxed) -> Result<Decision, AllocError>
-    requires { width f.now ≤ length b.now.bounds }
+    requires valued { width f.now ≤ length b.now.bounds }
+    requires shallow { depth f.now ≤ 4096 }
     ensures { IfOk result (λ decision. Decides f.now b.now decision) }
 {
     if let Some(x) = crossed(b.bounds.as_slice()) {
         return Ok(Decision::Refuted(crossing(alloc, x)?));
+    }
+    if let Some(decision) = checked(alloc, f, b, seek(alloc, f, b)?)? {
+        return Ok(decision);
     }
     halve(alloc, f, b)
 }

@@ -1,12 +1,18 @@
 //! Decides formulas over a box of whole numbers: by values that solve them, or by a refutation that checks.
 #![tactic(auto)]
 
+mod candidate;
 mod closing;
 mod counting;
 mod cut;
 mod decision;
+mod eliminate;
+mod explain;
 mod halving;
+mod known;
 mod least;
+mod marks;
+mod seeking;
 #[cfg(test)]
 mod small;
 mod span;

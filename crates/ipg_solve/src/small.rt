@@ -5,7 +5,7 @@ ghost use Rattle.ipg_lin.specs.Form.{terms_width};
 ghost use Rattle.ipg_lin.specs.Formula.{width, depth};
 
 use super::*;
-use ipg_cert::check;
+use ipg_cert::{Refutation, Step, check};
 use ipg_lin::{Boxed, Formula, Linear, holds};
 use ipg_num::List;
 use std::alloc::Global;
@@ -132,6 +132,69 @@ fn small_systems_are_decided_as_trying_every_point_does(rt: HostRuntime) -> Resu
         let f = formula(alloc, &mut state, 3)?;
         let bounds = bounds(&mut state);
         assert!(rt; is_right(alloc, &f, &bounds)?);
+    }
+    Ok(())
+}
+
+/// A difference of two of four variables, or a bound of one.
+fn difference_form(alloc: Global, state: &mut u64) -> Result<Linear, Fail>
+    ensures { IfOk result (λ form. terms_width form.terms ≤ 4) }
+{
+    let constant = around_zero(state, 9);
+    let a = if draw(state, 2) == 0 { 1 } else { -1 };
+    match draw(state, 8) {
+        0 => Ok(Linear::new(alloc, &[(0, a), (1, -a)], constant)?),
+        1 => Ok(Linear::new(alloc, &[(0, a), (2, -a)], constant)?),
+        2 => Ok(Linear::new(alloc, &[(0, a), (3, -a)], constant)?),
+        3 => Ok(Linear::new(alloc, &[(1, a), (2, -a)], constant)?),
+        4 => Ok(Linear::new(alloc, &[(1, a), (3, -a)], constant)?),
+        5 => Ok(Linear::new(alloc, &[(2, a), (3, -a)], constant)?),
+        6 => Ok(Linear::new(alloc, &[(1, a)], constant)?),
+        _ => Ok(Linear::new(alloc, &[(3, a)], constant)?),
+    }
+}
+
+fn difference(alloc: Global, state: &mut u64) -> Result<Formula, Fail>
+    ensures width { IfOk result (λ f. width f ≤ 4) }
+    ensures depth { IfOk result (λ f. depth f ≡ 0) }
+{
+    Ok(Formula::Atom(difference_form(alloc, state)?))
+}
+
+fn differences(alloc: Global, state: &mut u64) -> Result<Formula, Fail>
+    ensures width { IfOk result (λ f. width f ≤ 4) }
+    ensures depth { IfOk result (λ f. depth f ≤ 1) }
+{
+    let mut members = List::new(alloc);
+    let count = draw(state, 9);
+    for _member in 0..count {
+        members.push(difference(alloc, state)?)?;
+    }
+    Ok(Formula::All(members))
+}
+
+/// Whether the refutation is one Combine of at most as many facts as variables plus one.
+fn is_short(r: &Refutation, vars: usize) -> bool {
+    match r.steps.as_slice() {
+        [Step::Combine(entries)] => entries.len() <= vars.saturating_add(1),
+        _ => false,
+    }
+}
+
+#[test]
+fn differences_are_refuted_by_one_short_combine(rt: HostRuntime) -> Result<(), Fail> {
+    let alloc = rt.alloc();
+    let mut state = 3;
+    for _ in 0..1000 {
+        let f = differences(alloc, &mut state)?;
+        let bounds = bounds(&mut state);
+        let b = Boxed {
+            bounds: List::from_vec(Vec::from_slice(alloc, &bounds)?),
+        };
+        match decide(alloc, &f, &b)? {
+            Decision::Solution(_) => assert!(rt; is_solvable(&f, &bounds)),
+            Decision::Refuted(r) => assert!(rt; is_short(&r, 4) && check(alloc, &f, &b, &r)?),
+        }
     }
     Ok(())
 }

@@ -1,8 +1,8 @@
-ghost use Rattle.std.specs.Prelude.{◌≡◌, ◌≤◌, length, IfOk};
+ghost use Rattle.std.specs.Prelude.{◌≡◌, ◌+◌, ◌<◌, ◌≤◌, max, length, IfOk};
 ghost use Rattle.ipg_lin.specs.Formula.{width, depth};
 
 use super::*;
-use ipg_cert::{Refutation, check, refutation_text};
+use ipg_cert::{Refutation, Step, check, refutation_text};
 use ipg_lin::{Boxed, Formula, Linear};
 use ipg_num::List;
 use std::alloc::Global;
@@ -37,12 +37,12 @@ fn two(alloc: Global, a: i64, b: i64, constant: i64) -> Result<Formula, Fail>
 
 /// Both of two formulas that nest little.
 fn both(alloc: Global, f: Formula, g: Formula) -> Result<Formula, Fail>
-    requires depth { depth f ≤ 9 }
-    requires other_depth { depth g ≤ 9 }
-    requires width { width f ≤ 2 }
-    requires other_width { width g ≤ 2 }
-    ensures width { IfOk result (λ f. width f ≤ 2) }
-    ensures depth { IfOk result (λ f. depth f ≤ 10) }
+    requires depth { depth f ≤ 10 }
+    requires other_depth { depth g ≤ 10 }
+    requires width { width f ≤ 3 }
+    requires other_width { width g ≤ 3 }
+    ensures width { IfOk result (λ h. width h ≤ max (width f) (width g)) }
+    ensures depth { IfOk result (λ h. depth h ≤ max (depth f) (depth g) + 1) }
 {
     let mut members = List::new(alloc);
     members.push(f)?;
@@ -51,12 +51,12 @@ fn both(alloc: Global, f: Formula, g: Formula) -> Result<Formula, Fail>
 }
 
 fn either(alloc: Global, f: Formula, g: Formula) -> Result<Formula, Fail>
-    requires depth { depth f ≤ 8 }
-    requires other_depth { depth g ≤ 8 }
-    requires width { width f ≤ 2 }
-    requires other_width { width g ≤ 2 }
-    ensures width { IfOk result (λ f. width f ≤ 2) }
-    ensures depth { IfOk result (λ f. depth f ≤ 9) }
+    requires depth { depth f ≤ 10 }
+    requires other_depth { depth g ≤ 10 }
+    requires width { width f ≤ 3 }
+    requires other_width { width g ≤ 3 }
+    ensures width { IfOk result (λ h. width h ≤ max (width f) (width g)) }
+    ensures depth { IfOk result (λ h. depth h ≤ max (depth f) (depth g) + 1) }
 {
     let mut members = List::new(alloc);
     members.push(f)?;
@@ -155,25 +155,11 @@ fn an_any_of_alls_takes_the_member_that_holds(rt: HostRuntime) -> Result<(), Fai
     let alloc = rt.alloc();
     let low = both(alloc, one(alloc, 1, 3)?, two(alloc, -1, 1, 0)?)?;
     let high = both(alloc, one(alloc, -1, 3)?, two(alloc, 1, 1, -3)?)?;
-    let f = deep_either(alloc, low, high)?;
+    let f = either(alloc, low, high)?;
     let b = box_of(alloc, &[(-2, 5), (0, 1)])?;
     let values = solution(decide(alloc, &f, &b)?)?;
     assert!(rt; values.as_slice() == [3, 0].as_slice());
     Ok(())
-}
-
-fn deep_either(alloc: Global, f: Formula, g: Formula) -> Result<Formula, Fail>
-    requires depth { depth f ≤ 10 }
-    requires other_depth { depth g ≤ 10 }
-    requires width { width f ≤ 2 }
-    requires other_width { width g ≤ 2 }
-    ensures width { IfOk result (λ f. width f ≤ 2) }
-    ensures depth { IfOk result (λ f. depth f ≤ 11) }
-{
-    let mut members = List::new(alloc);
-    members.push(f)?;
-    members.push(g)?;
-    Ok(Formula::Any(members))
 }
 
 #[test]
@@ -183,5 +169,56 @@ fn ends_of_64_bits_are_reached(rt: HostRuntime) -> Result<(), Fail> {
     let b = box_of(alloc, &[(LEAST, MOST), (LEAST, MOST)])?;
     let values = solution(decide(alloc, &f, &b)?)?;
     assert!(rt; values.as_slice() == [-MOST, MOST].as_slice());
+    Ok(())
+}
+
+fn three(alloc: Global, sign: i64, constant: i64) -> Result<Formula, Fail>
+    ensures width { IfOk result (λ f. width f ≤ 3) }
+    ensures depth { IfOk result (λ f. depth f ≡ 0) }
+{
+    let terms = [(0, sign), (1, sign), (2, sign)];
+    Ok(Formula::Atom(Linear::new(alloc, &terms, constant)?))
+}
+
+fn difference(alloc: Global, x: u64, y: u64, constant: i64) -> Result<Formula, Fail>
+    requires order { x < y }
+    requires three { y ≤ 2 }
+    ensures width { IfOk result (λ f. width f ≤ 3) }
+    ensures depth { IfOk result (λ f. depth f ≡ 0) }
+{
+    Ok(Formula::Atom(Linear::new(alloc, &[(x, 1), (y, -1)], constant)?))
+}
+
+#[test]
+fn opposite_sums_are_refuted_without_a_cut(rt: HostRuntime) -> Result<(), Fail> {
+    let alloc = rt.alloc();
+    let f = both(alloc, three(alloc, 1, 0)?, three(alloc, -1, 1)?)?;
+    let b = box_of(alloc, &[(LEAST, MOST), (LEAST, MOST), (LEAST, MOST)])?;
+    assert!(rt; words(alloc, &f, &b)?.as_slice() == b"c 2 1 6 1 7".as_slice());
+    Ok(())
+}
+
+/// How many facts the one Combine of a refutation has.
+fn facts_of_one(r: &Refutation) -> Result<usize, Fail> {
+    match r.steps.as_slice() {
+        [Step::Combine(entries)] => Ok(entries.len()),
+        _ => Err("more than one step")?,
+    }
+}
+
+#[test]
+fn a_round_of_differences_is_one_combine(rt: HostRuntime) -> Result<(), Fail> {
+    let alloc = rt.alloc();
+    let back = Formula::Atom(Linear::new(alloc, &[(0, -1), (2, 1)], 0)?);
+    let steps = both(
+        alloc,
+        difference(alloc, 0, 1, 1)?,
+        difference(alloc, 1, 2, 1)?,
+    )?;
+    let f = both(alloc, steps, back)?;
+    let b = box_of(alloc, &[(LEAST, MOST), (LEAST, MOST), (LEAST, MOST)])?;
+    let r = refutation(decide(alloc, &f, &b)?)?;
+    assert!(rt; check(alloc, &f, &b, &r)?);
+    assert!(rt; facts_of_one(&r)? <= 4);
     Ok(())
 }

@@ -1,4 +1,4 @@
-use Rattle.std.proofs.Common.{◌≡◌, List, ℕ, ◌+◌, ◌≤◌, max, true, ◌∷◌, [], ◌++◌, map, take, drop, length, ap, sym, ◌∙◌, subst, arith}
+use Rattle.std.proofs.Common.{◌≡◌, List, ◌+◌, ◌≤◌, max, true, ◌∷◌, [], map, take, drop, length, ap, sym, ◌∙◌, subst, arith}
 use Rattle.std.proofs.lemmas.List.{drop_more, drop_all}
 use Rattle.ipg_lin.specs.Formula.{every, greatest, width}
 use Rattle.ipg_cert.proofs.Sums.{both_true}

@@ -1,4 +1,4 @@
-use Rattle.std.proofs.Common.{◌≡◌, sym, ◌∙◌, arith}
+use Rattle.std.proofs.Common.{sym, ◌∙◌, arith}
 use Rattle.ipg_solve.proofs.Crossing.{full_start, cross_here}
 use Rattle.ipg_solve.proofs.decision.crossed.Goals as goal
 

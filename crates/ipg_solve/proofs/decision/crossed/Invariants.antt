@@ -1,4 +1,4 @@
-use Rattle.std.proofs.Common.{◌≡◌, ℕ, ◌<◌, false, ℤ, get_or}
+use Rattle.std.proofs.Common.{◌≡◌, ℕ, ◌<◌, false, get_or}
 use Rattle.std.specs.Prelude.{int_lt}
 use Rattle.ipg_solve.proofs.Crossing.{no_bounds}
 use Rattle.ipg_solve.proofs.decision.crossed.Given as goal

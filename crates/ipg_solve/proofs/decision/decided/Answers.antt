@@ -1,4 +1,4 @@
-use Rattle.std.proofs.Common.{◌≡◌, subst}
+use Rattle.std.proofs.Common.{subst}
 use Rattle.ipg_solve.specs.Crossed.{IsCrossed}
 use Rattle.ipg_solve.proofs.Crossing.{crossed_checks}
 use Rattle.ipg_solve.proofs.decision.decided.Goals as goal

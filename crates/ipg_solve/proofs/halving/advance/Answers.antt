@@ -1,5 +1,4 @@
-use Rattle.std.proofs.Common.{◌≡◌, ℕ, ◌+◌, ◌≤◌, List, length, reverse, true, false, arith, ap, sym, ◌∙◌, subst}
-use Rattle.ipg_lin.specs.Formula.{width}
+use Rattle.std.proofs.Common.{◌≡◌, ℕ, ◌+◌, List, length, reverse, true, false, arith, ap, sym, ◌∙◌, subst}
 use Rattle.ipg_lin.specs.declared.formula.Formula.{Formula}
 use Rattle.ipg_lin.specs.declared.formula.Boxed.{Boxed}
 use Rattle.ipg_cert.specs.declared.refutation.Step.{Step}

@@ -1,4 +1,4 @@
-use Rattle.std.proofs.Common.{◌≡◌, refl, ap, ◌∙◌, reverse, arith}
+use Rattle.std.proofs.Common.{refl, ap, ◌∙◌, reverse, arith}
 use Rattle.std.proofs.lemmas.List.{nil_from_length}
 use Rattle.ipg_solve.specs.Cuts.{waiting}
 use Rattle.ipg_solve.proofs.Backing.{taken_off, turned_over}

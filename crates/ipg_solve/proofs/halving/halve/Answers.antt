@@ -1,6 +1,5 @@
-use Rattle.std.proofs.Common.{◌≡◌, map, reverse, length, arith, ap, sym, ◌∙◌, subst}
+use Rattle.std.proofs.Common.{map, length, arith, ap, sym, ◌∙◌, subst}
 use Rattle.ipg_solve.specs.declared.span.Span.{Span}
-use Rattle.ipg_solve.specs.declared.halving.Turn.{Turn}
 use Rattle.ipg_solve.specs.declared.halving.Turn.TheVariants.{Solved}
 use Rattle.ipg_solve.specs.Decides.{Solves}
 use Rattle.ipg_solve.specs.Cuts.{start_spans, Turns}

@@ -1,11 +1,7 @@
-use Rattle.std.proofs.Common.{◌≡◌, ℕ, ◌+◌, ◌-◌, ◌≤◌, max, List, [], ◌∷◌, ◌++◌, map, subst, sym, arith}
+use Rattle.std.proofs.Common.{◌≡◌, ℕ, ◌+◌, ◌-◌, ◌≤◌, [], ◌∷◌, ◌++◌, map, subst, sym, arith}
 use Rattle.ipg_lin.specs.Formula.{greatest, width, depth}
-use Rattle.ipg_lin.specs.declared.formula.Formula.{Formula}
+use Rattle.ipg_solve.proofs.Greatest.{greatest_push}
 use Rattle.ipg_solve.proofs.small.+formula.Goals as goal
-
-greatest_push : (F : Formula → ℕ) (fs : List Formula) (f : Formula) (n : ℕ) → greatest (map F fs) ≤ n → F f ≤ n → greatest (map F (fs ++ f ∷ [])) ≤ n
-greatest_push F [] f n h k = omega arith
-greatest_push F (g ∷ fs) f n h k = omega (arith, greatest_push F fs f n (omega arith) k)
 
 pub loop-member-preserved : goal.loop-member-preserved
 loop-member-preserved t c =

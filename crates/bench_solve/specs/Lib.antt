@@ -1,0 +1,2 @@
+-- What functions inside the program promise each other.
+pub mod Small
