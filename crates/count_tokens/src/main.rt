@@ -5,6 +5,9 @@ use anyhow::{Result, bail};
 use std::alloc::{AllocError, Global};
 use std::env;
 
+#[cfg(test)]
+mod tests;
+
 fn repeated(alloc: Global, piece: &[u8], times: u32) -> std::result::Result<Vec<u8>, AllocError> {
     let mut text = Vec::new(alloc);
     for _ in 0..times {

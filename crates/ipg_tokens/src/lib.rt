@@ -6,6 +6,7 @@ mod fault;
 mod front;
 mod name;
 mod number;
+mod room;
 mod scan;
 mod string;
 mod symbol;

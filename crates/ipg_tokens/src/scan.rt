@@ -3,6 +3,7 @@ ghost use Rattle.ipg_tokens.specs.Lexical.{front_of, large_first, lexed, tokens_
 ghost use Rattle.ipg_tokens.specs.Within.{TakesWithin, WidthWithin, width_of};
 
 use crate::front::{Front, front_at};
+use crate::room::room_of;
 use crate::{ReadFault, Token};
 use ipg_ast::Span;
 use std::alloc::{AllocError, Global};
@@ -16,7 +17,7 @@ pub fn tokens(alloc: Global, text: &[u8]) -> Result<Vec<Token>, ReadFault>
     if text.len() > LONGEST {
         return Err(ReadFault::TooLong);
     }
-    let mut found = Vec::new(alloc);
+    let mut found = Vec::with_capacity(alloc, room_of(text))?;
     let mut at = 0;
     while at < text.len() {
         match begins_at(alloc, text, at)? {

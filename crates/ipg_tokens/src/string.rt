@@ -36,14 +36,14 @@ pub fn string_at(alloc: Global, after: &[u8]) -> Result<Front, AllocError>
     Ok(Front::Nothing)
 }
 
-fn tail(bytes: &[u8], from: usize) -> &[u8]
+pub fn tail(bytes: &[u8], from: usize) -> &[u8]
     requires { from ≤ length bytes.now }
     ensures { result.now ≡ drop from bytes.now }
 {
     &bytes[from..]
 }
 
-fn item_of(b: u8, after: &[u8]) -> Item
+pub fn item_of(b: u8, after: &[u8]) -> Item
     ensures is { result ≡ item b after.now }
     ensures within { ItemWithin result (length after.now + 1) }
 {

@@ -32,7 +32,7 @@ fn single_at(alloc: Global, a: u8) -> Result<Front, AllocError>
     }
 }
 
-fn pairs(a: u8, b: u8) -> bool
+pub fn pairs(a: u8, b: u8) -> bool
     ensures { result ≡ is_pair a b }
 {
     (a == b'-' && b == b'>')

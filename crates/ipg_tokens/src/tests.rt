@@ -68,3 +68,12 @@ fn a_text_has_at_most_a_mebibyte(rt: HostRuntime) -> Result<(), Fail> {
     assert_eq!(rt; answer(alloc, text.as_slice()), (b'T', 0));
     Ok(())
 }
+
+#[test]
+fn no_more_memory_than_the_tokens_take(rt: HostRuntime) -> Result<(), Fail> {
+    let text = b"# \" a\nab_1 = 0x1f0x 12a (<<=->) \"\\\"\\x41 b\";!= # end";
+    let found = tokens(rt.alloc(), text)?;
+    assert_eq!(rt; found.len(), 14);
+    assert_eq!(rt; found.capacity(), found.len());
+    Ok(())
+}

@@ -1,0 +1,13 @@
+use super::count;
+use ipg_formats::{Kind, text};
+
+/// The counts are those of a scanner of fifteen lines in Python: one regular expression of the
+/// token forms, each alternative of a symbol of two bytes before those of one, matched over and over.
+#[test]
+fn the_built_in_grammars_are_read_whole(rt: HostRuntime) {
+    let alloc = rt.alloc();
+    assert_eq!(rt; count(alloc, text(Kind::Elf)), 777);
+    assert_eq!(rt; count(alloc, text(Kind::Pe)), 386);
+    assert_eq!(rt; count(alloc, text(Kind::Gif)), 244);
+    assert_eq!(rt; count(alloc, text(Kind::Pcap)), 638);
+}
