@@ -5,6 +5,7 @@ mod core_grammar;
 mod fault;
 mod form;
 mod heads;
+pub mod laws;
 mod later;
 mod thin;
 
