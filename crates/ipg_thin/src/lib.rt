@@ -5,8 +5,8 @@ mod core_grammar;
 mod fault;
 mod form;
 mod heads;
-pub mod laws;
 mod later;
+pub mod laws;
 mod thin;
 
 pub use fault::ThinFault;
