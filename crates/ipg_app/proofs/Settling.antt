@@ -1,69 +1,61 @@
--- What a settled answer says, by what was read.
-use Rattle.std.proofs.Common.{◌≡◌, ℕ, ◌<◌, ◌≤◌, ◌⊎◌, inl, inr, List, [], ◌∷◌, length, get_or, Option, None, Some, Result, Ok, Err, IfOk, refl, sym, ap, subst, ◌∙◌, arith, codes, nat_le, false, cond}
+-- What is settled, step by step.
+use Rattle.std.proofs.Common.{◌≡◌, ℕ, ◌≤◌, ◌<◌, inl, inr, List, length, false, cond, nat_le, None, codes, Result, Ok, Err, refl, sym, subst, ap, ◌∙◌, arith}
 use Rattle.std.proofs.lemmas.Bool.Decides.{nat_tests}
 use Rattle.ipg_outside.specs.Faults.{Rose}
-use Rattle.ipg_outside.specs.Files.{Told, MayHold, ReadWhole, ReadCut}
-use Rattle.ipg_app.specs.Thin.{Thin, thin_of, rule_at, max_text}
-use Rattle.ipg_app.specs.Reply.{Said, Parse, Parses, ReadsAs, Reply, to_words, no_grammar, to_grammar, no_input, to_input, to_parse, Turn, usage, read_fault, refused_form, too_large, max_input}
-use Rattle.ipg_app.specs.Run.{Settles, FailsToRead}
-use Rattle.ipg_app.specs.Lines.{said_of, ReadsInput, InputSettles}
-use Rattle.ipg_app.specs.declared.settle.Settled.{Settled}
+use Rattle.ipg_outside.specs.Files.{Told, MayHold}
+use Rattle.ipg_app.specs.Said.{Said, read_fault, refused, too_large}
+use Rattle.ipg_app.specs.Order.{Order, says, reads, Answers, Turn, have}
+use Rattle.ipg_app.specs.Thin.{rule_at, max_text}
+use Rattle.ipg_app.specs.Reply.{input_in, grammar_in, or_form, max_input}
+use Rattle.ipg_app.specs.Run.{Settles}
 use Rattle.ipg_app.proofs.Written.{later}
 
--- the input is too large
-pub input-too-large : {E : Type 0} (r : Result Settled E) (told : Told) (before after : ℕ) (rule : Thin) (front : List ℕ) → ReadCut told max_input front
-    → IfOk r (λ s. said_of s ≡ too_large) → IfOk r (λ s. InputSettles told before after rule (said_of s))
-input-too-large (Ok s) told before after rule front c e = inl (c.whole, c.contents, inl (c.longer, e))
-input-too-large (Err x) told before after rule front c e = tt
+module _ (told : List ℕ → Told) (before after : List ℕ → ℕ) where
+  -- a name at fault
+  pub at_fault : (name : List ℕ) (next : List ℕ → Order) (said : Said) → Rose (before name) (after name) → said ≡ read_fault → Settles told before after (reads name next) said
+  at_fault name next said rose e = inr (record { name = name; turn = inl refl; rose = rose; is = e })
 
--- a text that is too long reads as no rule
-too-long : (text : List ℕ) → max_text < length text → thin_of text ≡ None
-too-long text h = ap (λ b. cond b (rule_at text) None) (let e : nat_le (length text) max_text ≡ false = grind (arith, nat_tests) in e)
+  -- what a name holds leads on
+  pub goes_on : (name : List ℕ) (next : List ℕ → Order) (said : Said) (bytes : List ℕ) → MayHold (told name) bytes → Settles told before after (next bytes) said → Settles told before after (reads name next) said
+  goes_on name next said bytes held (inl a) = inl (inr (bytes, held, a))
+  goes_on name next said bytes held (inr f) = inr (record { name = f.name; turn = inr (bytes, held, f.turn); rose = f.rose; is = f.is })
 
-module _ (told : List ℕ → Told) (before after : List ℕ → ℕ) (grammar input : List ℕ) where
-  abbrev words : List (List ℕ)
-  words = codes "parse" ∷ grammar ∷ input ∷ []
+  -- a step settles what is said
+  pub settles_by : {A : Type 0} (r : Result A Said) (next : A → Order) (said x : Said) → r ≡ Err x → said ≡ x → Settles told before after (have r next) said
+  settles_by (Ok a) next said x e f = absurd (cc)
+  settles_by (Err y) next said x e f = inl (let same : said ≡ y = cc in same)
 
-  is-parse : Parse words grammar input
-  is-parse = record { are = refl }
+  -- a step hands its value on
+  pub hands_on : {A : Type 0} (r : Result A Said) (next : A → Order) (said : Said) (a : A) → r ≡ Ok a → Settles told before after (next a) said → Settles told before after (have r next) said
+  hands_on {A = A} (Ok b) next said a e h =
+      let P : A → Type 0 = λ x. Settles told before after (next x) said in
+      subst P (let same : a ≡ b = cc in same) h
+  hands_on {A = A} (Err y) next said a e h = absurd (cc)
 
-  -- the grammar's text reads as no rule
-  pub form-refused : {E : Type 0} (r : Result Settled E) (text : List ℕ) → MayHold (told grammar) text → thin_of text ≡ None
-      → IfOk r (λ s. said_of s ≡ refused_form) → IfOk r (λ s. Settles told before after words (said_of s))
-  form-refused (Ok s) text h n e = inl (to_grammar grammar input text is-parse h n e)
-  form-refused (Err x) text h n e = tt
+-- what is told stays, and no count falls
+module _ (told then : List ℕ → Told) (same : (n : List ℕ) → then n ≡ told n) where
+  answers_then : (order : Order) (said : Said) → Answers then order said → Answers told order said
+  answers_then (says P) said a = a
+  answers_then (reads name next) said (inl a) = inl (sym (same name) ∙ a.0, a.1)
+  answers_then (reads name next) said (inr a) =
+      let P : Told → Type 0 = λ t. MayHold t a.0 in
+      inr (a.0, subst P (same name) a.1, answers_then (next a.0) said a.2)
 
-  pub grammar-too-long : {E : Type 0} (r : Result Settled E) (front : List ℕ) → ReadCut (told grammar) max_text front
-      → IfOk r (λ s. said_of s ≡ refused_form) → IfOk r (λ s. Settles told before after words (said_of s))
-  grammar-too-long r front c e = form-refused r c.whole c.contents (too-long c.whole c.longer) e
+  turn_then : (order : Order) (name : List ℕ) → Turn then order name → Turn told order name
+  turn_then (says P) name t = t
+  turn_then (reads read next) name (inl t) = inl t
+  turn_then (reads read next) name (inr t) =
+      let P : Told → Type 0 = λ x. MayHold x t.0 in
+      inr (t.0, subst P (same read) t.1, turn_then (next t.0) name t.2)
 
-  -- the grammar was read, and then the input
-  input-said : (said : Said) (rule : Thin) → ReadsAs (told grammar) rule → InputSettles (told input) (before input) (after input) rule said → Settles told before after words said
-  input-said said rule reads (inl (bytes, held, inl (longer, e))) = inl (to_input grammar input bytes rule is-parse reads held longer e)
-  input-said said rule reads (inl (bytes, held, inr (fits, p))) = inl (to_parse grammar input bytes rule is-parse reads held fits p)
-  input-said said rule reads (inr (rose, e)) = inr (record {
-    name = input;
-    turn = (grammar, input, is-parse, inr (refl, (rule, reads)));
-    rose = rose;
-    is = e;
-  })
+  pub settles_then : (before between after : List ℕ → ℕ) (order : Order) (said : Said) → ((n : List ℕ) → before n ≤ between n) → Settles then between after order said → Settles told before after order said
+  settles_then before between after order said counts (inl a) = inl (answers_then order said a)
+  settles_then before between after order said counts (inr f) =
+      inr (record { name = f.name; turn = turn_then order f.name f.turn; rose = later _ _ _ (counts f.name) f.rose; is = f.is })
 
-  moved : (between-told : List ℕ → Told) (between : List ℕ → ℕ) (said : Said) (rule : Thin) → ((n : List ℕ) → between-told n ≡ told n) → ((n : List ℕ) → before n ≤ between n)
-      → InputSettles (between-told input) (between input) (after input) rule said → InputSettles (told input) (before input) (after input) rule said
-  moved between-told between said rule same counts (inl h) = let P : Told → Type 0 = λ t. ReadsInput t rule said in inl (subst P (same input) h)
-  moved between-told between said rule same counts (inr h) = inr (later _ _ _ (counts input) h.0, h.1)
+-- a text or an input that is too long
+pub text_too_long : (text : List ℕ) → max_text < length text → grammar_in text ≡ Err (refused (codes "Form"))
+text_too_long text h = ap (λ b. or_form (cond b (rule_at text) None)) (let e : nat_le (length text) max_text ≡ false = grind (arith, nat_tests) in e)
 
-  pub parse-settled : {E : Type 0} (r : Result Settled E) (between-told : List ℕ → Told) (between : List ℕ → ℕ) (text : List ℕ) (rule : Thin)
-      → MayHold (told grammar) text → thin_of text ≡ Some rule → ((n : List ℕ) → between-told n ≡ told n) → ((n : List ℕ) → before n ≤ between n)
-      → IfOk r (λ s. InputSettles (between-told input) (between input) (after input) rule (said_of s)) → IfOk r (λ s. Settles told before after words (said_of s))
-  parse-settled (Ok s) between-told between text rule h n same counts i =
-      input-said (said_of s) rule (record { text = text; held = h; reads = n }) (moved between-told between (said_of s) rule same counts i)
-  parse-settled (Err x) between-told between text rule h n same counts i = tt
-
--- a list of three, read item by item
-pub three : {A : Type 0} (xs : List A) (a b c : A) → 3 ≤ length xs → length xs < 4 → a ≡ get_or xs 0 a → b ≡ get_or xs 1 b → c ≡ get_or xs 2 c → xs ≡ a ∷ b ∷ c ∷ []
-three [] a b c h k e f g = absurd (omega arith)
-three (x ∷ []) a b c h k e f g = absurd (omega arith)
-three (x ∷ y ∷ []) a b c h k e f g = absurd (omega arith)
-three (x ∷ y ∷ z ∷ []) a b c h k e f g = cc
-three (x ∷ y ∷ z ∷ w ∷ xs) a b c h k e f g = absurd (omega arith)
+pub input_too_long : (bytes : List ℕ) → max_input < length bytes → input_in bytes ≡ Err too_large
+input_too_long bytes h = ap (λ b. cond b (Ok bytes) (Err too_large)) (let e : nat_le (length bytes) max_input ≡ false = grind (arith, nat_tests) in e)

@@ -1,8 +1,8 @@
 -- The terms and the order of a thin rule's alternative, slot after slot.
-use Rattle.std.proofs.Common.{◌≡◌, ℕ, suc, ◌+◌, ◌-◌, ◌<◌, ◌≤◌, List, [], ◌∷◌, ◌++◌, length, get_or, drop, map, refl, sym, ap, ◌∙◌, add-one, drop-cons, append_assoc, append-nil, arith}
+use Rattle.std.proofs.Common.{◌≡◌, ℕ, suc, ◌+◌, ◌-◌, ◌<◌, ◌≤◌, List, [], ◌∷◌, ◌++◌, length, get_or, drop, map, sym, ap, ◌∙◌, add-one, drop-cons, append_assoc, append-nil, arith}
 use Rattle.std.proofs.lemmas.Grind.{common_steps}
 use Rattle.ipg_core.specs.declared.grammar.CoreTerm.{CoreTerm}
-use Rattle.ipg_app.specs.Thin.{Slot, slot_seen}
+use Rattle.ipg_app.specs.Thin.{slot_seen}
 use Rattle.ipg_app.specs.ThinGrammar.{term_of, numbers}
 use Rattle.ipg_app.specs.declared.rule.ThinSlot.{ThinSlot}
 

@@ -1,24 +1,20 @@
 -- The core grammar of a thin rule is good, and calls no rule.
-use Rattle.std.proofs.Common.{◌≡◌, ℕ, zero, suc, ◌+◌, ◌<◌, ◌≤◌, ◌^◌, ◌⊎◌, inl, inr, Bool, true, false, List, [], ◌∷◌, length, map, Option, None, Some, refl, sym, ap, subst, ◌∙◌, arith, slice_get, sum_by, ℤ, pos, ◌++◌, zero-add}
+use Rattle.std.proofs.Common.{◌≡◌, ℕ, zero, suc, ◌+◌, ◌<◌, ◌≤◌, ◌⊎◌, inl, inr, true, false, List, [], ◌∷◌, length, map, None, Some, refl, sym, ap, subst, ◌∙◌, arith, slice_get, sum_by, ℤ, pos, ◌++◌, zero-add}
 use Rattle.std.proofs.lemmas.List.{length-map}
 use Rattle.std.proofs.lemmas.List.Sums.{sum_by-cons}
 use Rattle.ipg_core.specs.declared.grammar.CoreExpr.TheVariants.{Num, rolls-Num}
 use Rattle.ipg_core.specs.declared.grammar.CoreExpr.TheOpen.{CoreExpr-F}
 use Rattle.ipg_core.specs.declared.grammar.CoreExpr.TheFolds.{fold-roll-CoreExpr}
 use Rattle.std.specs.List.{AllByRecursion, IsDistinct, Contains}
-use Rattle.std.proofs.lemmas.Grind.{common_steps}
 use Rattle.std.proofs.lemmas.Bool.Decides.{nat_tests}
-use Rattle.ipg_core.specs.declared.grammar.Sym.{Sym}
 use Rattle.ipg_core.specs.declared.grammar.Sym.TheVariants.{Text, Prim, Rule}
-use Rattle.ipg_core.specs.declared.grammar.CoreExpr.{CoreExpr}
 use Rattle.ipg_core.specs.declared.grammar.CoreTerm.{CoreTerm}
-use Rattle.ipg_core.specs.declared.grammar.CoreTerm.TheVariants.{Set}
 use Rattle.ipg_core.specs.declared.grammar.CoreAlt.{CoreAlt}
 use Rattle.ipg_core.specs.declared.grammar.CoreRule.{CoreRule}
 use Rattle.ipg_core.specs.Grammar.{Grammar, rule_at, holder_of}
-use Rattle.ipg_core.specs.Mention.{Mention, EachSym, mentions, mentions_step, term_mentions, term_syms}
-use Rattle.ipg_core.specs.Order.{Sets, Provides, Names, Passes, InOrder, IsNext, is_taken}
-use Rattle.ipg_core.specs.Good.{Good, GoodRule, IsGoodMention, GoodAlt, GoodTerm, AltAt, IsGlobalAlt, slots_in}
+use Rattle.ipg_core.specs.Mention.{Mention, EachSym, mentions, mentions_step, term_mentions}
+use Rattle.ipg_core.specs.Order.{Sets, Provides, Names, Passes, InOrder, is_taken}
+use Rattle.ipg_core.specs.Good.{Good, GoodRule, IsGoodMention, GoodAlt, GoodTerm, AltAt, slots_in}
 use Rattle.ipg_core.specs.Total.{IsForward, IsLater}
 use Rattle.ipg_app.specs.Thin.{Slot, Thin}
 use Rattle.ipg_app.specs.ThinGrammar.{term_of, numbers, alt_of, grammar_of}

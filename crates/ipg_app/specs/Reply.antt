@@ -1,77 +1,71 @@
--- The reply: which status and which text the program gives for its words and for what stands in the files that
--- they name.
-use Rattle.std.specs.Prelude.{◌≡◌, ℕ, ◌^◌, ◌<◌, ◌≤◌, ◌⊎◌, List, [], ◌∷◌, ◌++◌, length, Result, Ok, Err, Option, None, Some, codes}
+-- The reply: for the program's words, the order in which it answers.
+use Rattle.std.specs.Prelude.{◌≡◌, ℕ, ◌^◌, List, [], ◌∷◌, length, nat_le, bytes_eq, codes, Result, Ok, Err, Option, None, Some, if◌then◌else◌}
 use Rattle.ipg_core.specs.Grammar.{Grammar}
 use Rattle.ipg_core.specs.Tree.{Tree}
 use Rattle.ipg_core.specs.Run.{Stop, NoTree, OutOfRange, Deep}
 use Rattle.ipg_core.specs.Meaning.{Means}
 use Rattle.ipg_core.specs.Lines.{lines}
-use Rattle.ipg_outside.specs.Files.{Told, absent, MayHold}
 use Rattle.ipg_app.specs.Thin.{Thin, thin_of}
 use Rattle.ipg_app.specs.ThinGrammar.{grammar_of}
-use Rattle.ipg_app.specs.declared.status.Status.{Status}
+use Rattle.ipg_app.specs.Said.{Said, usage, refused, no_parse, range, too_large}
+use Rattle.ipg_app.specs.Order.{Order, says, only, have, contents, ◌>>=◌}
 use Rattle.ipg_app.specs.declared.status.Status.TheVariants as status
 
--- a status, and the text that goes with it
-pub record Said : Type 0 where
-  pub status : Status
-  pub text : List ℕ
+-- ---- steps
 
--- a status with a line of its own
-abbrev pub line_said : Status → List ℕ → Said
-line_said s words = record { status = s; text = words ++ 10 ∷ [] }
+abbrev pub or_form : Option Thin → Result Grammar Said
+or_form (Some rule) = Ok (grammar_of rule)
+or_form None = Err (refused (codes "Form"))
 
-abbrev pub usage : Said
-usage = line_said status.Usage (codes "usage")
-
-abbrev pub read_fault : Said
-read_fault = line_said status.ReadFault (codes "read fault")
-
-abbrev pub refused_form : Said
-refused_form = line_said status.Refused (codes "refused Form")
-
-abbrev pub too_large : Said
-too_large = line_said status.TooLarge (codes "too large")
-
--- what is said of a parse; nothing of one that has no answer
-abbrev pub parse_said : Grammar → Result Tree Stop → Option Said
-parse_said g (Ok tree) = Some (record { status = status.Done; text = lines g tree 0 })
-parse_said g (Err NoTree) = Some (line_said status.NoParse (codes "no parse"))
-parse_said g (Err OutOfRange) = Some (line_said status.Range (codes "range"))
-parse_said g (Err Deep) = None
-
--- what is said of the parse of an input by a thin rule
-pub record Parses (rule : Thin) (input : List ℕ) (said : Said) : Type 0 where
-  pub answer : Result Tree Stop
-  pub means : Means (grammar_of rule) input answer
-  pub is : parse_said (grammar_of rule) answer ≡ Some said
-
--- the words of a parse: the grammar's name and the input's
-pub record Parse (words : List (List ℕ)) (grammar input : List ℕ) : Type 0 where
-  pub are : words ≡ codes "parse" ∷ grammar ∷ input ∷ []
-
--- the name may hold a text that reads as the rule
-pub record ReadsAs (told : Told) (rule : Thin) : Type 0 where
-  pub text : List ℕ
-  pub held : MayHold told text
-  pub reads : thin_of text ≡ Some rule
+abbrev pub grammar_in : List ℕ → Result Grammar Said
+grammar_in text = or_form (thin_of text)
 
 abbrev pub max_input : ℕ
 max_input = 2 ^ 30
 
--- the answers in their order: to the words, to the grammar, to the input, to the parse
-pub data Reply (told : List ℕ → Told) (words : List (List ℕ)) (said : Said) : Type 0 where
-  to_words : ((grammar input : List ℕ) → ¬ (Parse words grammar input)) → said ≡ usage → Reply told words said
-  no_grammar : (grammar input : List ℕ) → Parse words grammar input → told grammar ≡ absent → said ≡ read_fault → Reply told words said
-  to_grammar : (grammar input text : List ℕ) → Parse words grammar input → MayHold (told grammar) text → thin_of text ≡ None
-      → said ≡ refused_form → Reply told words said
-  no_input : (grammar input : List ℕ) (rule : Thin) → Parse words grammar input → ReadsAs (told grammar) rule → told input ≡ absent
-      → said ≡ read_fault → Reply told words said
-  to_input : (grammar input bytes : List ℕ) (rule : Thin) → Parse words grammar input → ReadsAs (told grammar) rule → MayHold (told input) bytes
-      → max_input < length bytes → said ≡ too_large → Reply told words said
-  to_parse : (grammar input bytes : List ℕ) (rule : Thin) → Parse words grammar input → ReadsAs (told grammar) rule → MayHold (told input) bytes
-      → length bytes ≤ max_input → Parses rule bytes said → Reply told words said
+abbrev pub input_in : List ℕ → Result (List ℕ) Said
+input_in bytes = if nat_le (length bytes) max_input then Ok bytes else Err too_large
 
--- the order of answers comes to the reading of a name
-abbrev pub Turn : (List ℕ → Told) → List (List ℕ) → List ℕ → Type 0
-Turn told words name = (grammar input : List ℕ) × Parse words grammar input × ((name ≡ grammar) ⊎ ((name ≡ input) × ((rule : Thin) × ReadsAs (told grammar) rule)))
+-- what is said of a parse; nothing of one that has no answer
+abbrev pub parse_said : Grammar → Result Tree Stop → Option Said
+parse_said g (Ok tree) = Some (record { status = status.Done; text = lines g tree 0 })
+parse_said g (Err NoTree) = Some no_parse
+parse_said g (Err OutOfRange) = Some range
+parse_said g (Err Deep) = None
+
+-- what is said of the parse of an input by a grammar
+pub record Parses (g : Grammar) (input : List ℕ) (said : Said) : Type 0 where
+  pub answer : Result Tree Stop
+  pub means : Means g input answer
+  pub is : parse_said g answer ≡ Some said
+
+-- ---- commands
+
+abbrev pub parse_input : Grammar → List ℕ → Order
+parse_input g name = do
+  bytes ← contents name
+  input ← have (input_in bytes)
+  says (Parses g input)
+
+abbrev pub parse : List ℕ → List ℕ → Order
+parse grammar name = do
+  text ← contents grammar
+  g ← have (grammar_in text)
+  parse_input g name
+
+-- ---- words
+
+pub data Request : Type 0 where
+  Parse : (grammar input : List ℕ) → Request
+
+-- what the words ask for
+abbrev pub request_of : List (List ℕ) → Option Request
+request_of (command ∷ grammar ∷ input ∷ []) = if bytes_eq command (codes "parse") then Some (Parse grammar input) else None
+request_of _ = None
+
+abbrev pub order_on : Option Request → Order
+order_on (Some (Parse grammar input)) = parse grammar input
+order_on None = only usage
+
+abbrev pub order_of : List (List ℕ) → Order
+order_of words = order_on (request_of words)

@@ -3,7 +3,9 @@ use Rattle.std.specs.Prelude.{◌≡◌, ℕ, ◌⊎◌, List, [], ◌++◌, Opt
 use Rattle.ipg_outside.specs.Faults.{Rose}
 use Rattle.ipg_outside.specs.Files.{Told}
 use Rattle.ipg_outside.specs.Sink.{Output, given, Breaks, Tells}
-use Rattle.ipg_app.specs.Reply.{Said, Reply, Turn, read_fault}
+use Rattle.ipg_app.specs.Said.{Said, read_fault}
+use Rattle.ipg_app.specs.Order.{Order, Answers, Turn}
+use Rattle.ipg_app.specs.Reply.{order_of}
 use Rattle.ipg_app.specs.declared.status.Status.{Status}
 use Rattle.ipg_app.specs.declared.status.Status.TheVariants as status
 
@@ -20,27 +22,27 @@ pub record Writes (text : List ℕ) (before after : Output) : Type 0 where
   pub none_held : after.held ≡ []
 
 -- a reading failed, of a name whose turn had come, and the fault was counted
-pub record FailsToRead (told : List ℕ → Told) (before after : List ℕ → ℕ) (words : List (List ℕ)) (said : Said) : Type 0 where
+pub record FailsToRead (told : List ℕ → Told) (before after : List ℕ → ℕ) (order : Order) (said : Said) : Type 0 where
   pub name : List ℕ
-  pub turn : Turn told words name
+  pub turn : Turn told order name
   pub rose : Rose (before name) (after name)
   pub is : said ≡ read_fault
 
 -- what is to be said, by what is told and by the faults of this call
-abbrev pub Settles : (List ℕ → Told) → (List ℕ → ℕ) → (List ℕ → ℕ) → List (List ℕ) → Said → Type 0
-Settles told before after words said = Reply told words said ⊎ FailsToRead told before after words said
+abbrev pub Settles : (List ℕ → Told) → (List ℕ → ℕ) → (List ℕ → ℕ) → Order → Said → Type 0
+Settles told before after order said = Answers told order said ⊎ FailsToRead told before after order said
 
 -- the whole text went out
 pub record Ended (before after : Outside) (words : List (List ℕ)) (s : Status) : Type 0 where
   pub said : Said
-  pub settled : Settles before.told before.read_faults after.read_faults words said
+  pub settled : Settles before.told before.read_faults after.read_faults (order_of words) said
   pub is : s ≡ said.status
   pub out : Tells before.output after.output (Writes said.text)
 
 -- a prefix of the text went out, and the fault was counted
 pub record FailsToWrite (before after : Outside) (words : List (List ℕ)) (s : Status) : Type 0 where
   pub said : Said
-  pub settled : Settles before.told before.read_faults after.read_faults words said
+  pub settled : Settles before.told before.read_faults after.read_faults (order_of words) said
   pub is : s ≡ status.WriteFault
   pub rose : Rose before.write_faults after.write_faults
   pub out : Tells before.output after.output (Breaks said.text)
@@ -52,3 +54,19 @@ pub record OutOfMemory (before after : Outside) (s : Status) : Type 0 where
 
 abbrev pub Runs : Outside → Outside → List (List ℕ) → Status → Type 0
 Runs before after words s = Ended before after words s ⊎ (FailsToWrite before after words s ⊎ OutOfMemory before after s)
+
+-- no count rose
+pub record NoFault (before after : Outside) : Type 0 where
+  pub reading : (name : List ℕ) → Rose (before.read_faults name) (after.read_faults name) → ⊥
+  pub writing : Rose before.write_faults after.write_faults → ⊥
+
+-- the reply went out
+pub record Replied (before after : Outside) (words : List (List ℕ)) (s : Status) : Type 0 where
+  pub said : Said
+  pub answers : Answers before.told (order_of words) said
+  pub is : s ≡ said.status
+  pub out : Tells before.output after.output (Writes said.text)
+
+-- where no count rises, the reply goes out, or memory is wanted
+abbrev pub RepliesWithoutFault : Outside → Outside → List (List ℕ) → Status → Type 0
+RepliesWithoutFault before after words s = NoFault before after → Replied before after words s ⊎ OutOfMemory before after s

@@ -1,18 +1,34 @@
 //! The core grammar of a thin rule.
-ghost use Rattle.std.specs.Prelude.{◌≡◌, ◌<◌, ◌≤◌, length, map, vec_len, IfOk};
+ghost use Rattle.std.specs.Prelude.{◌≡◌, ◌<◌, ◌≤◌, length, map, vec_len, Ok, Err, IfOk, MatchResult};
 ghost use Rattle.ipg_core.specs.Total.{Total};
 ghost use Rattle.ipg_app.specs.Thin.{thin_seen, slot_seen};
 ghost use Rattle.ipg_app.specs.ThinGrammar.{grammar_of, term_of, numbers};
+ghost use Rattle.ipg_app.specs.Reply.{grammar_in};
+ghost use Rattle.ipg_app.specs.Lines.{said_of};
 
 use crate::rule::{ThinRule, ThinSlot};
+use crate::said::{Settled, line};
+use crate::status::Status;
+use crate::thin::{self, ThinFault};
 use ipg_core::accepted::{Checked, Core};
 use ipg_core::grammar::{CoreAlt, CoreExpr, CoreRule, CoreSlot, CoreTerm, Sym};
 use ipg_core::laws::forward_is_total;
 use ipg_num::List;
 use std::alloc::{AllocError, Global};
 
+/// The grammar that a text reads as, or what is to be said of a text that reads as none.
+pub fn grammar_in(alloc: Global, text: &[u8]) -> Result<Result<Checked, Settled>, AllocError>
+    ensures { IfOk result (λ read. MatchResult read (λ checked. grammar_in text.now ≡ Ok checked) (λ settled. grammar_in text.now ≡ Err (said_of settled))) }
+{
+    match thin::read(alloc, text) {
+        Ok(rule) => Ok(Ok(checked(alloc, &rule)?)),
+        Err(ThinFault::Form) => Ok(Err(line(alloc, Status::Refused, b"refused Form")?)),
+        Err(ThinFault::Memory) => Err(AllocError),
+    }
+}
+
 /// The grammar, by which parsing ends: it calls no rule.
-pub fn checked(alloc: Global, rule: &ThinRule<'_>) -> Result<Checked, AllocError>
+fn checked(alloc: Global, rule: &ThinRule<'_>) -> Result<Checked, AllocError>
     requires some { 0 < vec_len rule.now.slots }
     requires few { vec_len rule.now.slots ≤ 256 }
     ensures { IfOk result (λ checked. checked ≡ grammar_of (thin_seen rule.now)) }

@@ -1,10 +1,12 @@
 //! Parses files by grammars.
 #![tactic(auto)]
 
+mod asking;
 mod grammar;
 mod parse;
 mod rule;
 mod run;
+mod said;
 mod settle;
 mod status;
 #[cfg(test)]

@@ -1,7 +1,7 @@
 //! The whole run of the program, over any files and any output.
 ghost use Rattle.std.specs.Prelude.{map};
 ghost use Rattle.std.specs.String.{string_bytes};
-ghost use Rattle.ipg_app.specs.Run.{Runs};
+ghost use Rattle.ipg_app.specs.Run.{Runs, RepliesWithoutFault};
 
 use crate::settle::settle;
 use crate::status::Status;
@@ -11,7 +11,8 @@ use std::alloc::Global;
 
 /// Answers the words. Nothing is written before all is settled.
 pub fn run<F: Files, S: Sink>(alloc: Global, words: &[String], files: &mut F, out: &mut S) -> Status
-    ensures { Runs (record { told = F.told files.old; read_faults = F.faults files.old; output = S.output out.old; write_faults = S.faults out.old }) (record { told = F.told files.new; read_faults = F.faults files.new; output = S.output out.new; write_faults = S.faults out.new }) (map string_bytes words.now) result }
+    ensures runs { Runs (record { told = F.told files.old; read_faults = F.faults files.old; output = S.output out.old; write_faults = S.faults out.old }) (record { told = F.told files.new; read_faults = F.faults files.new; output = S.output out.new; write_faults = S.faults out.new }) (map string_bytes words.now) result }
+    ensures replies { RepliesWithoutFault (record { told = F.told files.old; read_faults = F.faults files.old; output = S.output out.old; write_faults = S.faults out.old }) (record { told = F.told files.new; read_faults = F.faults files.new; output = S.output out.new; write_faults = S.faults out.new }) (map string_bytes words.now) result }
 {
     match settle(alloc, words, files) {
         Ok(settled) => match put(&settled.lines, out) {

@@ -1,3 +1,4 @@
 pub mod Loops
 pub mod Places
 pub mod GoodCore
+pub mod NoRange

@@ -6,5 +6,7 @@ pub mod Later
 pub mod CoreGrammar
 -- what is answered, over these
 pub mod Answer
+-- the law that a public function promises
+pub mod Laws
 -- what functions inside the crate promise each other
 pub mod Table

@@ -6,6 +6,7 @@ mod fault;
 mod form;
 mod heads;
 mod later;
+pub mod laws;
 mod thin;
 
 pub use fault::ThinFault;

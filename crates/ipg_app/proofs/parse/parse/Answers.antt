@@ -6,9 +6,7 @@ use Rattle.ipg_plain.specs.Gives.{answer_of}
 use Rattle.ipg_plain.specs.View.{tree_view}
 use Rattle.ipg_lines.specs.Text.{lines_in}
 use Rattle.ipg_app.specs.Lines.{line_bytes}
-use Rattle.ipg_app.specs.Reply.{Said}
-use Rattle.ipg_app.specs.Thin.{thin_seen}
-use Rattle.ipg_app.specs.ThinGrammar.{grammar_of}
+use Rattle.ipg_app.specs.Said.{Said}
 use Rattle.ipg_app.specs.declared.status.Status.TheVariants.{Done}
 use Rattle.ipg_app.proofs.parse.parse.Goals as goal
 
@@ -20,17 +18,14 @@ flat_lines (l ∷ ls) = ap (λ x. l.items ++ x) (flat_lines ls)
 done_with : List ℕ → Said
 done_with text = record { status = Done; text = text }
 
-pub returns-in-Tree : goal.returns-in-Tree
+pub returns-in_ok-lines_of-in-Tree : goal.returns-in_ok-lines_of-in-Tree
 unfolding done_with
-returns-in-Tree c =
-    let g = grammar_of (thin_seen c.args.rule.now) in
+returns-in_ok-lines_of-in-Tree c =
     let t = tree_view c.in-Tree.tree in
-    let e = c.in_ok-grammar.ensures in
     let ls = c.in_ok-lines_of-in-Tree.field-0.items in
-    let m = subst (λ w. Means c.in_ok-grammar.grammar c.args.input.now (answer_of w)) c.in-Tree.is c.in_ok-tree.ensures.means in
-    let shown = c.in_ok-lines_of-in-Tree.ensures ∙ ap (λ x. tree_lines x 0 0 t) (c.core.ensures.core ∙ e) in
+    let shown = c.in_ok-lines_of-in-Tree.ensures ∙ ap (λ x. tree_lines x 0 0 t) c.core.ensures.core in
     record {
       answer = Ok t;
-      means = subst (λ x. Means x c.args.input.now (Ok t)) e m;
+      means = subst (λ w. Means c.args.grammar.now c.args.input.now (answer_of w)) c.in-Tree.is c.in_ok-tree.ensures.means;
       is = ap (λ text. Some (done_with text)) (sym (flat_lines ls ∙ ap (flat_map (λ (l : List ℕ). l)) shown));
     }

@@ -1,4 +1,4 @@
-use Rattle.std.proofs.Common.{◌≡◌, ◌+◌, ◌-◌, ◌*◌, min, fold, take}
+use Rattle.std.proofs.Common.{◌≡◌, ◌+◌, min, take}
 use Rattle.ipg_app.specs.Token.{value_of, max_number}
 use Rattle.ipg_app.proofs.thin.capped_value.Given as goal
 

@@ -1,8 +1,7 @@
-use Rattle.std.proofs.Common.{◌≡◌, [], drop, arith}
+use Rattle.std.proofs.Common.{drop, arith}
 use Rattle.std.proofs.lemmas.Result.{err_from_is_err_and}
-use Rattle.std.proofs.lemmas.Grind.{common_steps}
 use Rattle.ipg_app.specs.Lines.{text_of}
-use Rattle.ipg_app.proofs.Written.{Progress, begun, one-more, broken, later, next-line, none-left, ended-written, ended-broken, ended-failed}
+use Rattle.ipg_app.proofs.Written.{begun, one-more, broken, later, next-line, none-left, ended-written, ended-broken, ended-failed}
 use Rattle.ipg_app.proofs.writing.put.Goals as goal
 
 pub returns-in_err-write-clause-broken : goal.returns-in_err-write-clause-broken

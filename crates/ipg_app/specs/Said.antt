@@ -1,0 +1,30 @@
+-- What the program says: a status, and the text that goes with it.
+use Rattle.std.specs.Prelude.{ℕ, List, [], ◌∷◌, ◌++◌, codes}
+use Rattle.ipg_app.specs.declared.status.Status.{Status}
+use Rattle.ipg_app.specs.declared.status.Status.TheVariants as status
+
+pub record Said : Type 0 where
+  pub status : Status
+  pub text : List ℕ
+
+-- a status with a line of its own
+abbrev pub line_said : Status → List ℕ → Said
+line_said s words = record { status = s; text = words ++ 10 ∷ [] }
+
+abbrev pub usage : Said
+usage = line_said status.Usage (codes "usage")
+
+abbrev pub read_fault : Said
+read_fault = line_said status.ReadFault (codes "read fault")
+
+abbrev pub refused : List ℕ → Said
+refused why = line_said status.Refused (codes "refused " ++ why)
+
+abbrev pub no_parse : Said
+no_parse = line_said status.NoParse (codes "no parse")
+
+abbrev pub range : Said
+range = line_said status.Range (codes "range")
+
+abbrev pub too_large : Said
+too_large = line_said status.TooLarge (codes "too large")

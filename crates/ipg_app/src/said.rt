@@ -1,0 +1,25 @@
+//! What is said: a status, and the lines of a text.
+ghost use Rattle.std.specs.Prelude.{◌≡◌, IfOk};
+ghost use Rattle.ipg_app.specs.Said.{line_said};
+ghost use Rattle.ipg_app.specs.Lines.{said_of};
+
+use crate::status::Status;
+use std::alloc::{AllocError, Global};
+
+#[derive(Drop)]
+pub struct Settled {
+    pub status: Status,
+    pub lines: Vec<Vec<u8>>,
+}
+
+/// A status with a line of its own.
+pub fn line(alloc: Global, status: Status, words: &[u8]) -> Result<Settled, AllocError>
+    ensures { IfOk result (λ settled. said_of settled ≡ line_said status words.now) }
+{
+    let mut line = Vec::from_slice(alloc, words)?;
+    line.push(b'\n')?;
+    Ok(Settled {
+        status,
+        lines: vec![in alloc; line]?,
+    })
+}
