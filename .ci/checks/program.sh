@@ -23,16 +23,21 @@ expect() {
 : >"$folder/empty"
 echo 'S -> Bytes ;' >"$folder/bytes.ipg"
 truncate -s $((2 ** 30 + 1)) "$folder/long"
+: >"$folder/closed"
+chmod 000 "$folder/closed"
 
 expect 0 "$tree" parse "$grammar" "$input"
 expect 0 "$tree" parse "$grammar" /dev/stdin < <(cat "$input")
 expect 1 $'no parse\n' parse "$grammar" "$folder/empty"
 expect 2 $'refused Form\n' parse "$folder/bytes.ipg" "$input"
 expect 2 $'refused Form\n' parse "$folder/empty" "$input"
+expect 2 $'refused Form\n' parse "$folder/long" "$input"
 expect 4 $'usage\n' parse
-expect 5 $'read fault\n' parse "$folder/absent" "$input"
-expect 5 $'read fault\n' parse "$folder" "$input"
-expect 5 $'read fault\n' parse "$grammar" "$folder/absent"
+for name in "$folder/absent" "$folder" "$folder/closed"; do
+  [ -f "$name" ] && [ -r "$name" ] && continue
+  expect 5 $'read fault\n' parse "$name" "$input"
+  expect 5 $'read fault\n' parse "$grammar" "$name"
+done
 expect 8 $'too large\n' parse "$grammar" "$folder/long"
 
 ./ipg parse "$grammar" "$input" >/dev/full
@@ -40,5 +45,17 @@ if [ $? -ne 6 ]; then
   echo "program: a full device is no write fault"
   failed=1
 fi
-[ "$failed" -eq 0 ] && echo "program: 11 runs are as they are due"
+
+# a pipe whose reader has gone
+mkfifo "$folder/pipe"
+: <"$folder/pipe" &
+exec 4>"$folder/pipe"
+wait
+./ipg parse "$grammar" "$input" >&4
+if [ $? -ne 6 ]; then
+  echo "program: a closed pipe is no write fault"
+  failed=1
+fi
+exec 4>&-
+[ "$failed" -eq 0 ] && echo "program: all runs are as they are due"
 exit "$failed"
