@@ -1,0 +1,4 @@
+pub mod Stacked
+pub mod Rests
+pub mod Places
+pub mod Faultless
