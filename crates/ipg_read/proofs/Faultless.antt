@@ -1,9 +1,8 @@
 -- Tokens that are counted to the end are made to the end.
-use Rattle.std.proofs.Common.{◌≡◌, ℕ, List, Option, Some, None, Result, Ok, Err, refl, ap, ◌∙◌, sym}
+use Rattle.std.proofs.Common.{◌≡◌, ℕ, List, None, Result, Ok, Err, refl, ap, ◌∙◌, sym}
 use Rattle.std.proofs.lemmas.Option.{none-some}
 use Rattle.ipg_tokens.specs.declared.token.Token.{Token}
 use Rattle.ipg_syntax.specs.Classes.{classes}
-use Rattle.ipg_syntax.specs.Limits.{Over}
 use Rattle.ipg_syntax.specs.Machine.{Read, verdict, start_state}
 use Rattle.ipg_syntax.specs.Counting.{counters}
 use Rattle.ipg_syntax.specs.Making.{made}

@@ -1,6 +1,5 @@
 -- What the machine does with a token that a place has no use of its own for.
 use Rattle.std.proofs.Common.{◌≡◌, ℕ, List, refl}
-use Rattle.ipg_num.specs.declared.op.Op2.TheVariants.{Sub, Div}
 use Rattle.ipg_ast.specs.declared.grammar.Ident.{Ident}
 use Rattle.ipg_ast.specs.declared.grammar.Span.{Span}
 use Rattle.ipg_ast.specs.declared.grammar.What.{What}
@@ -10,7 +9,6 @@ use Rattle.ipg_read.specs.Lexemes.{tok_of}
 use Rattle.ipg_read.specs.declared.lexeme.Lexeme.{Lexeme}
 use Rattle.ipg_read.specs.declared.lexeme.Lexeme.TheVariants.{Sign, Question, Dot, Semicolon, LeftParen, LeftBracket, LeftBrace, For, Switch, Where}
 use Rattle.ipg_read.specs.declared.lexeme.Infix.{Infix}
-use Rattle.ipg_read.specs.declared.lexeme.Infix.TheVariants.{Op}
 
 pub opening_rest : (A : Acts) (t : Lexeme) → ((x : Span) → t ≡ Question x → ⊥) → (t ≡ LeftBrace → ⊥) → (t ≡ For → ⊥) → ((x : Span) → t ≡ Switch x → ⊥) → M.opening A (tok_of t) ≡ M.slot_opening A M.alone (tok_of t)
 opening_rest A (Question x) q b f s = absurd (q x refl)

@@ -1,5 +1,4 @@
 -- What the code's tokens and operators stand for.
-use Rattle.ipg_num.specs.declared.op.Op2.{Op2}
 use Rattle.ipg_ast.specs.declared.grammar.Ident.{Ident}
 use Rattle.ipg_syntax.specs.Classes as C
 use Rattle.ipg_read.specs.declared.lexeme.Label.{Label}

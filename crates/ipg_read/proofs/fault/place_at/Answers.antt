@@ -1,4 +1,3 @@
-use Rattle.std.proofs.Common.{arith}
 use Rattle.ipg_read.proofs.Places.{place_here, place_past}
 use Rattle.ipg_read.proofs.fault.place_at.Goals as goal
 

@@ -1,7 +1,6 @@
 use Rattle.std.proofs.Common.{◌∙◌, ap, option_map}
 use Rattle.ipg_syntax.specs.Machine as M
 use Rattle.ipg_syntax.specs.Counting.{counters}
-use Rattle.ipg_read.specs.Lexemes.{tok_of}
 use Rattle.ipg_read.specs.Counted.{site_of, seen_of, part_of}
 use Rattle.ipg_read.proofs.count.rule.plain_step.Goals as goal
 

@@ -1,4 +1,4 @@
-use Rattle.std.proofs.Common.{◌≡◌, ℕ, ◌+◌, ◌-◌, ◌++◌, Option, Some, None, List, [], ◌∷◌, MatchOption, take, ap, subst, ◌∙◌}
+use Rattle.std.proofs.Common.{◌≡◌, ℕ, ◌+◌, ◌-◌, ◌++◌, Option, Some, None, List, [], MatchOption, take, ap, subst, ◌∙◌}
 use Rattle.std.specs.Option.{option_to_list}
 use Rattle.ipg_read.specs.Stacks.{frames_of}
 use Rattle.ipg_read.specs.Counted.{Pops}
