@@ -1,4 +1,6 @@
 -- What the public contracts rest on.
 pub mod Held
--- What the fields of a region promise each other.
+-- What the fields of a block promise each other.
 pub mod Pieces
+-- What the blocks of a region promise each other.
+pub mod Stack

@@ -1,7 +1,7 @@
--- The runs as they lie in memory: the items one after another, and where each run ends.
-use Rattle.std.specs.Prelude.{◌≡◌, ℕ, zero, suc, ◌+◌, ◌-◌, ◌≤◌, List, [], ◌∷◌, length, take, drop, vec_len, vec_capacity}
+-- The runs as they lie in a block: the items one after another, and where each run ends.
+use Rattle.std.specs.Prelude.{◌≡◌, ℕ, zero, suc, ◌-◌, ◌≤◌, List, [], ◌∷◌, length, take, drop, vec_len, vec_capacity}
 use Rattle.ipg_region.specs.Held.{Held}
-use Rattle.ipg_region.specs.declared.region.Region.TheInside.{Inside}
+use Rattle.ipg_region.specs.declared.block.Block.TheInside.{Inside}
 
 -- the items from `from` on, parted at the ends
 abbrev pub pieces : {T : Type 0} → List T → ℕ → List ℕ → List (List T)
@@ -20,13 +20,11 @@ end_before from [] (suc k) = from
 end_before from (end ∷ ends) (suc k) = end_before end ends k
 
 module _ {T A : Type 0} where
-  -- what the fields stand for
+  -- what the fields stand for: the runs, and the room that is left for more
   abbrev pub held_in : Inside T A → Held T
-  held_in a = record { runs = pieces a.items.items 0 a.ends.items; spare = record { runs = a.spare.runs; items = a.spare.items } }
+  held_in a =
+      record { runs = pieces a.items.items 0 a.ends.items; spare = record { runs = vec_capacity a.ends - vec_len a.ends; items = vec_capacity a.items - vec_len a.items } }
 
-  -- the ends part the items, and there is memory for what is spare
+  -- the ends part the items
   abbrev pub IsSound : Inside T A → Type 0
-  IsSound a =
-      Rises 0 a.ends.items (length a.items.items)
-      × (vec_len a.ends + a.spare.runs ≤ vec_capacity a.ends)
-      × (vec_len a.items + a.spare.items ≤ vec_capacity a.items)
+  IsSound a = Rises 0 a.ends.items (length a.items.items)

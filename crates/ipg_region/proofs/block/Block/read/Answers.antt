@@ -1,6 +1,6 @@
 use Rattle.std.proofs.Common.{arith, length, ap}
 use Rattle.ipg_region.proofs.PiecesLemmas.{length-pieces}
-use Rattle.ipg_region.proofs.region.Region.read.Goals as goal
+use Rattle.ipg_region.proofs.block.Block.read.Goals as goal
 
 pub run_at-requires-clause-within : goal.run_at-requires-clause-within
 run_at-requires-clause-within g c =

@@ -1,7 +1,7 @@
 use Rattle.std.proofs.Common.{ap, arith, take, drop, ◌-◌, get_or, length, ◌∙◌, sym}
 use Rattle.std.specs.Prelude.{Some}
 use Rattle.ipg_region.proofs.PiecesLemmas.{piece_at, within_items}
-use Rattle.ipg_region.proofs.region.run_at.Goals as goal
+use Rattle.ipg_region.proofs.block.run_at.Goals as goal
 
 pub between-requires-clause-ordered : goal.between-requires-clause-ordered
 between-requires-clause-ordered g c = omega (arith, within_items c.args.ends.now (length c.args.items.now) c.args.place c.requires.rises c.requires.within)

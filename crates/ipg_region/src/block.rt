@@ -1,0 +1,126 @@
+ghost use Rattle.std.specs.Prelude.{◌≡◌, ℕ, ◌+◌, ◌-◌, ◌^◌, ◌++◌, ◌∷◌, [], ◌<◌, ◌≤◌, length, take, drop, slice_get, Some, IsOk, IfOk, OnOk, OnErr};
+ghost use Rattle.ipg_region.specs.Held.{nothing_held, with_room};
+ghost use Rattle.ipg_region.specs.Pieces.{pieces, Rises, end_before};
+
+use std::alloc::{AllocError, Allocator};
+use std::marker::Model;
+
+/// Runs that lie one after another. The items never move, so their room is all that there is.
+#[derive(Drop)]
+pub(crate) struct Block<T, A: Allocator> {
+    items: Vec<T, A>,
+    ends: Vec<usize, A>,
+}
+
+impl<T, A: Allocator> Model for Block<T, A> {
+    ghost use Rattle.ipg_region.specs.Held.{Held};
+
+    ghost Value = { Held T };
+
+    ghost use Rattle.ipg_region.specs.Pieces.{held_in, IsSound};
+
+    ghost view = { λ a. held_in a };
+
+    ghost invariant = { λ a. IsSound a };
+}
+
+/// Where the run at this place begins among the items, or where the last run ends.
+fn start_of(ends: &[usize], place: usize) -> usize
+    requires { place ≤ length ends.now }
+    ensures { result ≡ end_before 0 ends.now place }
+{
+    if place == 0 { 0 } else { ends[place - 1] }
+}
+
+fn between<T>(items: &[T], from: usize, to: usize) -> &[T]
+    requires ordered { from ≤ to }
+    requires within { to ≤ length items.now }
+    ensures { result.now ≡ take (to - from) (drop from items.now) }
+{
+    &items[from..to]
+}
+
+/// The run at this place among the items.
+fn run_at<'a, T>(items: &'a [T], ends: &[usize], place: usize) -> &'a [T]
+    requires rises { Rises 0 ends.now (length items.now) }
+    requires within { place < length ends.now }
+    ensures { slice_get (pieces items.now 0 ends.now) place ≡ Some result.now }
+{
+    between(items, start_of(ends, place), ends[place])
+}
+
+impl<T: Copy, A: Allocator + Clone + Drop> Block<T, A> {
+    /// A block without runs, with room for so many runs and so many items in all.
+    pub(crate) fn with_room(alloc: A, runs: usize, items: usize) -> Result<Block<T, A>, AllocError>
+        ensures { IfOk result (λ block. block ≡ with_room nothing_held runs items) }
+    {
+        let again = alloc.clone()?;
+        Ok(Block {
+            items: Vec::with_capacity(alloc, items)?,
+            ends: Vec::with_capacity(again, runs)?,
+        })
+    }
+
+    /// How many runs it holds.
+    pub(crate) fn len(&self) -> usize
+        ensures value { result ≡ length self.now.runs }
+        ensures small { result < 2 ^ 63 }
+    {
+        self.ends.len()
+    }
+
+    /// How many items would find room in an empty block of this size.
+    pub(crate) fn size(&self) -> usize {
+        self.items.capacity()
+    }
+
+    /// How many more items find room.
+    pub(crate) fn room(&self) -> usize
+        ensures { result ≡ self.now.spare.items }
+    {
+        self.items.capacity() - self.items.len()
+    }
+
+    /// Makes room for so many more runs.
+    pub(crate) fn reserve(&mut self, runs: usize) -> Result<(), AllocError>
+        ensures kept { self.new.runs ≡ self.old.runs }
+        ensures items { self.new.spare.items ≡ self.old.spare.items }
+        ensures ok { OnOk result (runs ≤ self.new.spare.runs) }
+        ensures covered { runs ≤ self.old.spare.runs → IsOk result }
+        ensures err { OnErr result (self.new ≡ self.old) }
+    {
+        self.ends.reserve(runs)
+    }
+
+    /// Puts a run at the end, where there is room for it.
+    pub(crate) fn push(&mut self, run: &[T])
+        requires one { 1 ≤ self.old.spare.runs }
+        requires within { length run.now ≤ self.old.spare.items }
+        ensures placed { self.new.runs ≡ self.old.runs ++ run.now ∷ [] }
+        ensures runs { self.old.spare.runs - 1 ≤ self.new.spare.runs }
+        ensures items { self.old.spare.items - length run.now ≤ self.new.spare.items }
+    {
+        self.items.extend_from_slice(run).unwrap();
+        self.ends.push_reserved(self.items.len());
+    }
+
+    /// The items of a run.
+    pub(crate) fn read(&self, place: usize) -> &[T]
+        requires { place < length self.now.runs }
+        ensures { slice_get self.now.runs place ≡ Some result.now }
+    {
+        run_at(&self.items, &self.ends, place)
+    }
+
+    /// Takes the runs from this place on away.
+    pub(crate) fn cut(&mut self, to: usize)
+        requires { to ≤ length self.old.runs }
+        ensures kept { self.new.runs ≡ take to self.old.runs }
+        ensures runs { self.old.spare.runs ≤ self.new.spare.runs }
+        ensures items { self.old.spare.items ≤ self.new.spare.items }
+    {
+        let start = start_of(&self.ends, to);
+        self.items.truncate(start);
+        self.ends.truncate(to);
+    }
+}
