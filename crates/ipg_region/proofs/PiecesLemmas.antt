@@ -81,13 +81,6 @@ pieces_cut items from (end ∷ ends) to (suc k) n h le =
     ap (λ piece. piece ∷ pieces (take n items) end (take k ends)) (cut_piece items from end n h.0 (omega (arith, from_le_end end ends to k h.1)))
     ∙ ap (λ rest. take (end - from) (drop from items) ∷ rest) (pieces_cut items end ends to k n h.1 le)
 
--- what stands before a cut is read as before
-pub slice_get-take : {X : Type 0} (xs : List X) (n k : ℕ) → k < n → slice_get (take n xs) k ≡ slice_get xs k
-slice_get-take xs zero k below = absurd (omega arith)
-slice_get-take [] (suc n) k below = refl
-slice_get-take (x ∷ xs) (suc n) zero below = refl
-slice_get-take (x ∷ xs) (suc n) (suc k) below = slice_get-take xs n k (omega arith)
-
 pub start_found : (ends : List ℕ) (k : ℕ) → 0 < k → k ≤ length ends → get_or ends (k - 1) 0 ≡ end_before 0 ends k
 start_found ends zero some within = absurd (omega arith)
 start_found ends (suc k) some within =
@@ -101,20 +94,22 @@ within_items ends to k h within =
     (omega (arith, e, end_le_next 0 ends to k h), omega (arith, e, end_le_to 0 ends to (suc k) h))
 
 -- a run put at the end, by the equations that the code leaves
-pub placed : {T : Type 0} (items items' run : List T) (ends ends' : List ℕ) → items' ≡ items ++ run → ends' ≡ ends ++ length items' ∷ [] → Rises 0 ends (length items)
+pub placed : {T : Type 0} (items items' run : List T) (ends ends' : List ℕ) (end : ℕ) → items' ≡ items ++ run → end ≡ length items' → ends' ≡ ends ++ end ∷ [] → Rises 0 ends (length items)
     → (pieces items' 0 ends' ≡ pieces items 0 ends ++ run ∷ []) × Rises 0 ends' (length items')
-placed items items' run ends ends' more ended h =
-    let n : length items' ≡ length items + length run = ap length more ∙ length-append items run in
-    let e : ends' ≡ ends ++ (length items + length run) ∷ [] = ended ∙ ap (λ k. ends ++ k ∷ []) n in (
+placed items items' run ends ends' end more here ended h =
+    let n : end ≡ length items + length run = here ∙ ap length more ∙ length-append items run in
+    let e : ends' ≡ ends ++ (length items + length run) ∷ [] = ended ∙ ap (λ k. ends ++ k ∷ []) n in
+    let all : ends' ≡ ends ++ length items' ∷ [] = ended ∙ ap (λ k. ends ++ k ∷ []) here in (
       ap (λ xs. pieces xs 0 ends') more ∙ ap (pieces (items ++ run) 0) e ∙ pieces_more items run 0 ends h,
-      subst (λ es. Rises 0 es (length items')) (sym ended) (rises_more 0 ends (length items) (length items') h (omega arith)),
+      subst (λ es. Rises 0 es (length items')) (sym all) (rises_more 0 ends (length items) (length items') h (omega (arith, n, here))),
     )
 
 -- the runs from a place on cut off, by the equations that the code leaves
-pub cut_off : {T : Type 0} (items items' : List T) (ends ends' : List ℕ) (k : ℕ) → items' ≡ take (end_before 0 ends k) items → ends' ≡ take k ends → Rises 0 ends (length items)
+pub cut_off : {T : Type 0} (items items' : List T) (ends ends' : List ℕ) (k start : ℕ) → start ≡ end_before 0 ends k → items' ≡ take start items → ends' ≡ take k ends → Rises 0 ends (length items)
     → (pieces items' 0 ends' ≡ take k (pieces items 0 ends)) × Rises 0 ends' (length items')
-cut_off items items' ends ends' k fewer ended h =
-    let n : length items' ≡ end_before 0 ends k = ap length fewer ∙ length-take-le (end_before 0 ends k) items (end_le_to 0 ends (length items) k h) in (
-      ap (λ xs. pieces xs 0 ends') fewer ∙ ap (pieces (take (end_before 0 ends k) items) 0) ended ∙ pieces_cut items 0 ends (length items) k (end_before 0 ends k) h (omega arith),
-      subst (λ to. Rises 0 ends' to) (sym n) (subst (λ es. Rises 0 es (end_before 0 ends k)) (sym ended) (rises_cut 0 ends (length items) k h)),
+cut_off items items' ends ends' k start found fewer ended h =
+    let within : start ≤ length items = omega (arith, found, end_le_to 0 ends (length items) k h) in
+    let n : end_before 0 ends k ≡ length items' = omega (arith, found, ap length fewer, length-take-le start items within) in (
+      ap (λ xs. pieces xs 0 ends') fewer ∙ ap (pieces (take start items) 0) ended ∙ pieces_cut items 0 ends (length items) k start h (omega (arith, found)),
+      subst (λ to. Rises 0 ends' to) n (subst (λ es. Rises 0 es (end_before 0 ends k)) (sym ended) (rises_cut 0 ends (length items) k h)),
     )

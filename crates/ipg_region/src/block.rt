@@ -1,11 +1,11 @@
-ghost use Rattle.std.specs.Prelude.{◌≡◌, ℕ, ◌+◌, ◌-◌, ◌^◌, ◌++◌, ◌∷◌, [], ◌<◌, ◌≤◌, length, take, drop, slice_get, Some, IsOk, IfOk, OnOk, OnErr};
+ghost use Rattle.std.specs.Prelude.{◌≡◌, ◌-◌, ◌^◌, ◌++◌, ◌∷◌, [], ◌<◌, ◌≤◌, length, take, drop, slice_get, Some, IsOk, IfOk, OnOk, OnErr};
 ghost use Rattle.ipg_region.specs.Held.{nothing_held, with_room};
 ghost use Rattle.ipg_region.specs.Pieces.{pieces, Rises, end_before};
 
 use std::alloc::{AllocError, Allocator};
 use std::marker::Model;
 
-/// Runs that lie one after another. The items never move, so their room is all that there is.
+/// Runs that lie one after another. The items never move: where their room ends, a block is full.
 #[derive(Drop)]
 pub(crate) struct Block<T, A: Allocator> {
     items: Vec<T, A>,
@@ -69,9 +69,21 @@ impl<T: Copy, A: Allocator + Clone + Drop> Block<T, A> {
         self.ends.len()
     }
 
-    /// How many items would find room in an empty block of this size.
-    pub(crate) fn size(&self) -> usize {
-        self.items.capacity()
+    /// An empty block with room for so many runs and items, and half as large again as this one
+    /// where there is memory for that.
+    pub(crate) fn larger(&self, runs: usize, items: usize) -> Result<Block<T, A>, AllocError>
+        ensures empty { IfOk result (λ block. block.runs ≡ []) }
+        ensures runs { IfOk result (λ block. runs ≤ block.spare.runs) }
+        ensures items { IfOk result (λ block. items ≤ block.spare.items) }
+    {
+        let (len, size) = (self.ends.len(), self.items.capacity());
+        let more_runs = runs.max(len.saturating_add(len / 2));
+        let more_items = items.max(size.saturating_add(size / 2));
+        let alloc = self.items.allocator();
+        match Block::with_room(alloc.clone()?, more_runs, more_items) {
+            Ok(block) => Ok(block),
+            Err(_) => Block::with_room(alloc.clone()?, runs, items),
+        }
     }
 
     /// How many more items find room.

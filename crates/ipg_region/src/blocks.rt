@@ -1,4 +1,4 @@
-ghost use Rattle.std.specs.Prelude.{◌≡◌, ℕ, ◌+◌, ◌-◌, ◌++◌, ◌∷◌, [], ◌<◌, ◌≤◌, length, take, slice_get, Some, IsOk, IfOk, OnOk, OnErr};
+ghost use Rattle.std.specs.Prelude.{◌≡◌, ◌-◌, ◌++◌, ◌∷◌, [], ◌<◌, ◌≤◌, length, take, slice_get, Some, IsOk, IfOk, OnOk, OnErr};
 ghost use Rattle.ipg_region.specs.Held.{nothing_held};
 ghost use Rattle.ipg_region.specs.Stack.{flat};
 
@@ -28,7 +28,7 @@ impl<T, A: Allocator> Model for Blocks<T, A> {
     ghost invariant = { λ a. IsCounted a };
 }
 
-/// The run at this place. It is looked for from the last block back, since later blocks hold more.
+/// The run at this place, which is looked for from the last block back: later blocks are larger.
 fn read_in<T: Copy, A: Allocator + Clone + Drop>(
     blocks: &[Block<T, A>],
     end: usize,
@@ -87,22 +87,18 @@ impl<T: Copy, A: Allocator + Clone + Drop> Blocks<T, A> {
         self.before + self.last.len()
     }
 
-    /// Opens a block with at least this room, which is half as large again as the last one.
+    /// Opens a block with at least this room.
     fn open(&mut self, runs: usize, items: usize) -> Result<(), AllocError>
         ensures kept { self.new.runs ≡ self.old.runs }
         ensures runs { OnOk result (runs ≤ self.new.spare.runs) }
         ensures items { OnOk result (items ≤ self.new.spare.items) }
         ensures err { OnErr result (self.new ≡ self.old) }
     {
-        let (len, size) = (self.last.len(), self.last.size());
-        let before = self.before + len;
+        let before = self.before + self.last.len();
         if before > isize::MAX as usize {
             return Err(AllocError);
         }
-        let alloc = self.full.allocator().clone()?;
-        let runs = runs.max(len.saturating_add(len / 2));
-        let items = items.max(size.saturating_add(size / 2));
-        let block = Block::with_room(alloc, runs, items)?;
+        let block = self.last.larger(runs, items)?;
         self.full.reserve(1)?;
         let last = replace(&mut self.last, block);
         self.full.push_reserved(last);

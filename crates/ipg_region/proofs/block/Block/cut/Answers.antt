@@ -9,9 +9,8 @@ fields : (g : Over) (c : goal.After-truncate-2 g)
     → (pieces c.truncate.new.self.items 0 c.truncate-2.new.self.items ≡ take c.args.to (pieces c.self.inside.items.items 0 c.self.inside.ends.items))
     × Rises 0 c.truncate-2.new.self.items (length c.truncate.new.self.items)
 fields g c =
-    let start : c.start_of-start.result ≡ end_before 0 c.self.inside.ends.items c.args.to = c.start_of-start.ensures ∙ ap (λ es. end_before 0 es c.args.to) c.deref.ensures.value in
-    cut_off c.self.inside.items.items c.truncate.new.self.items c.self.inside.ends.items c.truncate-2.new.self.items c.args.to
-    (c.truncate.ensures.items ∙ ap (λ n. take n c.self.inside.items.items) start) c.truncate-2.ensures.items c.self.invariant
+    cut_off c.self.inside.items.items c.truncate.new.self.items c.self.inside.ends.items c.truncate-2.new.self.items c.args.to c.start_of-start.result
+    (c.start_of-start.ensures ∙ ap (λ es. end_before 0 es c.args.to) c.deref.ensures.value) c.truncate.ensures.items c.truncate-2.ensures.items c.self.invariant
 
 pub start_of-start-requires : goal.start_of-start-requires
 start_of-start-requires g c =

@@ -13,12 +13,12 @@ more g c =
 pub invariant_of-self-2 : goal.invariant_of-self-2
 invariant_of-self-2 g c =
     let n = ap (λ full. length (flat full)) (more g c) ∙ length_last c.self.inside.full.items c.self.inside.last in
-    (omega (arith, n, c.len-len.ensures.value, c.self.invariant.0), omega (arith, c.if-before.false))
+    (omega (arith, n, c.len.ensures.value, c.self.invariant.0), omega (arith, c.if-before.false))
 
 pub returns-clause-kept : goal.returns-clause-kept
 returns-clause-kept g c =
     ap (λ full. flat full ++ c.replace-last.new.dest.runs) (more g c)
     ∙ ap (λ block. flat (c.self.inside.full.items ++ c.self.inside.last ∷ []) ++ block.runs) c.replace-last.ensures.after
-    ∙ ap (λ block. flat (c.self.inside.full.items ++ c.self.inside.last ∷ []) ++ block.runs) c.in_ok-block.ensures
+    ∙ ap (λ runs. flat (c.self.inside.full.items ++ c.self.inside.last ∷ []) ++ runs) c.in_ok-block.ensures.empty
     ∙ opened c.self.inside.full.items c.self.inside.last
     ∙ ap (λ held. held.runs) c.self.view_is
