@@ -91,10 +91,10 @@ cut_without_last all left block to e h =
     sym (take-append-le to (flat left) block.runs h) ∙ ap (take to) (sym (flat_last left block)) ∙ ap (λ blocks. take to (flat blocks)) (sym e)
 
 -- a cut within the last block
-pub cut_last : {T : Type 0} (all left : List (Held T)) (block kept : Held T) (start to : ℕ) → all ≡ left ++ block ∷ [] → start ≡ length (flat left) → start ≤ to → kept.runs ≡ take (to - start) block.runs
-    → flat (left ++ kept ∷ []) ≡ take to (flat all)
-cut_last all left block kept start to e counted h cut =
-    flat_last left kept ∙ ap (λ runs. flat left ++ runs) cut ∙ ap (λ n. flat left ++ take (to - n) block.runs) counted
+pub cut_last : {T : Type 0} (all all' left : List (Held T)) (block kept : Held T) (start to : ℕ) → all ≡ left ++ block ∷ [] → all' ≡ left ++ kept ∷ [] → start ≡ length (flat left) → start ≤ to
+    → kept.runs ≡ take (to - start) block.runs → flat all' ≡ take to (flat all)
+cut_last all all' left block kept start to e e' counted h cut =
+    ap flat e' ∙ flat_last left kept ∙ ap (λ runs. flat left ++ runs) cut ∙ ap (λ n. flat left ++ take (to - n) block.runs) counted
     ∙ sym (take_over (flat left) block.runs to (omega (arith, counted)))
     ∙ ap (take to) (sym (flat_last left block)) ∙ ap (λ blocks. take to (flat blocks)) (sym e)
 

@@ -55,3 +55,25 @@ fn a_full_heap_reads_as_before(rt: HostRuntime) -> Result<(), Fail> {
     }
     Ok(())
 }
+
+#[test]
+fn reads_and_cuts_over_blocks(rt: HostRuntime) -> Result<(), Fail> {
+    let heap = LocalHeap::new(rt.alloc(), 1 << 16)?;
+    let mut region = Region::new(&heap, 4)?;
+    for i in 0..100u64 {
+        region.place(&[i, 2 * i])?;
+    }
+    let used = heap.used();
+    let runs = region.mark().place;
+    assert_eq!(rt; runs, 100);
+    assert!(rt; region.read(RunId { place: 1 }) == [1, 2].as_slice());
+    assert!(rt; region.read(RunId { place: 50 }) == [50, 100].as_slice());
+    assert!(rt; region.read(RunId { place: 99 }) == [99, 198].as_slice());
+    region.cut(RunId { place: 3 });
+    assert!(rt; heap.used() < used);
+    let next = region.place(&[7])?;
+    assert_eq!(rt; next.place, 3);
+    assert!(rt; region.read(next) == [7].as_slice());
+    assert!(rt; region.read(RunId { place: 2 }) == [2, 4].as_slice());
+    Ok(())
+}

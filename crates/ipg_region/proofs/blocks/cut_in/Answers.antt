@@ -16,8 +16,8 @@ cut-requires g c =
 pub returns-then-start-to : goal.returns-then-start-to
 returns-then-start-to g c =
     let counted = without_last c.loop-block.blocks.items c.pop.new.self.items c.in-Some.block c.loop-block.start c.len-start.result c.in-Some.ensures.items c.loop-block.invariant.0 c.len-start.ensures.value in
-    ap flat c.push_reserved.ensures.items
-    ∙ cut_last c.loop-block.blocks.items c.pop.new.self.items c.in-Some.block c.cut.new.self (c.loop-block.start - c.len-start.result) c.args.to c.in-Some.ensures.items (omega (arith, counted)) (omega (arith, c.if-start-to.true)) c.cut.ensures.kept
+    cut_last c.loop-block.blocks.items c.push_reserved.new.self.items c.pop.new.self.items c.in-Some.block c.cut.new.self (c.loop-block.start - c.len-start.result) c.args.to c.in-Some.ensures.items
+    c.push_reserved.ensures.items (omega (arith, counted)) (omega (arith, c.if-start-to.true)) c.cut.ensures.kept
     ∙ c.loop-block.invariant.2
 
 pub loop-block-preserved : goal.loop-block-preserved
