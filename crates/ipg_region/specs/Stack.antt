@@ -1,6 +1,6 @@
 -- A region as a stack of blocks: the runs of each one after another, and room in the last.
-use Rattle.std.specs.Prelude.{◌≡◌, ℕ, ◌^◌, ◌<◌, ◌≤◌, List, [], ◌∷◌, ◌++◌, length}
-use Rattle.ipg_region.specs.Held.{Held, Room}
+use Rattle.std.specs.Prelude.{◌≡◌, ◌^◌, ◌<◌, ◌≤◌, List, [], ◌∷◌, ◌++◌, length}
+use Rattle.ipg_region.specs.Held.{Held}
 use Rattle.ipg_region.specs.declared.blocks.Blocks.TheInside as blocks
 use Rattle.ipg_region.specs.declared.region.Region.TheInside as region
 

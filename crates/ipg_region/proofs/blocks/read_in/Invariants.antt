@@ -1,4 +1,4 @@
-use Rattle.std.proofs.Common.{suc, ◌-◌, ◌≡◌, ◌<◌, ◌≤◌, length, take}
+use Rattle.std.proofs.Common.{suc, ◌≡◌, ◌<◌, ◌≤◌, length, take}
 use Rattle.ipg_region.specs.Stack.{flat}
 use Rattle.ipg_region.proofs.blocks.read_in.Given as goal
 

@@ -1,4 +1,4 @@
-use Rattle.std.proofs.Common.{◌-◌, ap, sym, ◌∙◌, ◌++◌, take}
+use Rattle.std.proofs.Common.{◌-◌, ap, ◌∙◌, ◌++◌, take}
 use Rattle.ipg_region.specs.Stack.{flat}
 use Rattle.ipg_region.proofs.StackLemmas.{cut_back, cut_on}
 use Rattle.ipg_region.proofs.blocks.Blocks.cut.Goals.{then-to-self, else-to-self}
