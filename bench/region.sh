@@ -8,21 +8,24 @@ trap 'rm -rf "$work"' EXIT
 rustc -O -o "$work/peer" bench/region/peer.rs
 ours=crates/bench_region/out/bench_region
 
-# The least of five runs, in milliseconds.
+# The least of five runs of each command, in milliseconds. The commands take turns, so that a
+# busy moment of the machine meets all of them.
 least() {
-  local best=999999
-  for _ in 1 2 3 4 5; do
-    local from=$(date +%s%N)
-    "$@" >"$work/said"
-    local took=$((($(date +%s%N) - from) / 1000000))
-    if [ "$took" -lt "$best" ]; then best=$took; fi
+  local best=() round i from took
+  for round in 1 2 3 4 5; do
+    for ((i = 0; i < $#; i++)); do
+      from=${EPOCHREALTIME/./}
+      ${@:i+1:1} >"$work/said$i"
+      took=$(((${EPOCHREALTIME/./} - from) / 1000))
+      if [ "$round" = 1 ] || [ "$took" -lt "${best[i]}" ]; then best[i]=$took; fi
+    done
   done
-  echo "$best ms  $* | $(cat "$work/said")"
+  for ((i = 0; i < $#; i++)); do
+    echo "${best[i]} ms  ${@:i+1:1} | $(cat "$work/said$i")"
+  done
 }
 
 for kind in "region 2000000" "memo 1000000"; do
   set -- $kind
-  least "$work/peer" "$1" global "$2"
-  least "$ours" "$1" global "$2"
-  least "$ours" "$1" heap "$2"
+  least "$work/peer $1 global $2" "$ours $1 global $2" "$ours $1 heap $2"
 done

@@ -11,14 +11,14 @@ flat-append [] ys = refl
 flat-append (x ∷ xs) ys = ap (λ runs. x.runs ++ runs) (flat-append xs ys) ∙ sym (append_assoc x.runs (flat xs) (flat ys))
 
 -- the runs of the last block are the last runs
-pub flat_last : {T : Type 0} (xs : List (Held T)) (x : Held T) → flat (xs ++ x ∷ []) ≡ flat xs ++ x.runs
+flat_last : {T : Type 0} (xs : List (Held T)) (x : Held T) → flat (xs ++ x ∷ []) ≡ flat xs ++ x.runs
 flat_last xs x = flat-append xs (x ∷ []) ∙ ap (λ runs. flat xs ++ runs) (append-nil x.runs)
 
 pub length_last : {T : Type 0} (xs : List (Held T)) (x : Held T) → length (flat (xs ++ x ∷ [])) ≡ length (flat xs) + length x.runs
 length_last xs x = ap length (flat_last xs x) ∙ length-append (flat xs) x.runs
 
 -- what is taken of two lists reaches into the second one
-pub take_over : {X : Type 0} (xs ys : List X) (n : ℕ) → length xs ≤ n → take n (xs ++ ys) ≡ xs ++ take (n - length xs) ys
+take_over : {X : Type 0} (xs ys : List X) (n : ℕ) → length xs ≤ n → take n (xs ++ ys) ≡ xs ++ take (n - length xs) ys
 take_over xs ys n h =
     let split : n ≡ length xs + (n - length xs) = omega arith in
     ap (λ m. take m (xs ++ ys)) split ∙ take-append-add xs ys (n - length xs)
@@ -35,7 +35,7 @@ slice_get-append-left (x ∷ xs) ys zero h = refl
 slice_get-append-left (x ∷ xs) ys (suc k) h = slice_get-append-left xs ys k (omega arith)
 
 -- a place behind the first of two lists is a place of the second
-pub slice_get_over : {X : Type 0} (xs ys : List X) (k : ℕ) → length xs ≤ k → slice_get (xs ++ ys) k ≡ slice_get ys (k - length xs)
+slice_get_over : {X : Type 0} (xs ys : List X) (k : ℕ) → length xs ≤ k → slice_get (xs ++ ys) k ≡ slice_get ys (k - length xs)
 slice_get_over [] ys k h = ap (slice_get ys) (omega arith)
 slice_get_over (x ∷ xs) ys zero h = absurd (omega arith)
 slice_get_over (x ∷ xs) ys (suc k) h = slice_get_over xs ys k (omega arith) ∙ ap (slice_get ys) (omega arith)

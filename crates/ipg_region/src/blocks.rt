@@ -69,6 +69,7 @@ fn cut_in<T: Copy, A: Allocator + Clone + Drop>(
 }
 
 impl<T: Copy, A: Allocator + Clone + Drop> Blocks<T, A> {
+    /// No runs, and no memory yet.
     pub(crate) fn new(alloc: A) -> Result<Blocks<T, A>, AllocError>
         ensures { IfOk result (λ blocks. blocks ≡ nothing_held) }
     {
@@ -87,7 +88,7 @@ impl<T: Copy, A: Allocator + Clone + Drop> Blocks<T, A> {
         self.before + self.last.len()
     }
 
-    /// Opens a block with at least this room.
+    /// Opens a block with at least this room. A last block without runs is given up for it.
     fn open(&mut self, runs: usize, items: usize) -> Result<(), AllocError>
         ensures kept { self.new.runs ≡ self.old.runs }
         ensures runs { OnOk result (runs ≤ self.new.spare.runs) }
@@ -99,6 +100,10 @@ impl<T: Copy, A: Allocator + Clone + Drop> Blocks<T, A> {
             return Err(AllocError);
         }
         let block = self.last.larger(runs, items)?;
+        if self.last.len() == 0 {
+            self.last = block;
+            return Ok(());
+        }
         self.full.reserve(1)?;
         let last = replace(&mut self.last, block);
         self.full.push_reserved(last);

@@ -39,7 +39,7 @@ impl<T, A: Allocator> Model for Region<T, A> {
 }
 
 impl<T: Copy, A: Allocator + Clone + Drop> Region<T, A> {
-    /// A region without runs. It asks for room by `chunk` items at a time, if it needs no more.
+    /// A region without runs. Where it asks for room, it asks for that of at least `chunk` items.
     pub fn new(alloc: A, chunk: u32) -> Result<Region<T, A>, AllocError>
         requires { 1 ≤ chunk }
         ensures { IfOk result (λ region. region ≡ nothing_held) }
