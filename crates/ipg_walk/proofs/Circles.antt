@@ -1,13 +1,15 @@
 -- A trail that comes to a node that it has passed.
-use Rattle.std.proofs.Common.{◌≡◌, ℕ, zero, suc, ◌+◌, ◌<◌, true, ℤ, pos, ◌+ℤ◌, ◌-ℤ◌, List, [], ◌∷◌, length, take, refl, sym, ◌∙◌, ap, subst, arith}
+use Rattle.std.proofs.Common.{◌≡◌, ℕ, zero, suc, ◌<◌, ◌≤◌, true, ℤ, pos, ◌+ℤ◌, List, [], ◌∷◌, length, take, length-take, refl, sym, ◌∙◌, ap, subst, arith}
 use Rattle.std.specs.Prelude.{◌≤ℤ◌, ◌<ℤ◌}
 use Rattle.std.specs.List.{AllByRecursion}
 use Rattle.std.proofs.lemmas.Int.{ints}
+use Rattle.std.proofs.lemmas.List.{length-map}
 use borrow.Author.Differences.{same_in}
 use Rattle.ipg_walk.specs.declared.edge.Edge.{Edge}
 use Rattle.ipg_walk.specs.declared.trail.Stop.{Stop}
-use Rattle.ipg_walk.specs.Falls.{level_at, edge_at, LeadBack, fall_of, IsCircle}
-use Rattle.ipg_walk.specs.Trails.{IsTrail, IsAbove, IsWrong, LeadsTo, stop_at, edges_of, is_wrong}
+use Rattle.ipg_walk.specs.Falls.{level_at, edge_at, AreEdges, LeadBack, fall_of, IsCircle}
+use Rattle.ipg_walk.specs.Trails.{IsTrail, IsAbove, IsWrong, LeadsTo, State, stop_at, trail_at, edges_of, is_wrong}
+use Rattle.ipg_walk.proofs.Levels.{trail_short}
 
 -- the edges since a stop lead back to it
 leads_back : (edges : List Edge) (stop : Stop) (trail : List Stop) (place : ℕ) → IsTrail edges (stop ∷ trail) → place < length (stop ∷ trail)
@@ -48,4 +50,16 @@ closes edges levels n (tip ∷ trail) place wrong leads within is =
       edge.to,
       (wrong.0, refl, subst (λ node. LeadBack edges node since edge.to) leads.ends back),
       rises (level_at levels edge.from) (level_at levels edge.to) edge.fall (fall_of edges since) tip.level start.level (wrong_is levels edge wrong.1) leads.level above (falls_back edges tip trail place leads.is_trail within),
+    )
+
+pub circle_found : (edges : List Edge) (levels : List ℤ) (trails : List (List Stop)) (n : ℕ) (seen lent : List Stop) (place : ℕ) (circle : List ℕ) → State edges levels trails → AreEdges (length levels) edges → IsWrong levels edges n
+    → seen ≡ trail_at trails (edge_at edges n).from → lent ≡ trail_at trails (edge_at edges n).from → (place < length seen) × ((stop_at seen place).node ≡ (edge_at edges n).to) → circle ≡ n ∷ edges_of (take place lent)
+    → IsCircle edges circle × (length circle ≤ length levels)
+circle_found edges levels trails n seen lent place circle state joined wrong same again passes is =
+    let trail = trail_at trails (edge_at edges n).from in
+    let leads : LeadsTo edges levels (edge_at edges n).from trail = state.lead (edge_at edges n).from (joined n wrong.0).0 in
+    let here : (place < length trail) × ((stop_at trail place).node ≡ (edge_at edges n).to) = subst (λ ss. (place < length ss) × ((stop_at ss place).node ≡ (edge_at edges n).to)) same passes in
+    let made : circle ≡ n ∷ edges_of (take place trail) = is ∙ ap (λ ss. n ∷ edges_of (take place ss)) again in (
+      subst (IsCircle edges) (sym made) (closes edges levels n trail place wrong leads here.0 here.1),
+      omega (arith, ap length made, length-map (take place trail) (λ (s : Stop). s.edge), length-take place trail, trail_short edges levels (edge_at edges n).from trail leads, here.0),
     )

@@ -1,5 +1,5 @@
 -- Levels stay small, and there is less room below them after each is lowered.
-use Rattle.std.proofs.Common.{◌≡◌, ℕ, ◌+◌, ◌*◌, ◌^◌, ◌<◌, ◌≤◌, eqb, eqb-true, inl, inr, true, false, ◌||◌, ℤ, pos, ◌+ℤ◌, List, [], ◌∷◌, length, set, refl, sym, ◌∙◌, ap, subst, arith}
+use Rattle.std.proofs.Common.{◌≡◌, ℕ, ◌+◌, ◌*◌, ◌^◌, ◌<◌, ◌≤◌, eqb, eqb-true, inl, inr, true, false, ◌||◌, ℤ, pos, ◌+ℤ◌, List, [], ◌∷◌, length, set, refl, sym, ap, subst, arith}
 use Rattle.std.specs.Prelude.{◌≤ℤ◌, ◌<ℤ◌}
 use Rattle.std.specs.Int.RustNames.{unsigned_abs}
 use Rattle.std.specs.List.{AllByRecursion, list_any}
@@ -10,7 +10,7 @@ use Rattle.std.proofs.lemmas.List.Sums.{sum_by-set}
 use Rattle.std.proofs.lemmas.Map.Steps.{length-le_from_distinct_below}
 use Rattle.ipg_walk.specs.declared.edge.Edge.{Edge}
 use Rattle.ipg_walk.specs.declared.trail.Stop.{Stop}
-use Rattle.ipg_walk.specs.Falls.{level_at}
+use Rattle.ipg_walk.specs.Falls.{level_at, edge_at, AreEdges}
 use Rattle.ipg_walk.specs.Trails.{AreSmall, IsAbove, LeadsTo, State, nodes_of, trail_at, room}
 
 node_below : (levels : List ℤ) (trail : List Stop) → AllByRecursion (IsAbove levels) trail → (q : ℕ) → list_any (eqb q) (nodes_of trail) ≡ true → q < length levels
@@ -35,6 +35,12 @@ levels_small edges levels trails state node =
       | inl within ↦ small_level edges levels node (trail_at trails node) (state.lead node within)
       | inr past ↦ subst (λ z. unsigned_abs z ≤ length levels * 2 ^ 64) (sym (get_or_past levels node (pos 0) past)) (omega arith)
     ]
+
+-- a level and a fall are far from the end of 128 bits
+pub edge_fits : (edges : List Edge) (levels lent : List ℤ) (trails : List (List Stop)) (n : ℕ) → AreEdges (length levels) edges → length levels ≤ 2 ^ 22 → State edges levels trails → n < length edges → lent ≡ levels
+    → unsigned_abs (level_at lent (edge_at edges n).from) + unsigned_abs (edge_at edges n).fall < 2 ^ 127
+edge_fits edges levels lent trails n joined few state within same =
+    omega (arith, (joined n within).2, levels_small edges levels trails state (edge_at edges n).from, ap (λ ls. unsigned_abs (level_at ls (edge_at edges n).from)) same)
 
 -- no level rises where one is lowered
 pub set_below : (levels : List ℤ) (to : ℕ) (level : ℤ) → to < length levels → level ≤ℤ level_at levels to → (x : ℕ) → level_at (set levels to level) x ≤ℤ level_at levels x

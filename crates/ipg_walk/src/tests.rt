@@ -20,12 +20,7 @@ fn levels_fall_along_edges(rt: HostRuntime) -> Result<(), Fail> {
 
 #[test]
 fn a_circle_that_falls_is_found(rt: HostRuntime) -> Result<(), Fail> {
-    let edges = [
-        edge(0, 1, 3),
-        edge(1, 2, 4),
-        edge(2, 1, -3),
-        edge(2, 0, -9),
-    ];
+    let edges = [edge(0, 1, 3), edge(1, 2, 4), edge(2, 1, -3), edge(2, 0, -9)];
     match settle(rt.alloc(), 3, &edges)? {
         Settled::Levels(_) => assert!(rt; false),
         Settled::Circle(circle) => assert!(rt; circle.as_slice() == [2, 1].as_slice()),

@@ -1,4 +1,4 @@
-use Rattle.std.proofs.Common.{◌≡◌, false, nat_eq, take}
+use Rattle.std.proofs.Common.{take}
 use Rattle.ipg_walk.specs.Trails.{PassesBy}
 use Rattle.ipg_walk.proofs.trail.place_of.Given as goal
 
