@@ -2,6 +2,7 @@ ghost use Rattle.std.specs.Prelude.{◌≡◌, ◌&&◌, ◌||◌, length, map, 
 ghost use Rattle.std.specs.Ordering.{int_eq};
 ghost use Rattle.ipg_lin.specs.Formula.{every};
 ghost use Rattle.ipg_solve.specs.Decides.{Decides};
+ghost use Rattle.ipg_solve.specs.declared.decision.Decision.TheVariants.{Refuted};
 ghost use Rattle.ipg_solve.specs.Differences.{is_one, is_minus_one, is_difference, are_differences, IsDifference, IsShort};
 
 use crate::decision::Decision;

@@ -1,4 +1,4 @@
-ghost use Rattle.std.specs.Prelude.{◌≡◌, ◌+◌, ◌^◌, ◌<◌, ◌≤◌, ◌-ℤ◌, ◌≤ℤ◌, length, IsTrue, IfOk};
+ghost use Rattle.std.specs.Prelude.{◌≡◌, ◌+◌, ◌^◌, ◌<◌, ◌≤◌, ◌∷◌, [], ◌-ℤ◌, ◌≤ℤ◌, length, IsTrue, IfOk};
 ghost use Rattle.ipg_lin.specs.Formula.{width};
 ghost use Rattle.ipg_walk.specs.Falls.{level_at};
 ghost use Rattle.ipg_solve.specs.Decides.{Decides};
@@ -14,14 +14,23 @@ use ipg_num::List;
 use ipg_walk::{Settled, settle};
 use std::alloc::{AllocError, Global};
 
-/// The level above the ground, which lies within the bounds.
-fn height(level: i128, ground: i128, bound: &(i64, i64)) -> i64
-    requires low { bound.now.0 ≤ℤ (level -ℤ ground) }
-    requires high { (level -ℤ ground) ≤ℤ bound.now.1 }
-    ensures { result ≡ level -ℤ ground }
+/// The difference, which lies within the bounds.
+fn difference(x: i128, y: i128, low: i64, high: i64) -> i64
+    requires low { low ≤ℤ (x -ℤ y) }
+    requires high { (x -ℤ y) ≤ℤ high }
+    ensures { result ≡ x -ℤ y }
 {
-    let _bound = *bound;
-    (level - ground) as i64
+    (x - y) as i64
+}
+
+/// The variable's level above the ground, which lies within the bounds.
+fn height(levels: &[i128], x: usize, low: i64, high: i64) -> i64
+    requires within { x + 1 < length levels.now }
+    requires low { low ≤ℤ (level_at levels.now (x + 1) -ℤ level_at levels.now 0) }
+    requires high { (level_at levels.now (x + 1) -ℤ level_at levels.now 0) ≤ℤ high }
+    ensures { result ≡ level_at levels.now (x + 1) -ℤ level_at levels.now 0 }
+{
+    difference(levels[x + 1], levels[0], low, high)
 }
 
 /// For each variable its level above the ground.
@@ -32,7 +41,7 @@ fn heights(alloc: Global, levels: &[i128], bounds: &[(i64, i64)]) -> Result<List
 {
     let mut values = List::new(alloc);
     for (x, bound) in bounds.iter().enumerate() {
-        values.push(height(levels[x + 1], levels[0], bound))?;
+        values.push(height(levels, x, bound.0, bound.1))?;
     }
     Ok(values)
 }
