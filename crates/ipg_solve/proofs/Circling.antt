@@ -1,5 +1,5 @@
 -- The facts of a circle that falls sum up to a constant above 0.
-use Rattle.std.proofs.Common.{◌≡◌, ℕ, ◌+◌, ◌^◌, ◌<◌, ◌≤◌, true, false, ◌&&◌, nat_le, ℤ, pos, ◌+ℤ◌, ◌*ℤ◌, List, [], ◌∷◌, map, length, refl, sym, ◌∙◌, ap, subst, arith}
+use Rattle.std.proofs.Common.{◌≡◌, ℕ, ◌^◌, ◌≤◌, true, false, ◌&&◌, nat_le, ℤ, pos, ◌+ℤ◌, ◌*ℤ◌, List, [], ◌∷◌, map, length, refl, sym, ◌∙◌, ap, arith}
 use Rattle.std.specs.Prelude.{Some, option_and_then, int_lt, ◌<ℤ◌}
 use Rattle.std.specs.List.{AllByRecursion}
 use Rattle.std.proofs.lemmas.Int.{ints}
@@ -16,7 +16,7 @@ use Rattle.ipg_walk.specs.Falls.{edge_at, LeadBack, fall_of, IsCircle}
 use Rattle.ipg_solve.specs.Edges.{edges_in, IsSized, entries_of}
 use Rattle.ipg_solve.proofs.Shapes.{unit, taken}
 use Rattle.ipg_solve.proofs.Narrow.{IsNarrow}
-use Rattle.ipg_solve.proofs.Graph.{IsFact, fact_at}
+use Rattle.ipg_solve.proofs.Graph.{fact_at}
 
 -- The facts of edges that lead back were added to a sum.
 record Summed (facts : List Fact) (node start : ℕ) (numbers : List ℕ) (sum : Form) : Type 0 where

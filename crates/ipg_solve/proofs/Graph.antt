@@ -1,5 +1,5 @@
 -- The facts at the root of a formula of differences as edges of a graph.
-use Rattle.std.proofs.Common.{◌≡◌, ℕ, zero, suc, ◌+◌, ◌^◌, ◌<◌, ◌≤◌, true, pos, negsuc, List, [], ◌∷◌, length, refl, sym, ◌∙◌, ap, subst, arith}
+use Rattle.std.proofs.Common.{◌≡◌, ℕ, zero, suc, ◌+◌, ◌^◌, ◌<◌, ◌≤◌, true, pos, negsuc, List, [], ◌∷◌, length, refl, sym, ap, subst, arith}
 use Rattle.std.specs.Prelude.{Some, slice_get}
 use Rattle.std.specs.Int.RustNames.{unsigned_abs}
 use Rattle.std.specs.List.{AllByRecursion}
@@ -9,7 +9,6 @@ use Rattle.ipg_lin.specs.declared.formula.Formula.{Formula}
 use Rattle.ipg_lin.specs.declared.formula.Boxed.{Boxed}
 use Rattle.ipg_cert.specs.Facts.{Fact, AtMost, Choice, facts_of, bound_facts}
 use Rattle.ipg_cert.specs.Checks.{root_facts}
-use Rattle.ipg_walk.specs.declared.edge.Edge.{Edge}
 use Rattle.ipg_walk.specs.Falls.{edge_at, IsEdge, AreEdges}
 use Rattle.ipg_solve.specs.Differences.{is_difference, are_differences}
 use Rattle.ipg_solve.specs.Edges.{edge_of, edges_in, IsSized}

@@ -1,5 +1,5 @@
 -- What the levels or the circle of the graph say of the formula.
-use Rattle.std.proofs.Common.{◌≡◌, ℕ, suc, ◌+◌, ◌^◌, ◌<◌, ◌≤◌, inl, inr, true, ◌&&◌, ℤ, pos, negsuc, neg_ℤ, ◌+ℤ◌, ◌-ℤ◌, List, [], ◌∷◌, ◌++◌, length, get_or, refl, sym, ◌∙◌, ap, subst, arith}
+use Rattle.std.proofs.Common.{◌≡◌, ℕ, suc, ◌+◌, ◌^◌, ◌<◌, inl, inr, true, ◌&&◌, ℤ, pos, negsuc, neg_ℤ, ◌+ℤ◌, ◌-ℤ◌, List, [], ◌∷◌, ◌++◌, length, get_or, refl, sym, ◌∙◌, ap, subst, arith}
 use Rattle.std.specs.Prelude.{Some, slice_get, int_le, ◌≤ℤ◌}
 use Rattle.std.specs.List.{AllByRecursion}
 use Rattle.std.proofs.lemmas.Int.{ints}
@@ -7,10 +7,10 @@ use Rattle.std.proofs.lemmas.Bool.{cases_lt}
 use Rattle.std.proofs.lemmas.List.{length_push, get_or_push, get_or_append_left}
 use Rattle.std.proofs.lemmas.Option.{slice_get-get_or, slice_get_within, unwrap_or-slice_get, get_or_from_slice_get}
 use Rattle.ipg_lin.specs.Form.{Form, Assignment, value_at}
-use Rattle.ipg_lin.specs.Formula.{width, assigned, LiesIn}
+use Rattle.ipg_lin.specs.Formula.{assigned}
 use Rattle.ipg_lin.specs.declared.formula.Formula.{Formula}
 use Rattle.ipg_lin.specs.declared.formula.Boxed.{Boxed}
-use Rattle.ipg_cert.specs.Facts.{Fact, AtMost, Choice, bound_facts, facts_of, at_least, at_most}
+use Rattle.ipg_cert.specs.Facts.{Fact, AtMost, Choice, bound_facts, facts_of}
 use Rattle.ipg_cert.specs.Checks.{root_facts, checks}
 use Rattle.ipg_cert.specs.declared.refutation.Refutation.{Refutation}
 use Rattle.ipg_cert.specs.declared.refutation.Step.TheVariants.{Combine}
@@ -20,9 +20,8 @@ use Rattle.ipg_walk.specs.declared.edge.Edge.{Edge}
 use Rattle.ipg_walk.specs.declared.settling.Settled.{Settled}
 use Rattle.ipg_walk.specs.declared.settling.Settled.TheVariants.{Levels, Circle}
 use Rattle.ipg_walk.specs.Falls.{level_at, Falls, AllFall, Settles}
-use Rattle.ipg_solve.specs.declared.span.Span.{Span}
 use Rattle.ipg_solve.specs.Decides.{Solves}
-use Rattle.ipg_solve.specs.Differences.{are_differences, is_difference}
+use Rattle.ipg_solve.specs.Differences.{are_differences}
 use Rattle.ipg_solve.specs.Edges.{edge_of, edges_in, entries_of, IsSized, AreBetween, AreHeights}
 use Rattle.ipg_solve.specs.Spans.{span_at}
 use Rattle.ipg_solve.specs.Cuts.{start_spans}

@@ -1,5 +1,4 @@
-use Rattle.std.proofs.Common.{◌≡◌, ℕ, ◌+◌, length, List, ap, sym, subst, ◌∙◌}
-use Rattle.ipg_walk.specs.declared.edge.Edge.{Edge}
+use Rattle.std.proofs.Common.{ℕ, ◌+◌, length, sym, subst, ◌∙◌}
 use Rattle.ipg_walk.specs.Falls.{AreEdges, Settles}
 use Rattle.ipg_cert.specs.Checks.{root_facts}
 use Rattle.ipg_solve.specs.Edges.{AreBetween, AreHeights}
