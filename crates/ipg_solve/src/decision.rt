@@ -9,7 +9,7 @@ ghost use Rattle.ipg_solve.specs.Crossed.{IsCrossed};
 
 use crate::candidate::checked;
 use crate::counting::counted;
-use crate::difference::{are_differences, short_enough};
+use crate::difference::{short_enough, wants_short};
 use crate::halving::halve;
 use crate::levels::decide_differences;
 use crate::seeking::seek;
@@ -57,7 +57,8 @@ fn crossing(alloc: Global, x: usize) -> Result<Refutation, AllocError>
 }
 
 /// A solution of the formula in the box, exactly where there is one, and otherwise a refutation that
-/// checks. It goes as deep as members stand in one another, so formulas that nest deeper than 4096 are
+/// checks. Where the formula is differences alone, `x - y + c <= 0`, `x + c <= 0`, `-x + c <= 0` or
+/// `c <= 0`, the refutation is one Combine of at most one fact more than there are variables. It goes as deep as members stand in one another, so formulas that nest deeper than 4096 are
 /// not asked.
 pub fn decide(alloc: Global, f: &Formula, b: &Boxed) -> Result<Decision, AllocError>
     requires valued { width f.now ≤ length b.now.bounds }
@@ -87,13 +88,13 @@ fn decided(alloc: Global, f: &Formula, b: &Boxed) -> Result<Decision, AllocError
 }
 
 /// Decides the formula with no search.
-pub fn surely(alloc: Global, f: &Formula, b: &Boxed) -> Result<Decision, AllocError>
+fn surely(alloc: Global, f: &Formula, b: &Boxed) -> Result<Decision, AllocError>
     requires valued { width f.now ≤ length b.now.bounds }
     requires full { AreFull (start_spans 0 b.now.bounds) }
     ensures decided { IfOk result (λ decision. Decides f.now b.now decision) }
     ensures short { IfOk result (λ decision. IsDifference f.now → length b.now.bounds < 2 ^ 21 → IsShort (length b.now.bounds) decision) }
 {
-    if b.bounds.len() < 1 << 21 && are_differences(f) {
+    if wants_short(f, b) {
         decide_differences(alloc, f, b)
     } else {
         halve(alloc, f, b)

@@ -1,4 +1,4 @@
-ghost use Rattle.std.specs.Prelude.{◌≡◌, ◌&&◌, ◌||◌, length, map, IsTrue, IfSome};
+ghost use Rattle.std.specs.Prelude.{◌≡◌, ◌^◌, ◌<◌, ◌≤◌, ◌&&◌, ◌||◌, false, length, map, IsTrue, IfSome};
 ghost use Rattle.std.specs.Ordering.{int_eq};
 ghost use Rattle.ipg_lin.specs.Formula.{every};
 ghost use Rattle.ipg_solve.specs.Decides.{Decides};
@@ -76,14 +76,22 @@ fn is_short(decision: &Decision, vars: usize) -> bool
     }
 }
 
-/// The decision that was found, but none that is too long for a formula of differences.
+/// Whether the formula speaks of differences alone, and of so few variables that one Combine refutes it.
+pub fn wants_short(f: &Formula, b: &Boxed) -> bool
+    ensures short { IsTrue result → IsDifference f.now × (length b.now.bounds < 2 ^ 21) }
+    ensures long { result ≡ false → IsDifference f.now → 2 ^ 21 ≤ length b.now.bounds }
+{
+    b.bounds.len() < 1 << 21 && are_differences(f)
+}
+
+/// The decision that was found, unless it has to be short and is long.
 pub fn short_enough(f: &Formula, b: &Boxed, found: Option<Decision>) -> Option<Decision>
     requires { IfSome found (Decides f.now b.now) }
     ensures decided { IfSome result (Decides f.now b.now) }
-    ensures short { IfSome result (λ decision. IsDifference f.now → IsShort (length b.now.bounds) decision) }
+    ensures short { IfSome result (λ decision. IsDifference f.now → length b.now.bounds < 2 ^ 21 → IsShort (length b.now.bounds) decision) }
 {
     let decision = found?;
-    if is_short(&decision, b.bounds.len()) || !are_differences(f) {
+    if is_short(&decision, b.bounds.len()) || !wants_short(f, b) {
         Some(decision)
     } else {
         None
