@@ -95,8 +95,8 @@ fn surely(alloc: Global, f: &Formula, b: &Boxed) -> Result<Decision, AllocError>
     ensures short { IfOk result (λ decision. IsDifference f.now → length b.now.bounds < 2 ^ 21 → IsShort (length b.now.bounds) decision) }
 {
     if wants_short(f, b) {
-        decide_differences(alloc, f, b)
-    } else {
-        halve(alloc, f, b)
+        return decide_differences(alloc, f, b);
     }
+    let halved = halve(alloc, f, b)?;
+    Ok(halved)
 }

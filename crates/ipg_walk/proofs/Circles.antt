@@ -7,7 +7,9 @@ use Rattle.std.proofs.lemmas.List.{length-map}
 use borrow.Author.Differences.{same_in}
 use Rattle.ipg_walk.specs.declared.edge.Edge.{Edge}
 use Rattle.ipg_walk.specs.declared.trail.Stop.{Stop}
-use Rattle.ipg_walk.specs.Falls.{level_at, edge_at, AreEdges, LeadBack, fall_of, IsCircle}
+use Rattle.ipg_walk.specs.declared.settling.Settled.{Settled}
+use Rattle.ipg_walk.specs.declared.settling.Settled.TheVariants.{Levels, Circle}
+use Rattle.ipg_walk.specs.Falls.{level_at, edge_at, AreEdges, LeadBack, AllFall, fall_of, IsCircle, IsExact, Settles}
 use Rattle.ipg_walk.specs.Trails.{IsTrail, IsAbove, IsWrong, LeadsTo, State, stop_at, trail_at, edges_of, is_wrong}
 use Rattle.ipg_walk.proofs.Levels.{trail_short}
 
@@ -63,3 +65,14 @@ circle_found edges levels trails n seen lent place circle state joined wrong sam
       subst (IsCircle edges) (sym made) (closes edges levels n trail place wrong leads here.0 here.1),
       omega (arith, ap length made, length-map (take place trail) (λ (s : Stop). s.edge), length-take place trail, trail_short edges levels (edge_at edges n).from trail leads, here.0),
     )
+
+-- levels that fall along each edge fall as far as a way back does
+back_falls : (edges : List Edge) (levels : List ℤ) → AllFall levels edges → (node : ℕ) (ns : List ℕ) (start : ℕ) → LeadBack edges node ns start → (level_at levels node +ℤ fall_of edges ns) ≤ℤ level_at levels start
+back_falls edges levels falls node [] start back = omega (arith, ints, ap (level_at levels) back)
+back_falls edges levels falls node (n ∷ ns) start back =
+    omega (arith, ints, falls n back.0, ap (level_at levels) back.1, back_falls edges levels falls (edge_at edges n).from ns start back.2)
+
+pub is_exact : (nodes : ℕ) (edges : List Edge) (settled : Settled) → Settles nodes edges settled → IsExact edges settled
+is_exact nodes edges (Levels levels) settles = (λ _. (levels, settles.1), λ _. refl)
+is_exact nodes edges (Circle circle) settles =
+    (λ h. absurd (cc), λ fall. absurd (omega (arith, ints, settles.0.2, back_falls edges fall.0 fall.1 settles.0.0 circle settles.0.0 settles.0.1)))

@@ -1,5 +1,5 @@
 -- Levels that fall along the edges of a graph, and circles of edges that fall.
-use Rattle.std.specs.Prelude.{◌≡◌, ℕ, ◌^◌, ◌<◌, ◌≤◌, ℤ, pos, ◌+ℤ◌, ◌≤ℤ◌, ◌<ℤ◌, List, [], ◌∷◌, length, slice_index_or}
+use Rattle.std.specs.Prelude.{◌≡◌, ◌↔◌, ℕ, ◌^◌, ◌<◌, ◌≤◌, Bool, true, false, IsTrue, ℤ, pos, ◌+ℤ◌, ◌≤ℤ◌, ◌<ℤ◌, List, [], ◌∷◌, length, slice_index_or}
 use Rattle.std.specs.Int.RustNames.{unsigned_abs}
 use Rattle.ipg_walk.specs.declared.edge.Edge.{Edge}
 use Rattle.ipg_walk.specs.declared.settling.Settled.{Settled}
@@ -46,3 +46,11 @@ IsCircle edges circle = (node : ℕ) × LeadBack edges node circle node × (pos 
 abbrev pub Settles : ℕ → List Edge → Settled → Type 0
 Settles nodes edges (Levels levels) = (length levels ≡ nodes) × AllFall levels edges
 Settles nodes edges (Circle circle) = IsCircle edges circle × (length circle ≤ nodes)
+
+abbrev pub is_levels : Settled → Bool
+is_levels (Levels levels) = true
+is_levels (Circle circle) = false
+
+-- levels are given exactly where some fall along each edge
+abbrev pub IsExact : List Edge → Settled → Type 0
+IsExact edges settled = IsTrue (is_levels settled) ↔ ((levels : List ℤ) × AllFall levels edges)

@@ -1,5 +1,5 @@
 ghost use Rattle.std.specs.Prelude.{◌≡◌, ℕ, pos, ◌^◌, ◌<◌, ◌≤◌, length, IfOk};
-ghost use Rattle.ipg_walk.specs.Falls.{AreEdges, Settles};
+ghost use Rattle.ipg_walk.specs.Falls.{AreEdges, Settles, IsExact};
 ghost use Rattle.ipg_walk.specs.Trails.{IsWrong, State, Lowers};
 
 use crate::edge::Edge;
@@ -43,10 +43,7 @@ fn lower(
     Ok(None)
 }
 
-/// Levels that fall along each edge as far as it says, or a circle of at most as many edges as nodes
-/// whose falls sum up to more than 0, so that there are no such levels. Each edge joins two of the
-/// `nodes` nodes, of which there are at most 2^22, and no fall is above 2^64 in size.
-pub fn settle(alloc: Global, nodes: usize, edges: &[Edge]) -> Result<Settled, AllocError>
+fn levels_or_circle(alloc: Global, nodes: usize, edges: &[Edge]) -> Result<Settled, AllocError>
     requires edges { AreEdges nodes edges.now }
     requires few { nodes ≤ 2 ^ 22 }
     ensures { IfOk result (λ settled. Settles nodes edges.now settled) }
@@ -61,4 +58,17 @@ pub fn settle(alloc: Global, nodes: usize, edges: &[Edge]) -> Result<Settled, Al
         from = n;
     }
     Ok(Settled::Levels(List::from_vec(levels)))
+}
+
+/// Levels that fall along each edge as far as it says, or a circle of at most as many edges as nodes
+/// whose falls sum up to more than 0, so that there are no such levels. Each edge joins two of the
+/// `nodes` nodes, of which there are at most 2^22, and no fall is above 2^64 in size.
+pub fn settle(alloc: Global, nodes: usize, edges: &[Edge]) -> Result<Settled, AllocError>
+    requires edges { AreEdges nodes edges.now }
+    requires few { nodes ≤ 2 ^ 22 }
+    ensures settled { IfOk result (λ settled. Settles nodes edges.now settled) }
+    ensures exact { IfOk result (λ settled. IsExact edges.now settled) }
+{
+    let settled = levels_or_circle(alloc, nodes, edges)?;
+    Ok(settled)
 }

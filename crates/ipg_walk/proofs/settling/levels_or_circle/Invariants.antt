@@ -1,6 +1,6 @@
 use Rattle.std.proofs.Common.{◌≡◌, ◌*◌, ◌^◌, ◌≤◌, length}
 use Rattle.ipg_walk.specs.Trails.{State, room}
-use Rattle.ipg_walk.proofs.settling.settle.Given as goal
+use Rattle.ipg_walk.proofs.settling.levels_or_circle.Given as goal
 
 abbrev pub invariant-loop-n : goal.invariant-loop-n
 invariant-loop-n l = record {
