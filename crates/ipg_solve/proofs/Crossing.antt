@@ -18,6 +18,7 @@ use Rattle.ipg_solve.specs.declared.decision.Decision.{Decision}
 use Rattle.ipg_solve.specs.declared.decision.Decision.TheVariants.{Solution, Refuted}
 use Rattle.ipg_solve.specs.declared.span.Span.{Span}
 use Rattle.ipg_solve.specs.Decides.{Decides, IsExact}
+use Rattle.ipg_solve.specs.Differences.{IsShort}
 use Rattle.ipg_solve.specs.Crossed.{IsCrossed}
 use Rattle.ipg_solve.specs.Spans.{span_at, least_of, AreFull}
 use Rattle.ipg_solve.specs.Cuts.{start_spans}
@@ -59,6 +60,9 @@ crossed_combines f box x c =
 
 pub crossed_checks : (f : Formula) (box : Boxed) (x : ℕ) (r : Refutation) → IsCrossed box.bounds x → r ≡ record { steps = Combine ((1, x + x) ∷ (1, x + x + 1) ∷ []) ∷ [] } → checks f box r ≡ true
 crossed_checks f box x r c is = ap (checks f box) is ∙ ap (λ b. b && true) (crossed_combines f box x c)
+
+pub crossed_short : (bounds : List (ℤ × ℤ)) (x : ℕ) (r : Refutation) → IsCrossed bounds x → r ≡ record { steps = Combine ((1, x + x) ∷ (1, x + x + 1) ∷ []) ∷ [] } → IsShort (length bounds) (Refuted r)
+crossed_short bounds x r c is = ((1, x + x) ∷ (1, x + x + 1) ∷ [], ap (λ (s : Refutation). s.steps) is, omega (arith, slice_get_within bounds x (c.0, c.1) c.2))
 
 pub is_exact : (f : Formula) (box : Boxed) (decision : Decision) → Decides f box decision → IsExact f box decision
 is_exact f box (Solution values) d = (λ _. (assigned values, d.1, d.2), λ _. refl)

@@ -1,5 +1,5 @@
 -- The greatest of a list with one formula more.
-use Rattle.std.proofs.Common.{◌≡◌, ℕ, ◌≤◌, max, List, [], ◌∷◌, ◌++◌, map, arith}
+use Rattle.std.proofs.Common.{ℕ, ◌≤◌, List, [], ◌∷◌, ◌++◌, map, arith}
 use Rattle.ipg_lin.specs.Formula.{greatest}
 use Rattle.ipg_lin.specs.declared.formula.Formula.{Formula}
 

@@ -1,8 +1,10 @@
 -- What the public contract rests on.
 pub mod Decides
+pub mod Differences
 -- What functions inside the crate promise each other.
 pub mod Spans
 pub mod Closes
 pub mod Cuts
 pub mod Crossed
 pub mod Within
+pub mod Edges

@@ -1,14 +1,17 @@
-ghost use Rattle.std.specs.Prelude.{◌≡◌, ◌+◌, ◌≤◌, [], ◌∷◌, length, int_lt, MatchOption, IfOk};
+ghost use Rattle.std.specs.Prelude.{◌≡◌, ◌+◌, ◌^◌, ◌<◌, ◌≤◌, [], ◌∷◌, length, int_lt, MatchOption, IfOk};
 ghost use Rattle.ipg_lin.specs.Formula.{width, depth};
 ghost use Rattle.ipg_cert.specs.declared.refutation.Step.TheVariants.{Combine};
 ghost use Rattle.ipg_solve.specs.Decides.{Decides, IsExact};
+ghost use Rattle.ipg_solve.specs.Differences.{IsDifference, IsShort};
 ghost use Rattle.ipg_solve.specs.Spans.{AreFull};
 ghost use Rattle.ipg_solve.specs.Cuts.{start_spans};
 ghost use Rattle.ipg_solve.specs.Crossed.{IsCrossed};
 
 use crate::candidate::checked;
 use crate::counting::counted;
+use crate::difference::{short_enough, wants_short};
 use crate::halving::halve;
+use crate::levels::decide_differences;
 use crate::seeking::seek;
 use ipg_cert::{Refutation, Step};
 use ipg_lin::{Boxed, Formula};
@@ -54,13 +57,15 @@ fn crossing(alloc: Global, x: usize) -> Result<Refutation, AllocError>
 }
 
 /// A solution of the formula in the box, exactly where there is one, and otherwise a refutation that
-/// checks. It goes as deep as members stand in one another, so formulas that nest deeper than 4096 are
+/// checks. Where the formula is differences alone, `x - y + c <= 0`, `x + c <= 0`, `-x + c <= 0` or
+/// `c <= 0`, the refutation is one Combine of at most one fact more than there are variables. It goes as deep as members stand in one another, so formulas that nest deeper than 4096 are
 /// not asked.
 pub fn decide(alloc: Global, f: &Formula, b: &Boxed) -> Result<Decision, AllocError>
     requires valued { width f.now ≤ length b.now.bounds }
     requires shallow { depth f.now ≤ 4096 }
     ensures decided { IfOk result (λ decision. Decides f.now b.now decision) }
     ensures exact { IfOk result (λ decision. IsExact f.now b.now decision) }
+    ensures short { IfOk result (λ decision. IsDifference f.now → length b.now.bounds < 2 ^ 21 → IsShort (length b.now.bounds) decision) }
 {
     let decision = decided(alloc, f, b)?;
     Ok(decision)
@@ -69,13 +74,29 @@ pub fn decide(alloc: Global, f: &Formula, b: &Boxed) -> Result<Decision, AllocEr
 fn decided(alloc: Global, f: &Formula, b: &Boxed) -> Result<Decision, AllocError>
     requires valued { width f.now ≤ length b.now.bounds }
     requires shallow { depth f.now ≤ 4096 }
-    ensures { IfOk result (λ decision. Decides f.now b.now decision) }
+    ensures decided { IfOk result (λ decision. Decides f.now b.now decision) }
+    ensures short { IfOk result (λ decision. IsDifference f.now → length b.now.bounds < 2 ^ 21 → IsShort (length b.now.bounds) decision) }
 {
     if let Some(x) = crossed(b.bounds.as_slice()) {
         return Ok(Decision::Refuted(crossing(alloc, x)?));
     }
-    if let Some(decision) = checked(alloc, f, b, seek(alloc, f, b)?)? {
+    let found = checked(alloc, f, b, seek(alloc, f, b)?)?;
+    if let Some(decision) = short_enough(f, b, found) {
         return Ok(decision);
     }
-    halve(alloc, f, b)
+    surely(alloc, f, b)
+}
+
+/// Decides the formula with no search.
+fn surely(alloc: Global, f: &Formula, b: &Boxed) -> Result<Decision, AllocError>
+    requires valued { width f.now ≤ length b.now.bounds }
+    requires full { AreFull (start_spans 0 b.now.bounds) }
+    ensures decided { IfOk result (λ decision. Decides f.now b.now decision) }
+    ensures short { IfOk result (λ decision. IsDifference f.now → length b.now.bounds < 2 ^ 21 → IsShort (length b.now.bounds) decision) }
+{
+    if wants_short(f, b) {
+        return decide_differences(alloc, f, b);
+    }
+    let halved = halve(alloc, f, b)?;
+    Ok(halved)
 }

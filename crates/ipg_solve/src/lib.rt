@@ -6,11 +6,14 @@ mod closing;
 mod counting;
 mod cut;
 mod decision;
+mod difference;
+mod edges;
 mod eliminate;
 mod explain;
 mod halving;
 mod known;
 mod least;
+mod levels;
 mod marks;
 mod seeking;
 #[cfg(test)]

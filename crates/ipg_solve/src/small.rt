@@ -5,6 +5,8 @@ ghost use Rattle.ipg_lin.specs.Form.{terms_width};
 ghost use Rattle.ipg_lin.specs.Formula.{width, depth};
 
 use super::*;
+use crate::difference::wants_short;
+use crate::levels::decide_differences;
 use ipg_cert::{Refutation, Step, check};
 use ipg_lin::{Boxed, Formula, Linear, holds};
 use ipg_num::List;
@@ -195,6 +197,35 @@ fn differences_are_refuted_by_one_short_combine(rt: HostRuntime) -> Result<(), F
             Decision::Solution(_) => assert!(rt; is_solvable(&f, &bounds)),
             Decision::Refuted(r) => assert!(rt; is_short(&r, 4) && check(alloc, &f, &b, &r)?),
         }
+    }
+    Ok(())
+}
+
+/// Whether the levels alone decide the formula of differences, rightly and shortly.
+fn is_right_by_levels(alloc: Global, f: &Formula, bounds: &[(i64, i64); 4]) -> Result<bool, Fail>
+    requires width { width f.now ≤ 4 }
+    requires depth { depth f.now ≤ 4096 }
+{
+    let b = Boxed {
+        bounds: List::from_vec(Vec::from_slice(alloc, bounds)?),
+    };
+    if !wants_short(f, &b) {
+        return Ok(false);
+    }
+    match decide_differences(alloc, f, &b)? {
+        Decision::Solution(_) => Ok(is_solvable(f, bounds)),
+        Decision::Refuted(r) => Ok(is_short(&r, 4) && check(alloc, f, &b, &r)?),
+    }
+}
+
+#[test]
+fn levels_decide_differences(rt: HostRuntime) -> Result<(), Fail> {
+    let alloc = rt.alloc();
+    let mut state = 5;
+    for _ in 0..1000 {
+        let f = differences(alloc, &mut state)?;
+        let bounds = bounds(&mut state);
+        assert!(rt; is_right_by_levels(alloc, &f, &bounds)?);
     }
     Ok(())
 }

@@ -2,6 +2,7 @@ ghost use Rattle.std.specs.Prelude.{◌≡◌, ◌+◌, ◌<◌, ◌≤◌, max,
 ghost use Rattle.ipg_lin.specs.Formula.{width, depth};
 
 use super::*;
+use crate::difference::are_differences;
 use ipg_cert::{Refutation, Step, check, refutation_text};
 use ipg_lin::{Boxed, Formula, Linear};
 use ipg_num::List;
@@ -220,5 +221,68 @@ fn a_round_of_differences_is_one_combine(rt: HostRuntime) -> Result<(), Fail> {
     let r = refutation(decide(alloc, &f, &b)?)?;
     assert!(rt; check(alloc, &f, &b, &r)?);
     assert!(rt; facts_of_one(&r)? <= 4);
+    Ok(())
+}
+
+fn constant(alloc: Global, constant: i64) -> Result<Formula, Fail>
+    ensures width { IfOk result (λ f. width f ≡ 0) }
+    ensures depth { IfOk result (λ f. depth f ≡ 0) }
+{
+    Ok(Formula::Atom(Linear::new(alloc, &[], constant)?))
+}
+
+#[test]
+fn a_formula_of_differences_takes_one_variable_from_another(rt: HostRuntime) -> Result<(), Fail> {
+    let alloc = rt.alloc();
+    assert!(rt; are_differences(&constant(alloc, 3)?));
+    assert!(rt; are_differences(&one(alloc, 1, -3)?));
+    assert!(rt; are_differences(&one(alloc, -1, MOST)?));
+    assert!(rt; are_differences(&two(alloc, 1, -1, 2)?));
+    assert!(rt; are_differences(&two(alloc, -1, 1, 0)?));
+    assert!(rt; !are_differences(&one(alloc, 2, 0)?));
+    assert!(rt; !are_differences(&two(alloc, 1, 1, 0)?));
+    assert!(rt; !are_differences(&two(alloc, -1, -1, 0)?));
+    assert!(rt; !are_differences(&two(alloc, 2, -2, 0)?));
+    assert!(rt; !are_differences(&three(alloc, 1, 0)?));
+    Ok(())
+}
+
+#[test]
+fn formulas_of_differences_are_alls(rt: HostRuntime) -> Result<(), Fail> {
+    let alloc = rt.alloc();
+    assert!(rt; are_differences(&empty_all(alloc)));
+    assert!(rt; !are_differences(&empty_any(alloc)));
+    let inner = both(alloc, one(alloc, 1, 0)?, empty_all(alloc))?;
+    assert!(rt; are_differences(&both(alloc, inner, two(alloc, 1, -1, 0)?)?));
+    assert!(rt; !are_differences(&both(alloc, one(alloc, 1, 0)?, one(alloc, 3, 0)?)?));
+    assert!(rt; !are_differences(&either(alloc, one(alloc, 1, 0)?, one(alloc, 1, 1)?)?));
+    Ok(())
+}
+
+#[test]
+fn a_bare_atom_is_decided(rt: HostRuntime) -> Result<(), Fail> {
+    let alloc = rt.alloc();
+    let b = box_of(alloc, &[(0, 10)])?;
+    let values = solution(decide(alloc, &one(alloc, -1, 10)?, &b)?)?;
+    assert!(rt; values.as_slice() == [10].as_slice());
+    assert!(rt; words(alloc, &one(alloc, -1, 11)?, &b)?.as_slice() == b"c 2 1 2 1 1".as_slice());
+    assert!(rt; words(alloc, &constant(alloc, 1)?, &b)?.as_slice() == b"c 1 1 2".as_slice());
+    Ok(())
+}
+
+#[test]
+fn the_largest_coefficients_are_decided(rt: HostRuntime) -> Result<(), Fail> {
+    let alloc = rt.alloc();
+    let large = 1 << 40;
+    let b = box_of(alloc, &[(LEAST, MOST), (LEAST, MOST)])?;
+    let apart = both(alloc, two(alloc, large, -large, 1)?, two(alloc, -1, 1, 0)?)?;
+    assert!(rt; words(alloc, &apart, &b)?.as_slice() == b"c 2 1 4 1099511627776 5".as_slice());
+    let met = both(
+        alloc,
+        one(alloc, large, -(1 << 60))?,
+        one(alloc, -large, 1 << 60)?,
+    )?;
+    let values = solution(decide(alloc, &met, &b)?)?;
+    assert!(rt; values.as_slice() == [1 << 20, LEAST].as_slice());
     Ok(())
 }
