@@ -5,3 +5,5 @@ pub mod Lexemes
 pub mod Leads
 pub mod Stacks
 pub mod Counted
+pub mod BuiltStacks
+pub mod Built

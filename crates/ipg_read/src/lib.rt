@@ -1,6 +1,7 @@
 //! Whether a text is a grammar, and else its first fault.
 #![tactic(auto)]
 
+mod build;
 mod count;
 mod fault;
 mod lead;
