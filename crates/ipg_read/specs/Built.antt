@@ -27,8 +27,8 @@ use Rattle.ipg_read.specs.declared.build.place.Site.{Site}
 use Rattle.ipg_read.specs.declared.build.place.Site.TheVariants.{Global, Local}
 use Rattle.ipg_read.specs.declared.build.place.Pos.{Pos}
 use Rattle.ipg_read.specs.declared.build.place.Pos.TheVariants.{Start, Between, RuleNamed, LocalNamed, BeforeTerm, InTerm, AfterTerm, WhereNamed, BeforeLocal, AfterLocal, AfterWhere}
-use Rattle.ipg_read.specs.declared.build.verdict.Verdict.{Verdict}
-use Rattle.ipg_read.specs.declared.build.verdict.Verdict.TheVariants.{Grammar, Stuck}
+use Rattle.ipg_read.specs.declared.build.verdict.Outcome.{Outcome}
+use Rattle.ipg_read.specs.declared.build.verdict.Outcome.TheVariants.{Grammar, Stuck}
 
 abbrev pub MFrames : Type 0
 MFrames = List (M.Frame made)
@@ -104,10 +104,10 @@ turn_of (Done t) = M.done tt t
 turn_of (Passed t) = M.passed tt t
 
 -- what a token within an expression, or after it, makes of the term around it
-abbrev pub next_of : ℕ → ℕ → MBase → Tok → Next → Option (M.Turn made)
-next_of at first base t (N.Within inner) = Some (M.still tt (M.expr base first (inner_of inner)))
-next_of at first base t (N.Whole e) = M.ended made at tt base e t
-next_of at first base t N.Stuck = None
+abbrev pub next_of : ℕ → MBase → ℕ → Tok → Next → Option (M.Turn made)
+next_of at base first t (N.Within inner) = Some (M.still tt (M.expr base first (inner_of inner)))
+next_of at base first t (N.Whole e) = M.ended made at tt base e t
+next_of at base first t N.Stuck = None
 
 abbrev pub head_of : Head → M.Head made
 head_of h = record { rules = h.rules; name = ident_of h.name; alts = h.alts }
@@ -136,6 +136,6 @@ IsOutsideTerm p = Unit {0}
 abbrev pub state_of : Pos → M.State made
 state_of p = record { log = tt; pos = pos_of p }
 
-abbrev pub verdict_of : Verdict → Result (M.Read made) ℕ
-verdict_of (Grammar rs) = Ok (record { log = tt; rules = rs })
-verdict_of (Stuck n) = Err n
+abbrev pub outcome_of : Outcome → Result (M.Read made) ℕ
+outcome_of (Grammar rs) = Ok (record { log = tt; rules = rs })
+outcome_of (Stuck n) = Err n

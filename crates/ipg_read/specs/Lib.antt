@@ -1,5 +1,3 @@
--- What the public contract rests on.
-pub mod Fault
 -- What functions inside the crate promise each other.
 pub mod Lexemes
 pub mod Leads

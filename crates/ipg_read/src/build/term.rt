@@ -53,7 +53,7 @@ fn after_expr<'a>(
     token: Lexeme<'a>,
 ) -> Result<Option<Turn<'a>>, AllocError>
     requires { at + 1 < 2 ^ 64 }
-    ensures { IfOk result (λ turn. option_map turn_of turn ≡ next_of at first (base_of base.entry) (tok_of token.entry) next.entry) }
+    ensures { IfOk result (λ turn. option_map turn_of turn ≡ next_of at (base_of base.entry) first (tok_of token.entry) next.entry) }
 {
     match next {
         Next::Within(inner) => Ok(Some(Turn::Still(Part::Expr(base, first, inner)))),
