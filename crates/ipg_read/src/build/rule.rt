@@ -1,8 +1,7 @@
 ghost use Rattle.std.specs.Prelude.{◌≡◌, ℕ, ◌+◌, ◌<◌, ◌^◌, IfOk, option_map};
 ghost use Rattle.ipg_syntax.specs.Machine as M;
 ghost use Rattle.ipg_syntax.specs.Making.{made};
-ghost use Rattle.ipg_read.specs.Lexemes.{tok_of, ident_of, infix_of};
-ghost use Rattle.ipg_syntax.specs.Classes.{sign};
+ghost use Rattle.ipg_read.specs.Lexemes.{tok_of, ident_of};
 ghost use Rattle.ipg_read.specs.Built.{IsOutsideTerm, part_of, turn_of, pos_of, site_of, head_of, state_of};
 
 use crate::build::node::{with_alt, with_rule, with_term};
@@ -38,7 +37,7 @@ fn plain_step<'a>(
     pos: Pos<'a>,
     token: Lexeme<'a>,
 ) -> Result<Option<Pos<'a>>, AllocError>
-    requires { IsOutsideTerm pos.entry }
+    requires { IsOutsideTerm pos }
     ensures { IfOk result (λ next. (at : ℕ) → option_map state_of next ≡ M.move made at tt (pos_of pos.entry) (tok_of token.entry)) }
 {
     match pos {
@@ -205,7 +204,7 @@ fn after_sign<'a>(
     terms: List<Term>,
     sign: Infix,
 ) -> Result<Option<Pos<'a>>, AllocError>
-    ensures { IfOk result (λ next. (at : ℕ) → option_map state_of next ≡ M.after_term_move made at tt (site_of site.entry) terms (sign (infix_of sign))) }
+    ensures { IfOk result (λ next. (at : ℕ) → option_map state_of next ≡ M.after_term_move made at tt (site_of site.entry) terms (tok_of (Lexeme.Sign sign))) }
 {
     match sign {
         Infix::Op(Op2::Div) => Ok(Some(Pos::BeforeTerm(next_alt(alloc, site, terms)?))),

@@ -70,7 +70,7 @@ fn plain_move<'a>(
     token: Lexeme<'a>,
 ) -> Result<Option<Turn<'a>>, AllocError>
     requires within { at + 1 < 2 ^ 64 }
-    requires outside { IsOutside part.entry }
+    requires outside { IsOutside part }
     ensures { IfOk result (λ turn. option_map turn_of turn ≡ M.part_move made at tt (part_of part.entry) (tok_of token.entry)) }
 {
     match part {
