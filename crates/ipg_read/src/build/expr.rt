@@ -42,10 +42,7 @@ fn within<'a>(inner: Option<Inner<'a>>) -> Next<'a>
     }
 }
 
-fn want_move<'a>(
-    mut frames: Frames<'a>,
-    token: Lexeme<'a>,
-) -> Result<Option<Inner<'a>>, AllocError>
+fn want_move<'a>(mut frames: Frames<'a>, token: Lexeme<'a>) -> Result<Option<Inner<'a>>, AllocError>
     ensures { IfOk result (λ next. option_map inner_of next ≡ M.want_move made (frames_of frames.entry) (tok_of token.entry)) }
 {
     match token {

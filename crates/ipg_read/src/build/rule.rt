@@ -212,11 +212,7 @@ fn after_sign<'a>(
     }
 }
 
-fn next_alt<'a>(
-    alloc: Global,
-    site: Site<'a>,
-    terms: List<Term>,
-) -> Result<Site<'a>, AllocError>
+fn next_alt<'a>(alloc: Global, site: Site<'a>, terms: List<Term>) -> Result<Site<'a>, AllocError>
     ensures { IfOk result (λ next. site_of next ≡ M.next_alt made (site_of site.entry) terms) }
 {
     let locals = List::new(alloc);
@@ -229,11 +225,7 @@ fn next_alt<'a>(
     }
 }
 
-fn end_rule<'a>(
-    alloc: Global,
-    site: Site<'a>,
-    terms: List<Term>,
-) -> Result<Pos<'a>, AllocError>
+fn end_rule<'a>(alloc: Global, site: Site<'a>, terms: List<Term>) -> Result<Pos<'a>, AllocError>
     ensures { IfOk result (λ pos. pos_of pos ≡ M.end_rule made (site_of site.entry) terms) }
 {
     let locals = List::new(alloc);

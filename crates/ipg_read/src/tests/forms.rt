@@ -20,7 +20,10 @@ fn slots(rt: HostRuntime) -> Result<(), Fail> {
     assert_eq!(rt; text.as_slice(), b"S -> \"ab\" [ 0 , 2 ] ;\n".as_slice());
     let text = canonical(alloc, b"S -> \"\"[0,0] ;")?;
     assert_eq!(rt; text.as_slice(), b"S -> \"\" [ 0 , 0 ] ;\n".as_slice());
-    let text = canonical(alloc, b"S -> A B[2] \"c\"[1,EOI] / D ; # end\nA->\"\\x61\" ;")?;
+    let text = canonical(
+        alloc,
+        b"S -> A B[2] \"c\"[1,EOI] / D ; # end\nA->\"\\x61\" ;",
+    )?;
     assert_eq!(rt;
         text.as_slice(),
         b"S -> A B [ 2 ] \"c\" [ 1 , EOI ] / D ;\nA -> \"a\" ;\n".as_slice()
@@ -42,8 +45,7 @@ fn terms(rt: HostRuntime) -> Result<(), Fail> {
     )?;
     assert_eq!(rt;
         text.as_slice(),
-        b"S -> switch { case ( a == 1 ) A [ 0 , 1 ] case ( - a < 2 ) \"x\" else B [ 3 ] } C ;\n"
-            .as_slice()
+        b"S -> switch { case ( a == 1 ) A [ 0 , 1 ] case ( - a < 2 ) \"x\" else B [ 3 ] } C ;\n".as_slice()
     );
     Ok(())
 }
@@ -68,8 +70,7 @@ fn expressions(rt: HostRuntime) -> Result<(), Fail> {
     let text = canonical(alloc, b"S->{x=(A(i+1).end-A.start)*!b?EOI:A(0).v||-1&&c};")?;
     assert_eq!(rt;
         text.as_slice(),
-        b"S -> { x = ( A ( i + 1 ) . end - A . start ) * ! b ? EOI : A ( 0 ) . v || - 1 && c } ;\n"
-            .as_slice()
+        b"S -> { x = ( A ( i + 1 ) . end - A . start ) * ! b ? EOI : A ( 0 ) . v || - 1 && c } ;\n".as_slice()
     );
     Ok(())
 }

@@ -127,7 +127,10 @@ fn a_choice_binds_loosest_and_its_last_part_takes_the_rest(rt: HostRuntime) -> R
         let behind = read_parts(alloc, &[b"a", b"?", b"b", b":", b"c", *operator, b"d"])?;
         assert!(rt; behind == (Shape::Name, Shape::Pair));
     }
-    let nested = read_parts(alloc, &[b"a", b"?", b"b", b":", b"c", b"?", b"d", b":", b"e"])?;
+    let nested = read_parts(
+        alloc,
+        &[b"a", b"?", b"b", b":", b"c", b"?", b"d", b":", b"e"],
+    )?;
     assert!(rt; nested == (Shape::Name, Shape::Choice));
     Ok(())
 }
