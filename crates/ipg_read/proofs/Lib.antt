@@ -1,4 +1,5 @@
 pub mod Stacked
 pub mod Rests
 pub mod Places
-pub mod Faultless
+pub mod BuiltStacked
+pub mod Endings

@@ -7,7 +7,7 @@ use Rattle.ipg_syntax.specs.Machine as M
 use Rattle.ipg_syntax.specs.Machine.{Acts}
 use Rattle.ipg_read.specs.Lexemes.{tok_of}
 use Rattle.ipg_read.specs.declared.lexeme.Lexeme.{Lexeme}
-use Rattle.ipg_read.specs.declared.lexeme.Lexeme.TheVariants.{Sign, Question, Dot, Semicolon, LeftParen, LeftBracket, LeftBrace, For, Switch, Where}
+use Rattle.ipg_read.specs.declared.lexeme.Lexeme.TheVariants.{Name, Sign, Question, Dot, Semicolon, LeftParen, LeftBracket, LeftBrace, For, Switch, Where}
 use Rattle.ipg_read.specs.declared.lexeme.Infix.{Infix}
 
 pub opening_rest : (A : Acts) (t : Lexeme) → ((x : Span) → t ≡ Question x → ⊥) → (t ≡ LeftBrace → ⊥) → (t ≡ For → ⊥) → ((x : Span) → t ≡ Switch x → ⊥) → M.opening A (tok_of t) ≡ M.slot_opening A M.alone (tok_of t)
@@ -36,3 +36,8 @@ after_rest A at log site ts (Sign x) s e w = absurd (s x refl)
 after_rest A at log site ts Semicolon s e w = absurd (e refl)
 after_rest A at log site ts Where s e w = absurd (w refl)
 after_rest A at log site ts t s e w = refl
+
+-- before the first rule the same tokens may come as behind a rule
+pub start_move : (A : Acts) (at : ℕ) (log : A.Log) (t : Lexeme) → M.move A at log (M.between A.no_rules) (tok_of t) ≡ M.move A at log M.start (tok_of t)
+start_move A at log (Name l) = refl
+start_move A at log t = refl

@@ -1,12 +1,14 @@
-//! Whether a text is a grammar, and else its first fault.
+//! Reads a text as a grammar, or finds its first fault.
 #![tactic(auto)]
 
+mod build;
 mod count;
-mod fault;
 mod lead;
 mod lexeme;
+mod reading;
 #[cfg(test)]
 mod tests;
 
-pub use fault::fault_of;
+pub use ipg_ast::Grammar;
 pub use ipg_tokens::{ReadFault, Token, TokenKind, Which, tokens};
+pub use reading::read;

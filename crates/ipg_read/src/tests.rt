@@ -1,17 +1,20 @@
+mod forms;
+mod operators;
+
 use super::*;
 use std::alloc::{AllocError, Global};
 use std::test::Fail;
 
 /// The letter of the fault's kind and its place, or `=`.
 fn answer(alloc: Global, text: &[u8]) -> (u8, u32) {
-    match fault_of(alloc, text) {
-        Ok(None) => (b'=', 0),
-        Ok(Some(ReadFault::TooLong)) => (b'T', 0),
-        Ok(Some(ReadFault::Lex { at })) => (b'L', at),
-        Ok(Some(ReadFault::Number { at })) => (b'N', at),
-        Ok(Some(ReadFault::Syntax { at })) => (b'S', at),
-        Ok(Some(ReadFault::Limit { which, at })) => (limit(which), at),
-        _ => (b'M', 0),
+    match read(alloc, text) {
+        Ok(_) => (b'=', 0),
+        Err(ReadFault::TooLong) => (b'T', 0),
+        Err(ReadFault::Lex { at }) => (b'L', at),
+        Err(ReadFault::Number { at }) => (b'N', at),
+        Err(ReadFault::Syntax { at }) => (b'S', at),
+        Err(ReadFault::Limit { which, at }) => (limit(which), at),
+        Err(ReadFault::Memory) => (b'M', 0),
     }
 }
 

@@ -1,5 +1,5 @@
 use Rattle.ipg_read.proofs.Places.{place_here, place_past}
-use Rattle.ipg_read.proofs.fault.place_at.Goals as goal
+use Rattle.ipg_read.proofs.reading.place_at.Goals as goal
 
 pub returns-then-n-found : goal.returns-then-n-found
 returns-then-n-found c = place_here c.args.text.now c.args.found.now c.args.n c.index-found-n.result c.if-n-found.true
