@@ -1,5 +1,3 @@
-pub mod Slots
 pub mod Written
-pub mod ThinGood
-pub mod Terms
 pub mod Settling
+pub mod Thin

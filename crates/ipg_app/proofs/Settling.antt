@@ -1,13 +1,18 @@
 -- What is settled, step by step.
-use Rattle.std.proofs.Common.{◌≡◌, ℕ, ◌≤◌, ◌<◌, inl, inr, List, length, false, cond, nat_le, None, codes, Result, Ok, Err, refl, sym, subst, ap, ◌∙◌, arith}
+use Rattle.std.proofs.Common.{◌≡◌, ℕ, ◌≤◌, ◌<◌, inl, inr, ◌^◌, Bool, true, List, length, false, cond, nat_le, nat_lt, Result, Ok, Err, refl, sym, subst, ap, ◌∙◌, arith}
 use Rattle.std.proofs.lemmas.Bool.Decides.{nat_tests}
 use Rattle.ipg_outside.specs.Faults.{Rose}
 use Rattle.ipg_outside.specs.Files.{Told, MayHold}
-use Rattle.ipg_app.specs.Said.{Said, read_fault, refused, too_large}
+use Rattle.ipg_ast.specs.declared.grammar.Grammar as written
+use Rattle.ipg_tokens.specs.Lexical.{lexed}
+use Rattle.ipg_tokens.specs.declared.fault.ReadFault.TheVariants.{TooLong}
+use Rattle.ipg_syntax.specs.Reading.{tokens_answer}
+use Rattle.ipg_app.specs.Said.{Said, read_fault, too_large}
+use Rattle.ipg_app.specs.Refusal.{fault_said}
 use Rattle.ipg_app.specs.Order.{Order, says, reads, Answers, Turn, have}
-use Rattle.ipg_app.specs.Thin.{rule_at, max_text}
-use Rattle.ipg_app.specs.Reply.{input_in, grammar_in, or_form, max_input}
+use Rattle.ipg_app.specs.Reply.{input_in, grammar_in, grammar_under, or_fault, max_input}
 use Rattle.ipg_app.specs.Run.{Settles}
+use Rattle.ipg_app.specs.Found.{Found, silence}
 use Rattle.ipg_app.proofs.Written.{later}
 
 module _ (told : List ℕ → Told) (before after : List ℕ → ℕ) where
@@ -32,6 +37,29 @@ module _ (told : List ℕ → Told) (before after : List ℕ → ℕ) where
       subst P (let same : a ≡ b = cc in same) h
   hands_on {A = A} (Err y) next said a e h = absurd (cc)
 
+  -- what silences the steps behind it settles for any steps
+  heard : (r : Result written.Grammar Said) (next : written.Grammar → Order) (said : Said) → Answers told (have r (λ g. silence)) said → Answers told (have r next) said
+  heard (Ok g) next said a = absurd a
+  heard (Err x) next said a = a
+
+  unturned : (r : Result written.Grammar Said) (next : written.Grammar → Order) (name : List ℕ) → Turn told (have r (λ g. silence)) name → Turn told (have r next) name
+  unturned (Ok g) next name t = absurd t
+  unturned (Err x) next name t = absurd t
+
+  pub settled_before : (name : List ℕ) (next : written.Grammar → Order) (said : Said) → Settles told before after (grammar_under name (λ g. silence)) said → Settles told before after (grammar_under name next) said
+  settled_before name next said (inl (inl a)) = inl (inl a)
+  settled_before name next said (inl (inr a)) = inl (inr (a.0, a.1, heard (grammar_in a.0) next said a.2))
+  settled_before name next said (inr f) = inr (record { name = f.name; turn = go f.turn; rose = f.rose; is = f.is })
+    where
+      go : Turn told (grammar_under name (λ g. silence)) f.name → Turn told (grammar_under name next) f.name
+      go (inl e) = inl e
+      go (inr t) = inr (t.0, t.1, unturned (grammar_in t.0) next f.name t.2)
+
+  -- the grammar found leads on
+  pub found_on : (name : List ℕ) (next : written.Grammar → Order) (said : Said) (g : written.Grammar) → Found (told name) g → Settles told before after (next g) said → Settles told before after (grammar_under name next) said
+  found_on name next said g found h =
+      goes_on name (λ text. have (grammar_in text) next) said found.text found.held (hands_on (grammar_in found.text) next said g found.reads h)
+
 -- what is told stays, and no count falls
 module _ (told then : List ℕ → Told) (same : (n : List ℕ) → then n ≡ told n) where
   answers_then : (order : Order) (said : Said) → Answers then order said → Answers told order said
@@ -54,8 +82,8 @@ module _ (told then : List ℕ → Told) (same : (n : List ℕ) → then n ≡ t
       inr (record { name = f.name; turn = turn_then order f.name f.turn; rose = later _ _ _ (counts f.name) f.rose; is = f.is })
 
 -- a text or an input that is too long
-pub text_too_long : (text : List ℕ) → max_text < length text → grammar_in text ≡ Err (refused (codes "Form"))
-text_too_long text h = ap (λ b. or_form (cond b (rule_at text) None)) (let e : nat_le (length text) max_text ≡ false = grind (arith, nat_tests) in e)
+pub text_too_long : (text : List ℕ) → 2 ^ 20 < length text → grammar_in text ≡ Err (fault_said TooLong)
+text_too_long text h = ap (λ b. or_fault (tokens_answer text (cond b (Err TooLong) (lexed 0 0 text)))) (let e : nat_lt (2 ^ 20) (length text) ≡ true = grind (arith, nat_tests) in e)
 
 pub input_too_long : (bytes : List ℕ) → max_input < length bytes → input_in bytes ≡ Err too_large
 input_too_long bytes h = ap (λ b. cond b (Ok bytes) (Err too_large)) (let e : nat_le (length bytes) max_input ≡ false = grind (arith, nat_tests) in e)
