@@ -108,11 +108,11 @@ def random_end(rng, likely):
 
 def random_rules(rng):
     names = rng.sample(["S", "A", "B", "_c", "D1", "endless", "EOI2"], rng.randint(1, 5))
-    if rng.random() < 0.03:
+    if rng.random() < 0.08:
         names.append(rng.choice(PRIMITIVES + names))
     rules = []
     for r, name in enumerate(names):
-        later = names[r + 1:] if rng.random() < 0.96 else names + ["Bytes", "absent"]
+        later = names[r + 1:] if rng.random() < 0.9 else names + ["Bytes", "absent"]
         alts = []
         for _ in range(rng.randint(1, 3)):
             slots = []
@@ -170,7 +170,7 @@ def main(command, count=200, seed=1):
     with tempfile.TemporaryDirectory() as folder:
         g, f = os.path.join(folder, "g"), os.path.join(folder, "f")
         for case in range(count):
-            rules, data = random_case(rng, [0, 0, 2, 4, 7][case % 5])
+            rules, data = random_case(rng, [0, 0, 2, 3, 5][case % 5])
             text = written(rng, rules)
             with open(g, "wb") as out:
                 out.write(text.encode())
