@@ -1,25 +1,16 @@
 -- What is settled, step by step.
-use Rattle.std.proofs.Common.{◌≡◌, ℕ, ◌≤◌, ◌<◌, inl, inr, ◌^◌, Bool, true, List, length, false, cond, nat_le, nat_lt, Result, Ok, Err, refl, sym, subst, ap, ◌∙◌, arith}
+use Rattle.std.proofs.Common.{◌≡◌, ℕ, ◌≤◌, ◌<◌, inl, inr, List, length, false, cond, nat_le, Result, Ok, Err, refl, sym, subst, ap, ◌∙◌, arith}
 use Rattle.std.proofs.lemmas.Bool.Decides.{nat_tests}
-use Rattle.ipg_outside.specs.Faults.{Rose}
 use Rattle.ipg_outside.specs.Files.{Told, MayHold}
 use Rattle.ipg_ast.specs.declared.grammar.Grammar as written
-use Rattle.ipg_tokens.specs.Lexical.{lexed}
-use Rattle.ipg_tokens.specs.declared.fault.ReadFault.TheVariants.{TooLong}
-use Rattle.ipg_syntax.specs.Reading.{tokens_answer}
-use Rattle.ipg_app.specs.Said.{Said, read_fault, too_large}
-use Rattle.ipg_app.specs.Refusal.{fault_said}
+use Rattle.ipg_app.specs.Said.{Said, too_large}
 use Rattle.ipg_app.specs.Order.{Order, says, reads, Answers, Turn, have}
-use Rattle.ipg_app.specs.Reply.{input_in, grammar_in, grammar_under, or_fault, max_input}
+use Rattle.ipg_app.specs.Reply.{input_in, grammar_in, grammar_under, max_input}
 use Rattle.ipg_app.specs.Run.{Settles}
-use Rattle.ipg_app.specs.Found.{Found, silence}
+use Rattle.ipg_app.specs.Found.{Found}
 use Rattle.ipg_app.proofs.Written.{later}
 
 module _ (told : List ℕ → Told) (before after : List ℕ → ℕ) where
-  -- a name at fault
-  pub at_fault : (name : List ℕ) (next : List ℕ → Order) (said : Said) → Rose (before name) (after name) → said ≡ read_fault → Settles told before after (reads name next) said
-  at_fault name next said rose e = inr (record { name = name; turn = inl refl; rose = rose; is = e })
-
   -- what a name holds leads on
   pub goes_on : (name : List ℕ) (next : List ℕ → Order) (said : Said) (bytes : List ℕ) → MayHold (told name) bytes → Settles told before after (next bytes) said → Settles told before after (reads name next) said
   goes_on name next said bytes held (inl a) = inl (inr (bytes, held, a))
@@ -36,24 +27,6 @@ module _ (told : List ℕ → Told) (before after : List ℕ → ℕ) where
       let P : A → Type 0 = λ x. Settles told before after (next x) said in
       subst P (let same : a ≡ b = cc in same) h
   hands_on {A = A} (Err y) next said a e h = absurd (cc)
-
-  -- what silences the steps behind it settles for any steps
-  heard : (r : Result written.Grammar Said) (next : written.Grammar → Order) (said : Said) → Answers told (have r (λ g. silence)) said → Answers told (have r next) said
-  heard (Ok g) next said a = absurd a
-  heard (Err x) next said a = a
-
-  unturned : (r : Result written.Grammar Said) (next : written.Grammar → Order) (name : List ℕ) → Turn told (have r (λ g. silence)) name → Turn told (have r next) name
-  unturned (Ok g) next name t = absurd t
-  unturned (Err x) next name t = absurd t
-
-  pub settled_before : (name : List ℕ) (next : written.Grammar → Order) (said : Said) → Settles told before after (grammar_under name (λ g. silence)) said → Settles told before after (grammar_under name next) said
-  settled_before name next said (inl (inl a)) = inl (inl a)
-  settled_before name next said (inl (inr a)) = inl (inr (a.0, a.1, heard (grammar_in a.0) next said a.2))
-  settled_before name next said (inr f) = inr (record { name = f.name; turn = go f.turn; rose = f.rose; is = f.is })
-    where
-      go : Turn told (grammar_under name (λ g. silence)) f.name → Turn told (grammar_under name next) f.name
-      go (inl e) = inl e
-      go (inr t) = inr (t.0, t.1, unturned (grammar_in t.0) next f.name t.2)
 
   -- the grammar found leads on
   pub found_on : (name : List ℕ) (next : written.Grammar → Order) (said : Said) (g : written.Grammar) → Found (told name) g → Settles told before after (next g) said → Settles told before after (grammar_under name next) said
@@ -81,9 +54,6 @@ module _ (told then : List ℕ → Told) (same : (n : List ℕ) → then n ≡ t
   settles_then before between after order said counts (inr f) =
       inr (record { name = f.name; turn = turn_then order f.name f.turn; rose = later _ _ _ (counts f.name) f.rose; is = f.is })
 
--- a text or an input that is too long
-pub text_too_long : (text : List ℕ) → 2 ^ 20 < length text → grammar_in text ≡ Err (fault_said TooLong)
-text_too_long text h = ap (λ b. or_fault (tokens_answer text (cond b (Err TooLong) (lexed 0 0 text)))) (let e : nat_lt (2 ^ 20) (length text) ≡ true = grind (arith, nat_tests) in e)
-
+-- an input that is too long
 pub input_too_long : (bytes : List ℕ) → max_input < length bytes → input_in bytes ≡ Err too_large
 input_too_long bytes h = ap (λ b. cond b (Ok bytes) (Err too_large)) (let e : nat_le (length bytes) max_input ≡ false = grind (arith, nat_tests) in e)
