@@ -54,11 +54,7 @@ fn settle_parse<F: Files>(
     }
 }
 
-fn settle_fmt<F: Files>(
-    alloc: Global,
-    grammar: &str,
-    files: &mut F,
-) -> Result<Settled, AllocError>
+fn settle_fmt<F: Files>(alloc: Global, grammar: &str, files: &mut F) -> Result<Settled, AllocError>
     ensures { IfOk result (λ settled. Settles (F.told files.old) (F.faults files.old) (F.faults files.new) (fmt grammar.now) (said_of settled)) }
 {
     match grammar_under(alloc, grammar, files)? {

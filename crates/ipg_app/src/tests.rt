@@ -98,7 +98,11 @@ fn parses_by_thin_grammars(rt: HostRuntime) -> anyhow::Result<()> {
         (ROW, b"ab", TREE),
         (ROW, b"", NO_PARSE),
         (ROW, b"ac", NO_PARSE),
-        (ROW, b"abc", (Status::Done, b"0 S 0 3 start=0 end=2\n1 tok 0 2 6162\n")),
+        (
+            ROW,
+            b"abc",
+            (Status::Done, b"0 S 0 3 start=0 end=2\n1 tok 0 2 6162\n"),
+        ),
         (
             b"S -> A[1, EOI] ; A -> \"b\"[0, 1] / \"c\"[0, 1] ;",
             b"ac",
@@ -113,7 +117,11 @@ fn parses_by_thin_grammars(rt: HostRuntime) -> anyhow::Result<()> {
         (b"S -> \"ab\"[0, EOI + 1073741824] ;", b"ab", NO_PARSE),
         (b"S -> \"ab\"[0,3] ;", b"ab", NO_PARSE),
         (b"S -> \"\"[1,0] ;", b"ab", NO_PARSE),
-        (b"S -> \"\"[2, 2] ;", b"ab", (Status::Done, b"0 S 0 2 start=2 end=0\n1 tok 2 2 -\n")),
+        (
+            b"S -> \"\"[2, 2] ;",
+            b"ab",
+            (Status::Done, b"0 S 0 2 start=2 end=0\n1 tok 2 2 -\n"),
+        ),
         (b"S -> \"a\\x62\"[0x0, 0x2] ; # all of it", b"ab", TREE),
         (b"# first\nS -> # then\n\"ab\"[0,2] ;", b"ab", TREE),
         (
@@ -167,7 +175,10 @@ fn refuses_form_and_later(rt: HostRuntime) -> anyhow::Result<()> {
         (b"S -> \"\"[0, 0] ; S -> \"\"[0, 0] ;", FORM),
         (b"U8 -> \"ab\"[0, 2] ;", FORM),
         (b"S -> L[0, 2] where { L -> \"ab\"[0, 2] ; } ;", FORM),
-        (b"S -> A[B.end, EOI] B[A.end, EOI] ; A -> U8 ; B -> U8 ;", FORM),
+        (
+            b"S -> A[B.end, EOI] B[A.end, EOI] ; A -> U8 ; B -> U8 ;",
+            FORM,
+        ),
         (b"S -> S[0, EOI] ; T -> U8 ;", FORM),
         (b"S -> S[0, EOI] ;", LATER),
         (b"S -> T[0, 0] ;", LATER),
@@ -200,7 +211,10 @@ fn refuses_texts_with_their_places(rt: HostRuntime) -> anyhow::Result<()> {
         (b"S -> @ ;", b"refused G2 Lex 5\n"),
         (b"S -> \"ab[0,2] ;", b"refused G2 Lex 5\n"),
         (&zeros, b"refused G2 Lex 0\n"),
-        (b"S -> ?(9223372036854775808) \"\" ;", b"refused G3 Number 7\n"),
+        (
+            b"S -> ?(9223372036854775808) \"\" ;",
+            b"refused G3 Number 7\n",
+        ),
         (b"S -> ;", b"refused G4 Syntax 5\n"),
         (b"", b"refused G4 Syntax 0\n"),
         (b"many -> \"ab\"[0,2] ;", b"refused G4 Syntax 0\n"),
@@ -322,12 +336,42 @@ fn answers_failing_reads(rt: HostRuntime) -> anyhow::Result<()> {
         (second_fails(parse_of(b"S", b"ab")), syntax),
         (second_fails(parse_of(b"S -> Bytes ;", b"ab")), FORM),
         (second_fails(parse_of(b"S -> S[0, 1] ;", b"ab")), LATER),
-        (Try { words: FMT, ..first }, READ_FAULT),
-        (Try { words: FMT, ..no_grammar }, READ_FAULT),
+        (
+            Try {
+                words: FMT,
+                ..first
+            },
+            READ_FAULT,
+        ),
+        (
+            Try {
+                words: FMT,
+                ..no_grammar
+            },
+            READ_FAULT,
+        ),
         (second_fails(fmt_of(ROW)), (Status::Done, ROW_TEXT)),
-        (Try { words: &["parse", "g", "g"], ..no_input }, NO_PARSE),
-        (Try { room: 0, ..no_input }, (Status::WriteFault, b"")),
-        (Try { fail_writes: &[0], ..no_input }, (Status::WriteFault, b"read fault\n")),
+        (
+            Try {
+                words: &["parse", "g", "g"],
+                ..no_input
+            },
+            NO_PARSE,
+        ),
+        (
+            Try {
+                room: 0,
+                ..no_input
+            },
+            (Status::WriteFault, b""),
+        ),
+        (
+            Try {
+                fail_writes: &[0],
+                ..no_input
+            },
+            (Status::WriteFault, b"read fault\n"),
+        ),
     ];
     for (case, want) in cases {
         let (status, out) = answer(rt.alloc(), &case)?;
@@ -359,9 +403,18 @@ fn answers_failing_writes(rt: HostRuntime) -> anyhow::Result<()> {
     let row = parse_of(ROW, b"ab");
     for (fail_writes, written) in [(&[0u64], 22), (&[1], ROW_TREE.len())] {
         let (status, out) = answer(alloc, &Try { fail_writes, ..row })?;
-        assert_eq!(rt; (status, out.bytes()), (Status::WriteFault, &ROW_TREE[..written]));
+        assert_eq!(rt;
+            (status, out.bytes()),
+            (Status::WriteFault, &ROW_TREE[..written])
+        );
     }
-    let (status, out) = answer(alloc, &Try { fail_writes: &[2], ..row })?;
+    let (status, out) = answer(
+        alloc,
+        &Try {
+            fail_writes: &[2],
+            ..row
+        },
+    )?;
     assert_eq!(rt; (status, out.bytes()), TREE);
     Ok(())
 }
