@@ -196,21 +196,18 @@ fn answers_absent_files(rt: HostRuntime) -> anyhow::Result<()> {
 fn answers_failing_reads(rt: HostRuntime) -> anyhow::Result<()> {
     let row = parse_of(ROW, b"ab");
     let syntax: Reply<'_> = (Status::Refused, b"refused G4 Syntax 1\n");
-    let cases: [(Try<'_>, u64, Reply<'_>); 8] = [
-        (row, 0, READ_FAULT),
-        (row, 1, READ_FAULT),
-        (row, 2, TREE),
-        (parse_of(b"S", b"ab"), 1, syntax),
-        (parse_of(b"S -> Bytes ;", b"ab"), 1, FORM),
-        (parse_of(b"S -> S[0, 1] ;", b"ab"), 1, LATER),
-        (fmt_of(ROW), 0, READ_FAULT),
-        (fmt_of(ROW), 1, (Status::Done, ROW_TEXT)),
+    let cases: [(Try<'_>, &[u64], Reply<'_>); 8] = [
+        (row, &[0], READ_FAULT),
+        (row, &[1], READ_FAULT),
+        (row, &[2], TREE),
+        (parse_of(b"S", b"ab"), &[1], syntax),
+        (parse_of(b"S -> Bytes ;", b"ab"), &[1], FORM),
+        (parse_of(b"S -> S[0, 1] ;", b"ab"), &[1], LATER),
+        (fmt_of(ROW), &[0], READ_FAULT),
+        (fmt_of(ROW), &[1], (Status::Done, ROW_TEXT)),
     ];
-    for (case, number, want) in cases {
-        let failing = Try {
-            fail_reads: &[number],
-            ..case
-        };
+    for (case, fail_reads, want) in cases {
+        let failing = Try { fail_reads, ..case };
         let (status, out) = answer(rt.alloc(), &failing)?;
         assert_eq!(rt; (status, out.bytes()), want);
     }
@@ -248,16 +245,16 @@ fn answers_narrow_rooms(rt: HostRuntime) -> anyhow::Result<()> {
 #[test]
 fn answers_failing_writes(rt: HostRuntime) -> anyhow::Result<()> {
     let row = parse_of(ROW, b"ab");
-    let cases: [(Try<'_>, u64, Reply<'_>); 5] = [
-        (row, 0, (Status::WriteFault, &ROW_TREE[..22])),
-        (row, 1, (Status::WriteFault, ROW_TREE)),
-        (row, 2, TREE),
-        (fmt_of(ROW), 0, (Status::WriteFault, ROW_TEXT)),
-        (fmt_of(ROW), 1, (Status::Done, ROW_TEXT)),
+    let cases: [(Try<'_>, &[u64], Reply<'_>); 5] = [
+        (row, &[0], (Status::WriteFault, &ROW_TREE[..22])),
+        (row, &[1], (Status::WriteFault, ROW_TREE)),
+        (row, &[2], TREE),
+        (fmt_of(ROW), &[0], (Status::WriteFault, ROW_TEXT)),
+        (fmt_of(ROW), &[1], (Status::Done, ROW_TEXT)),
     ];
-    for (case, number, want) in cases {
+    for (case, fail_writes, want) in cases {
         let failing = Try {
-            fail_writes: &[number],
+            fail_writes,
             ..case
         };
         let (status, out) = answer(rt.alloc(), &failing)?;
