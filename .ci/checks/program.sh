@@ -22,6 +22,7 @@ expect() {
 
 : >"$folder/empty"
 echo 'S -> Bytes ;' >"$folder/bytes.ipg"
+echo 'S -> S[0, EOI] ;' >"$folder/loop.ipg"
 truncate -s $((2 ** 30 + 1)) "$folder/long"
 : >"$folder/closed"
 chmod 000 "$folder/closed"
@@ -30,13 +31,20 @@ expect 0 "$tree" parse "$grammar" "$input"
 expect 0 "$tree" parse "$grammar" /dev/stdin < <(cat "$input")
 expect 1 $'no parse\n' parse "$grammar" "$folder/empty"
 expect 2 $'refused Form\n' parse "$folder/bytes.ipg" "$input"
-expect 2 $'refused Form\n' parse "$folder/empty" "$input"
-expect 2 $'refused Form\n' parse "$folder/long" "$input"
+expect 2 $'refused Later\n' parse "$folder/loop.ipg" "$input"
+expect 2 $'refused G4 Syntax 0\n' parse "$folder/empty" "$input"
+expect 2 $'refused G4 Syntax 0\n' fmt "$folder/empty"
+expect 2 $'refused G1 TooLong\n' parse "$folder/long" "$input"
+expect 2 $'refused G1 TooLong\n' fmt "$folder/long"
+expect 0 $'S -> "ab" [ 0 , 2 ] ;\n' fmt "$grammar"
+expect 0 $'S -> Bytes ;\n' fmt /dev/stdin < <(cat "$folder/bytes.ipg")
 expect 4 $'usage\n' parse
+expect 4 $'usage\n' fmt "$grammar" "$input"
 for name in "$folder/absent" "$folder" "$folder/closed"; do
   [ -f "$name" ] && [ -r "$name" ] && continue
   expect 5 $'read fault\n' parse "$name" "$input"
   expect 5 $'read fault\n' parse "$grammar" "$name"
+  expect 5 $'read fault\n' fmt "$name"
 done
 expect 8 $'too large\n' parse "$grammar" "$folder/long"
 

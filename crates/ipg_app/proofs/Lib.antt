@@ -1,5 +1,2 @@
-pub mod Slots
 pub mod Written
-pub mod ThinGood
-pub mod Terms
 pub mod Settling

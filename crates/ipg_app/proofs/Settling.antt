@@ -1,20 +1,16 @@
 -- What is settled, step by step.
-use Rattle.std.proofs.Common.{◌≡◌, ℕ, ◌≤◌, ◌<◌, inl, inr, List, length, false, cond, nat_le, None, codes, Result, Ok, Err, refl, sym, subst, ap, ◌∙◌, arith}
+use Rattle.std.proofs.Common.{◌≡◌, ℕ, ◌≤◌, ◌<◌, inl, inr, List, length, false, cond, nat_le, Result, Ok, Err, sym, subst, ap, ◌∙◌, arith}
 use Rattle.std.proofs.lemmas.Bool.Decides.{nat_tests}
-use Rattle.ipg_outside.specs.Faults.{Rose}
 use Rattle.ipg_outside.specs.Files.{Told, MayHold}
-use Rattle.ipg_app.specs.Said.{Said, read_fault, refused, too_large}
+use Rattle.ipg_ast.specs.declared.grammar.Grammar as written
+use Rattle.ipg_app.specs.Said.{Said, too_large}
 use Rattle.ipg_app.specs.Order.{Order, says, reads, Answers, Turn, have}
-use Rattle.ipg_app.specs.Thin.{rule_at, max_text}
-use Rattle.ipg_app.specs.Reply.{input_in, grammar_in, or_form, max_input}
+use Rattle.ipg_app.specs.Reply.{input_in, grammar_in, grammar_under, max_input}
 use Rattle.ipg_app.specs.Run.{Settles}
+use Rattle.ipg_app.specs.Found.{Found}
 use Rattle.ipg_app.proofs.Written.{later}
 
 module _ (told : List ℕ → Told) (before after : List ℕ → ℕ) where
-  -- a name at fault
-  pub at_fault : (name : List ℕ) (next : List ℕ → Order) (said : Said) → Rose (before name) (after name) → said ≡ read_fault → Settles told before after (reads name next) said
-  at_fault name next said rose e = inr (record { name = name; turn = inl refl; rose = rose; is = e })
-
   -- what a name holds leads on
   pub goes_on : (name : List ℕ) (next : List ℕ → Order) (said : Said) (bytes : List ℕ) → MayHold (told name) bytes → Settles told before after (next bytes) said → Settles told before after (reads name next) said
   goes_on name next said bytes held (inl a) = inl (inr (bytes, held, a))
@@ -31,6 +27,11 @@ module _ (told : List ℕ → Told) (before after : List ℕ → ℕ) where
       let P : A → Type 0 = λ x. Settles told before after (next x) said in
       subst P (let same : a ≡ b = cc in same) h
   hands_on {A = A} (Err y) next said a e h = absurd (cc)
+
+  -- the grammar found leads on
+  pub found_on : (name : List ℕ) (next : written.Grammar → Order) (said : Said) (g : written.Grammar) → Found (told name) g → Settles told before after (next g) said → Settles told before after (grammar_under name next) said
+  found_on name next said g found h =
+      goes_on name (λ text. have (grammar_in text) next) said found.text found.held (hands_on (grammar_in found.text) next said g found.reads h)
 
 -- what is told stays, and no count falls
 module _ (told then : List ℕ → Told) (same : (n : List ℕ) → then n ≡ told n) where
@@ -53,9 +54,6 @@ module _ (told then : List ℕ → Told) (same : (n : List ℕ) → then n ≡ t
   settles_then before between after order said counts (inr f) =
       inr (record { name = f.name; turn = turn_then order f.name f.turn; rose = later _ _ _ (counts f.name) f.rose; is = f.is })
 
--- a text or an input that is too long
-pub text_too_long : (text : List ℕ) → max_text < length text → grammar_in text ≡ Err (refused (codes "Form"))
-text_too_long text h = ap (λ b. or_form (cond b (rule_at text) None)) (let e : nat_le (length text) max_text ≡ false = grind (arith, nat_tests) in e)
-
+-- an input that is too long
 pub input_too_long : (bytes : List ℕ) → max_input < length bytes → input_in bytes ≡ Err too_large
 input_too_long bytes h = ap (λ b. cond b (Ok bytes) (Err too_large)) (let e : nat_le (length bytes) max_input ≡ false = grind (arith, nat_tests) in e)

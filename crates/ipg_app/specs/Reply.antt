@@ -1,24 +1,37 @@
 -- The reply: for the program's words, the order in which it answers.
 use Rattle.std.specs.Prelude.{◌≡◌, ℕ, ◌^◌, List, [], ◌∷◌, length, nat_le, bytes_eq, codes, Result, Ok, Err, Option, None, Some, if◌then◌else◌}
+use Rattle.ipg_ast.specs.declared.grammar.Grammar as written
+use Rattle.ipg_tokens.specs.declared.fault.ReadFault.{ReadFault}
+use Rattle.ipg_tokens.specs.Shaped.{canonical_text}
+use Rattle.ipg_syntax.specs.Reading.{read_of}
 use Rattle.ipg_core.specs.Grammar.{Grammar}
 use Rattle.ipg_core.specs.Tree.{Tree}
 use Rattle.ipg_core.specs.Run.{Stop, NoTree, OutOfRange, Deep}
 use Rattle.ipg_core.specs.Meaning.{Means}
 use Rattle.ipg_core.specs.Lines.{lines}
-use Rattle.ipg_app.specs.Thin.{Thin, thin_of}
-use Rattle.ipg_app.specs.ThinGrammar.{grammar_of}
-use Rattle.ipg_app.specs.Said.{Said, usage, refused, no_parse, range, too_large}
-use Rattle.ipg_app.specs.Order.{Order, says, only, have, contents, ◌>>=◌}
-use Rattle.ipg_app.specs.declared.status.Status.TheVariants as status
+use Rattle.ipg_thin.specs.CoreGrammar.{core_of}
+use Rattle.ipg_app.specs.Said.{Said, done, usage, no_parse, range, too_large}
+use Rattle.ipg_app.specs.Refusal.{fault_said}
+use Rattle.ipg_app.specs.Form.{only_thin}
+use Rattle.ipg_app.specs.Later.{only_forward}
+use Rattle.ipg_app.specs.Order.{Order, Step, says, only, have, contents, ◌>>=◌}
 
 -- ---- steps
 
-abbrev pub or_form : Option Thin → Result Grammar Said
-or_form (Some rule) = Ok (grammar_of rule)
-or_form None = Err (refused (codes "Form"))
+abbrev pub or_fault : Result written.Grammar ReadFault → Result written.Grammar Said
+or_fault (Ok g) = Ok g
+or_fault (Err fault) = Err (fault_said fault)
 
-abbrev pub grammar_in : List ℕ → Result Grammar Said
-grammar_in text = or_form (thin_of text)
+-- G1 to G5
+abbrev pub grammar_in : List ℕ → Result written.Grammar Said
+grammar_in text = or_fault (read_of text)
+
+-- a grammar under a name
+abbrev pub grammar_under : List ℕ → Step written.Grammar
+grammar_under name next = do
+  text ← contents name
+  g ← have (grammar_in text)
+  next g
 
 abbrev pub max_input : ℕ
 max_input = 2 ^ 30
@@ -28,7 +41,7 @@ input_in bytes = if nat_le (length bytes) max_input then Ok bytes else Err too_l
 
 -- what is said of a parse; nothing of one that has no answer
 abbrev pub parse_said : Grammar → Result Tree Stop → Option Said
-parse_said g (Ok tree) = Some (record { status = status.Done; text = lines g tree 0 })
+parse_said g (Ok tree) = Some (done (lines g tree 0))
 parse_said g (Err NoTree) = Some no_parse
 parse_said g (Err OutOfRange) = Some range
 parse_said g (Err Deep) = None
@@ -47,24 +60,37 @@ parse_input g name = do
   input ← have (input_in bytes)
   says (Parses g input)
 
+abbrev pub parse_by : written.Grammar → List ℕ → Order
+parse_by g name = do
+  thin ← have (only_thin g)
+  forward ← have (only_forward thin)
+  parse_input (core_of forward) name
+
 abbrev pub parse : List ℕ → List ℕ → Order
 parse grammar name = do
-  text ← contents grammar
-  g ← have (grammar_in text)
-  parse_input g name
+  g ← grammar_under grammar
+  parse_by g name
+
+abbrev pub fmt : List ℕ → Order
+fmt grammar = do
+  g ← grammar_under grammar
+  only (done (canonical_text g))
 
 -- ---- words
 
 pub data Request : Type 0 where
   Parse : (grammar input : List ℕ) → Request
+  Fmt : (grammar : List ℕ) → Request
 
 -- what the words ask for
 abbrev pub request_of : List (List ℕ) → Option Request
+request_of (command ∷ grammar ∷ []) = if bytes_eq command (codes "fmt") then Some (Fmt grammar) else None
 request_of (command ∷ grammar ∷ input ∷ []) = if bytes_eq command (codes "parse") then Some (Parse grammar input) else None
 request_of _ = None
 
 abbrev pub order_on : Option Request → Order
 order_on (Some (Parse grammar input)) = parse grammar input
+order_on (Some (Fmt grammar)) = fmt grammar
 order_on None = only usage
 
 abbrev pub order_of : List (List ℕ) → Order

@@ -7,6 +7,10 @@ pub record Said : Type 0 where
   pub status : Status
   pub text : List ℕ
 
+-- a command's own text
+abbrev pub done : List ℕ → Said
+done text = record { status = status.Done; text = text }
+
 -- a status with a line of its own
 abbrev pub line_said : Status → List ℕ → Said
 line_said s words = record { status = s; text = words ++ 10 ∷ [] }
@@ -28,3 +32,6 @@ range = line_said status.Range (codes "range")
 
 abbrev pub too_large : Said
 too_large = line_said status.TooLarge (codes "too large")
+
+abbrev pub out_of_memory : Said
+out_of_memory = record { status = status.Memory; text = [] }

@@ -2,9 +2,10 @@
 #![tactic(auto)]
 
 mod asking;
+mod formatting;
 mod grammar;
 mod parse;
-mod rule;
+mod refusal;
 mod run;
 mod said;
 mod settle;

@@ -1,17 +1,24 @@
 //! What is to be said, settled before anything is written.
-ghost use Rattle.std.specs.Prelude.{◌≡◌, map, IfOk};
+ghost use Rattle.std.specs.Prelude.{◌≡◌, ◌≤◌, ℕ, List, map, IfOk, MatchResult};
 ghost use Rattle.std.specs.String.{string_bytes};
-ghost use Rattle.ipg_app.specs.Reply.{parse_input, parse, order_of};
+ghost use Rattle.ipg_ast.specs.Shape.{IsFormed};
+ghost use Rattle.ipg_app.specs.Reply.{grammar_under, parse_input, parse_by, parse, fmt, order_of};
 ghost use Rattle.ipg_app.specs.Run.{Settles};
+ghost use Rattle.ipg_app.specs.Found.{Found, silence};
 ghost use Rattle.ipg_app.specs.Lines.{said_of};
 
 use crate::asking::{Asked, request};
+use crate::formatting::format;
 use crate::grammar::grammar_in;
 use crate::parse::parse;
+use crate::refusal::refusal;
 use crate::said::{Settled, line};
 use crate::status::Status;
+use crate::thin::core_in;
+use ipg_ast::Grammar;
 use ipg_core::accepted::Checked;
 use ipg_outside::{FileFault, Files};
+use ipg_read::ReadFault;
 use std::alloc::{AllocError, Global};
 
 const MAX_TEXT: u64 = 1 << 20;
@@ -28,6 +35,7 @@ pub fn settle<F: Files>(
 {
     match request(words) {
         Some(Asked::Parse { grammar, input }) => settle_parse(alloc, grammar, input, files),
+        Some(Asked::Fmt { grammar }) => settle_fmt(alloc, grammar, files),
         None => line(alloc, Status::Usage, b"usage"),
     }
 }
@@ -40,19 +48,56 @@ fn settle_parse<F: Files>(
 ) -> Result<Settled, AllocError>
     ensures { IfOk result (λ settled. Settles (F.told files.old) (F.faults files.old) (F.faults files.new) (parse grammar.now input.now) (said_of settled)) }
 {
-    let text = match files.read_all(alloc, grammar, MAX_TEXT) {
-        Ok(text) => text,
-        Err(FileFault::Failed) => return line(alloc, Status::ReadFault, b"read fault"),
-        Err(FileFault::TooLarge(_)) => return line(alloc, Status::Refused, b"refused Form"),
-        Err(FileFault::Memory) => return Err(AllocError),
-    };
-    match grammar_in(alloc, &text)? {
-        Ok(grammar) => settle_input(alloc, &grammar, input, files),
+    match grammar_under(alloc, grammar, files)? {
+        Ok(grammar) => parse_by(alloc, &grammar, input, files),
         Err(settled) => Ok(settled),
     }
 }
 
-fn settle_input<F: Files>(
+fn settle_fmt<F: Files>(alloc: Global, grammar: &str, files: &mut F) -> Result<Settled, AllocError>
+    ensures { IfOk result (λ settled. Settles (F.told files.old) (F.faults files.old) (F.faults files.new) (fmt grammar.now) (said_of settled)) }
+{
+    match grammar_under(alloc, grammar, files)? {
+        Ok(grammar) => format(alloc, &grammar),
+        Err(settled) => Ok(settled),
+    }
+}
+
+/// The grammar under a name, or what is said where it can't be read or is none.
+fn grammar_under<F: Files>(
+    alloc: Global,
+    name: &str,
+    files: &mut F,
+) -> Result<Result<Grammar, Settled>, AllocError>
+    ensures found { IfOk result (λ read. MatchResult read (Found (F.told files.old name.now)) (λ settled. Settles (F.told files.old) (F.faults files.old) (F.faults files.new) (grammar_under name.now (λ g. silence)) (said_of settled))) }
+    ensures formed { IfOk result (λ read. IfOk read IsFormed) }
+    ensures told { (n : List ℕ) → F.told files.new n ≡ F.told files.old n }
+    ensures counts { (n : List ℕ) → F.faults files.old n ≤ F.faults files.new n }
+{
+    match files.read_all(alloc, name, MAX_TEXT) {
+        Ok(text) => grammar_in(alloc, &text),
+        Err(FileFault::Failed) => Ok(Err(line(alloc, Status::ReadFault, b"read fault")?)),
+        Err(FileFault::TooLarge(_)) => Ok(Err(refusal(alloc, &ReadFault::TooLong)?)),
+        Err(FileFault::Memory) => Err(AllocError),
+    }
+}
+
+fn parse_by<F: Files>(
+    alloc: Global,
+    grammar: &Grammar,
+    input: &str,
+    files: &mut F,
+) -> Result<Settled, AllocError>
+    requires { IsFormed grammar.now }
+    ensures { IfOk result (λ settled. Settles (F.told files.old) (F.faults files.old) (F.faults files.new) (parse_by grammar.now input.now) (said_of settled)) }
+{
+    match core_in(alloc, grammar)? {
+        Ok(core) => parse_input(alloc, &core, input, files),
+        Err(settled) => Ok(settled),
+    }
+}
+
+fn parse_input<F: Files>(
     alloc: Global,
     grammar: &Checked,
     input: &str,

@@ -1,12 +1,19 @@
 //! Replies over files and a sink in memory.
+mod rows;
+
 use crate::run::run;
 use crate::status::Status;
 use ipg_outside::{MemFiles, MemSink};
+use rows::{
+    FORM, FORMATTED, LATER, LONG_PLACES, NO_PARSE, PARSED, PLACES, READ_FAULT, REFUSED, ROW,
+    ROW_TEXT, ROW_TREE, Reply, TREE, USAGE, WRONG_WORDS,
+};
 use std::alloc::{AllocError, Global};
 
-/// A run of `parse g f`.
+/// A run of the words over the files `g` and `f`.
 #[derive(Clone, Copy)]
 struct Try<'a> {
+    words: &'a [&'a str],
     grammar: Option<&'a [u8]>,
     input: Option<&'a [u8]>,
     fail_reads: &'a [u64],
@@ -14,38 +21,13 @@ struct Try<'a> {
     fail_writes: &'a [u64],
 }
 
-const ROW: &[u8] = b"S -> \"ab\"[0,2] ;";
+const PARSE: &[&str] = &["parse", "g", "f"];
 
-const ROW_TREE: &[u8] = b"0 S 0 2 start=0 end=2\n1 tok 0 2 6162\n";
+const FMT: &[&str] = &["fmt", "g"];
 
-fn run_words(
-    alloc: Global,
-    words: &[&str],
-    files: &mut MemFiles,
-    out: &mut MemSink,
-) -> Result<Status, AllocError> {
-    let mut given = Vec::new(alloc);
-    for word in words {
-        given.push(String::from_str(alloc, word)?)?;
-    }
-    Ok(run(alloc, &given, files, out))
-}
-
-fn try_parse(alloc: Global, case: &Try<'_>) -> Result<(Status, MemSink), AllocError> {
-    let mut files = MemFiles::new(alloc, case.fail_reads)?;
-    if let Some(grammar) = case.grammar {
-        files.add("g", grammar)?;
-    }
-    if let Some(input) = case.input {
-        files.add("f", input)?;
-    }
-    let mut out = MemSink::new(alloc, case.room, case.fail_writes)?;
-    let status = run_words(alloc, &["parse", "g", "f"], &mut files, &mut out)?;
-    Ok((status, out))
-}
-
-fn plain<'a>(grammar: &'a [u8], input: &'a [u8]) -> Try<'a> {
+fn parse_of<'a>(grammar: &'a [u8], input: &'a [u8]) -> Try<'a> {
     Try {
+        words: PARSE,
         grammar: Some(grammar),
         input: Some(input),
         fail_reads: &[],
@@ -54,138 +36,229 @@ fn plain<'a>(grammar: &'a [u8], input: &'a [u8]) -> Try<'a> {
     }
 }
 
-const FORM: (Status, &[u8]) = (Status::Refused, b"refused Form\n");
+fn fmt_of(grammar: &[u8]) -> Try<'_> {
+    Try {
+        words: FMT,
+        input: None,
+        ..parse_of(grammar, b"")
+    }
+}
 
-const NO_PARSE: (Status, &[u8]) = (Status::NoParse, b"no parse\n");
+/// The text by `parse`, with no input, and by `fmt`.
+fn both_of(grammar: &[u8]) -> [Try<'_>; 2] {
+    let parse = Try {
+        input: None,
+        ..parse_of(grammar, b"")
+    };
+    [parse, fmt_of(grammar)]
+}
 
+fn answer(alloc: Global, case: &Try<'_>) -> Result<(Status, MemSink), AllocError> {
+    let mut files = MemFiles::new(alloc, case.fail_reads)?;
+    if let Some(grammar) = case.grammar {
+        files.add("g", grammar)?;
+    }
+    if let Some(input) = case.input {
+        files.add("f", input)?;
+    }
+    let mut out = MemSink::new(alloc, case.room, case.fail_writes)?;
+    let mut words = Vec::new(alloc);
+    for word in case.words {
+        words.push(String::from_str(alloc, word)?)?;
+    }
+    let status = run(alloc, &words, &mut files, &mut out);
+    Ok((status, out))
+}
+
+/// A beginning, a piece many times, and an end.
+fn long(
+    alloc: Global,
+    head: &[u8],
+    piece: &[u8],
+    times: u32,
+    tail: &[u8],
+) -> Result<Vec<u8>, AllocError> {
+    let mut text = Vec::from_slice(alloc, head)?;
+    for _ in 0..times {
+        text.extend_from_slice(piece)?;
+    }
+    text.extend_from_slice(tail)?;
+    Ok(text)
+}
+
+/// Calls, ends of all kinds, biased choice, nesting, comments and escapes.
 #[test]
-fn answers_texts_and_inputs(rt: HostRuntime) -> anyhow::Result<()> {
-    let cases: [(&[u8], &[u8], (Status, &[u8])); 14] = [
-        (ROW, b"ab", (Status::Done, ROW_TREE)),
-        (ROW, b"", NO_PARSE),
-        (ROW, b"ac", NO_PARSE),
-        (b"S -> Bytes ;", b"ab", FORM),
-        (b"", b"ab", FORM),
-        (b"S -> \"ab\"[0,3] ;", b"ab", NO_PARSE),
-        (b"S -> \"\"[1,0] ;", b"ab", NO_PARSE),
-        (b"many -> \"ab\"[0,2] ;", b"ab", FORM),
-        (b"U8 -> \"ab\"[0,2] ;", b"ab", FORM),
-        (b"S -> \"ab[0,2] ;", b"ab", FORM),
-        (
-            b"S -> \"ab\"[0,100000000000000000000000000000] ;",
-            b"ab",
-            FORM,
-        ),
-        (b"S -> \"ab\"[0,1073741825] ;", b"ab", FORM),
-        (b"S -> \"ab\"[0x0,2] ;", b"ab", FORM),
-        (b"S -> \"a#\"[0,2] ;", b"a#", FORM),
-    ];
-    for (grammar, input, want) in cases {
-        let (status, out) = try_parse(rt.alloc(), &plain(grammar, input))?;
+fn parses_by_thin_grammars(rt: HostRuntime) -> anyhow::Result<()> {
+    for (grammar, input, want) in PARSED {
+        let (status, out) = answer(rt.alloc(), &parse_of(grammar, input))?;
         assert_eq!(rt; (status, out.bytes()), want, "{grammar:?} on {input:?}");
     }
     Ok(())
 }
 
+/// What is no thin grammar, and what doesn't go on to later rules.
 #[test]
-fn refuses_zeros_and_long_texts(rt: HostRuntime) -> anyhow::Result<()> {
+fn refuses_form_and_later(rt: HostRuntime) -> anyhow::Result<()> {
+    for (grammar, want) in REFUSED {
+        let (status, out) = answer(rt.alloc(), &parse_of(grammar, b"ab"))?;
+        assert_eq!(rt; (status, out.bytes()), want, "{grammar:?}");
+    }
+    Ok(())
+}
+
+/// G1 to G5, by `parse` and by `fmt`, before the input is read.
+#[test]
+fn refuses_texts_with_their_places(rt: HostRuntime) -> anyhow::Result<()> {
+    for (grammar, want) in PLACES {
+        for case in both_of(grammar) {
+            let (status, out) = answer(rt.alloc(), &case)?;
+            assert_eq!(rt;
+                (status, out.bytes()),
+                (Status::Refused, want),
+                "{grammar:?}"
+            );
+        }
+    }
+    Ok(())
+}
+
+/// Texts at the limits: 2^20 bytes, a thousand rules, and so on.
+#[test]
+fn refuses_long_texts_with_their_places(rt: HostRuntime) -> anyhow::Result<()> {
     let alloc = rt.alloc();
-    let zeros = vec![in alloc; 0u8; 64]?;
-    let (status, out) = try_parse(alloc, &plain(&zeros, b"ab"))?;
-    assert_eq!(rt; (status, out.bytes()), FORM);
-    let long = vec![in alloc; b' '; (1 << 20) + 1]?;
-    let (status, out) = try_parse(alloc, &plain(&long, b"ab"))?;
-    assert_eq!(rt; (status, out.bytes()), FORM);
+    for (head, piece, times, tail, want) in LONG_PLACES {
+        let grammar = long(alloc, head, piece, times, tail)?;
+        for case in both_of(&grammar) {
+            let (status, out) = answer(alloc, &case)?;
+            assert_eq!(rt; (status, out.bytes()), (Status::Refused, want));
+        }
+    }
+    Ok(())
+}
+
+/// Canonical texts, and those of canonical texts.
+#[test]
+fn formats_grammars(rt: HostRuntime) -> anyhow::Result<()> {
+    for (grammar, want) in FORMATTED {
+        for text in [grammar, want] {
+            let (status, out) = answer(rt.alloc(), &fmt_of(text))?;
+            assert_eq!(rt; (status, out.bytes()), (Status::Done, want));
+        }
+    }
     Ok(())
 }
 
 #[test]
 fn answers_words(rt: HostRuntime) -> anyhow::Result<()> {
-    let alloc = rt.alloc();
-    for words in [
-        &[] as &[&str],
-        &["parse"],
-        &["parse", "g"],
-        &["parse", "g", "f", "f"],
-        &["pars", "g", "f"],
-    ] {
-        let mut files = MemFiles::new(alloc, &[])?;
-        files.add("g", ROW)?;
-        files.add("f", b"ab")?;
-        let mut out = MemSink::new(alloc, 4096, &[])?;
-        let status = run_words(alloc, words, &mut files, &mut out)?;
-        assert_eq!(rt;
-            (status, out.bytes()),
-            (Status::Usage, b"usage\n" as &[u8]),
-            "{words:?}"
-        );
+    for words in WRONG_WORDS {
+        let case = Try {
+            words,
+            ..parse_of(ROW, b"ab")
+        };
+        let (status, out) = answer(rt.alloc(), &case)?;
+        assert_eq!(rt; (status, out.bytes()), USAGE, "{words:?}");
     }
     Ok(())
 }
 
+/// Files that are absent, and one name for both.
 #[test]
-fn answers_faults(rt: HostRuntime) -> anyhow::Result<()> {
-    let alloc = rt.alloc();
-    let row = plain(ROW, b"ab");
-    let fault: (Status, &[u8]) = (Status::ReadFault, b"read fault\n");
-    let absent = Try { input: None, ..row };
+fn answers_absent_files(rt: HostRuntime) -> anyhow::Result<()> {
+    let row = parse_of(ROW, b"ab");
+    let no_input = Try { input: None, ..row };
     let no_grammar = Try {
         grammar: None,
         ..row
     };
-    let refused = Try {
-        fail_reads: &[1],
-        ..plain(b"S", b"ab")
+    let neither = Try {
+        input: None,
+        ..no_grammar
     };
-    for (case, want) in [
-        (absent, fault),
-        (no_grammar, fault),
-        (
-            Try {
-                input: None,
-                ..no_grammar
-            },
-            fault,
-        ),
-        (
-            Try {
-                fail_reads: &[0],
-                ..row
-            },
-            fault,
-        ),
-        (
-            Try {
-                fail_reads: &[1],
-                ..row
-            },
-            fault,
-        ),
-        (refused, (Status::Refused, b"refused Form\n")),
-        (Try { room: 0, ..absent }, (Status::WriteFault, b"")),
-    ] {
-        let (status, out) = try_parse(alloc, &case)?;
+    let twice = Try {
+        words: &["parse", "g", "g"],
+        ..no_input
+    };
+    let fmt = Try {
+        words: FMT,
+        ..no_grammar
+    };
+    for case in [no_input, no_grammar, neither, fmt] {
+        let (status, out) = answer(rt.alloc(), &case)?;
+        assert_eq!(rt; (status, out.bytes()), READ_FAULT);
+    }
+    let (status, out) = answer(rt.alloc(), &twice)?;
+    assert_eq!(rt; (status, out.bytes()), NO_PARSE);
+    Ok(())
+}
+
+/// The reading of a number fails: it is told where its turn comes, and no earlier.
+#[test]
+fn answers_failing_reads(rt: HostRuntime) -> anyhow::Result<()> {
+    let row = parse_of(ROW, b"ab");
+    let syntax: Reply<'_> = (Status::Refused, b"refused G4 Syntax 1\n");
+    let cases: [(Try<'_>, &[u64], Reply<'_>); 8] = [
+        (row, &[0], READ_FAULT),
+        (row, &[1], READ_FAULT),
+        (row, &[2], TREE),
+        (parse_of(b"S", b"ab"), &[1], syntax),
+        (parse_of(b"S -> Bytes ;", b"ab"), &[1], FORM),
+        (parse_of(b"S -> S[0, 1] ;", b"ab"), &[1], LATER),
+        (fmt_of(ROW), &[0], READ_FAULT),
+        (fmt_of(ROW), &[1], (Status::Done, ROW_TEXT)),
+    ];
+    for (case, fail_reads, want) in cases {
+        let failing = Try { fail_reads, ..case };
+        let (status, out) = answer(rt.alloc(), &failing)?;
         assert_eq!(rt; (status, out.bytes()), want);
     }
-    for room in 0..ROW_TREE.len() {
-        let (status, out) = try_parse(
-            alloc,
-            &Try {
+    Ok(())
+}
+
+/// The room ends at each byte of a text.
+#[test]
+fn answers_narrow_rooms(rt: HostRuntime) -> anyhow::Result<()> {
+    let absent = Try {
+        input: None,
+        ..parse_of(ROW, b"")
+    };
+    let texts: [(Try<'_>, &[u8]); 5] = [
+        (parse_of(ROW, b"ab"), ROW_TREE),
+        (parse_of(ROW, b""), b"no parse\n"),
+        (parse_of(b"S", b""), b"refused G4 Syntax 1\n"),
+        (absent, b"read fault\n"),
+        (fmt_of(ROW), ROW_TEXT),
+    ];
+    for (case, text) in texts {
+        for room in 0..text.len() {
+            let narrow = Try {
                 room: room as u64,
-                ..row
-            },
-        )?;
-        assert_eq!(rt;
-            (status, out.bytes()),
-            (Status::WriteFault, &ROW_TREE[..room])
-        );
+                ..case
+            };
+            let (status, out) = answer(rt.alloc(), &narrow)?;
+            assert_eq!(rt; (status, out.bytes()), (Status::WriteFault, &text[..room]));
+        }
     }
-    for (fail_writes, want) in [(&[0u64], 22), (&[1], ROW_TREE.len())] {
-        let (status, out) = try_parse(alloc, &Try { fail_writes, ..row })?;
-        assert_eq!(rt;
-            (status, out.bytes()),
-            (Status::WriteFault, &ROW_TREE[..want])
-        );
+    Ok(())
+}
+
+/// The write of a number fails, after what fits of it; the tree has two lines, each a write.
+#[test]
+fn answers_failing_writes(rt: HostRuntime) -> anyhow::Result<()> {
+    let row = parse_of(ROW, b"ab");
+    let cases: [(Try<'_>, &[u64], Reply<'_>); 5] = [
+        (row, &[0], (Status::WriteFault, &ROW_TREE[..22])),
+        (row, &[1], (Status::WriteFault, ROW_TREE)),
+        (row, &[2], TREE),
+        (fmt_of(ROW), &[0], (Status::WriteFault, ROW_TEXT)),
+        (fmt_of(ROW), &[1], (Status::Done, ROW_TEXT)),
+    ];
+    for (case, fail_writes, want) in cases {
+        let failing = Try {
+            fail_writes,
+            ..case
+        };
+        let (status, out) = answer(rt.alloc(), &failing)?;
+        assert_eq!(rt; (status, out.bytes()), want);
     }
     Ok(())
 }

@@ -5,7 +5,7 @@ use Rattle.ipg_app.specs.Reply.{input_in, parse_input}
 use Rattle.ipg_app.specs.Run.{Settles}
 use Rattle.ipg_app.specs.Lines.{said_of}
 use Rattle.ipg_app.proofs.Settling.{goes_on, settles_by, input_too_long}
-use Rattle.ipg_app.proofs.settle.settle_input.Goals as goal
+use Rattle.ipg_app.proofs.settle.parse_input.Goals as goal
 
 pub returns-in-Err-TooLarge : goal.returns-in-Err-TooLarge
 returns-in-Err-TooLarge g c =

@@ -1,0 +1,21 @@
+//! Writes a grammar anew.
+ghost use Rattle.std.specs.Prelude.{◌≡◌, IfOk};
+ghost use Rattle.ipg_tokens.specs.Shaped.{canonical_text};
+ghost use Rattle.ipg_app.specs.Said.{done};
+ghost use Rattle.ipg_app.specs.Lines.{said_of};
+
+use crate::said::Settled;
+use crate::status::Status;
+use ipg_ast::{Grammar, text_of};
+use std::alloc::{AllocError, Global};
+
+/// The canonical text of a grammar.
+pub fn format(alloc: Global, g: &Grammar) -> Result<Settled, AllocError>
+    ensures { IfOk result (λ settled. said_of settled ≡ done (canonical_text g.now)) }
+{
+    let text = text_of(alloc, g)?;
+    Ok(Settled {
+        status: Status::Done,
+        lines: vec![in alloc; text]?,
+    })
+}
