@@ -1,8 +1,4 @@
 ghost use Rattle.std.specs.Prelude.{◌≡◌, ◌⊎◌, ◌≤◌, ◌^◌, MatchResult, length, Ok, Err};
-ghost use Rattle.ipg_syntax.specs.Machine as M;
-ghost use Rattle.ipg_syntax.specs.Classes.{classes};
-ghost use Rattle.ipg_syntax.specs.Counting.{counters};
-ghost use Rattle.ipg_syntax.specs.Making.{made};
 ghost use Rattle.ipg_syntax.specs.Reading.{read_of, place_of, counted_answer, made_answer};
 ghost use Rattle.ipg_read.specs.Counted.{verdict_of};
 ghost use Rattle.ipg_read.specs.Built.{outcome_of};

@@ -1,4 +1,4 @@
-ghost use Rattle.std.specs.Prelude.{◌≡◌, [], IfOk, option_map};
+ghost use Rattle.std.specs.Prelude.{◌≡◌, IfOk};
 ghost use Rattle.ipg_syntax.specs.Machine as M;
 ghost use Rattle.ipg_syntax.specs.Making.{infix_expr, last, alt_of, rule_of};
 ghost use Rattle.ipg_read.specs.Lexemes.{tok_of, ident_of, infix_of};

@@ -1,4 +1,4 @@
-ghost use Rattle.std.specs.Prelude.{◌≡◌, ℕ, ◌∷◌, List as Listed, IfOk, length, ◌≤◌, ◌^◌, Ok};
+ghost use Rattle.std.specs.Prelude.{◌≡◌, IfOk};
 ghost use Rattle.ipg_syntax.specs.Machine as M;
 ghost use Rattle.ipg_syntax.specs.Classes.{classes};
 ghost use Rattle.ipg_syntax.specs.Making.{made};

@@ -1,4 +1,4 @@
-ghost use Rattle.std.specs.Prelude.{◌≡◌, List, [], ◌∷◌, OnOk, MatchOption, IfOk};
+ghost use Rattle.std.specs.Prelude.{◌≡◌, List, [], ◌∷◌, OnOk, IfOk};
 ghost use Rattle.ipg_syntax.specs.Machine as M;
 ghost use Rattle.ipg_syntax.specs.Counting.{counters};
 ghost use Rattle.ipg_read.specs.Counted.{frame_of, Pops, Closes};
