@@ -1,5 +1,5 @@
 //! Writes a settled text.
-ghost use Rattle.std.specs.Prelude.{◌≡◌, OnOk, OnErr};
+ghost use Rattle.std.specs.Prelude.{OnOk, OnErr};
 ghost use Rattle.ipg_outside.specs.Faults.{Rose};
 ghost use Rattle.ipg_outside.specs.Sink.{Tells, Breaks};
 ghost use Rattle.ipg_app.specs.Run.{Writes};

@@ -1,9 +1,7 @@
-ghost use Rattle.std.specs.Prelude.{◌≡◌, ℕ, pos, ◌+◌, ◌<◌, ◌≤◌, ◌++◌, [], ◌∷◌, length, map, take, slice_index_or, IsTrue, IfOk, OnOk};
-ghost use Rattle.std.specs.List.{flat_map};
+ghost use Rattle.std.specs.Prelude.{◌≡◌, ◌+◌, ◌<◌, ◌≤◌, ◌++◌, [], ◌∷◌, length, map, IsTrue, IfOk, OnOk};
 ghost use Rattle.ipg_lin.specs.Form.{terms_width, in_rule};
 ghost use Rattle.ipg_lin.specs.Formula.{every, some, width, greatest};
-ghost use Rattle.ipg_cert.specs.Facts.{facts_of};
-ghost use Rattle.ipg_solve.specs.Spans.{span_at, fact_of_end, rules_out};
+ghost use Rattle.ipg_solve.specs.Spans.{fact_of_end, rules_out};
 ghost use Rattle.ipg_solve.specs.Closes.{entry_of, ClosesFormula, ClosesMembers, ClosesChoice, ClosesCases};
 ghost use Rattle.ipg_cert.specs.declared.refutation.Step.TheVariants.{Combine};
 

@@ -1,5 +1,4 @@
 ghost use Rattle.std.specs.Prelude.{◌≡◌, ◌^◌, ◌<◌, ◌≤◌, ◌&&◌, ◌||◌, false, length, map, IsTrue, IfSome};
-ghost use Rattle.std.specs.Ordering.{int_eq};
 ghost use Rattle.ipg_lin.specs.Formula.{every};
 ghost use Rattle.ipg_solve.specs.Decides.{Decides};
 ghost use Rattle.ipg_solve.specs.declared.decision.Decision.TheVariants.{Refuted};

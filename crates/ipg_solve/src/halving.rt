@@ -1,7 +1,6 @@
-ghost use Rattle.std.specs.Prelude.{◌≡◌, [], ◌∷◌, ◌++◌, ℕ, pos, negsuc, ◌+◌, ◌*◌, ◌<◌, ◌≤◌, ◌+ℤ◌, ◌≤ℤ◌, ◌<ℤ◌, List, length, map, reverse, slice_set, MatchOption, OnOk, IfOk, IsTrue};
+ghost use Rattle.std.specs.Prelude.{◌≡◌, [], ◌∷◌, ◌++◌, ◌+◌, ◌*◌, ◌<◌, ◌≤◌, ◌≤ℤ◌, ◌<ℤ◌, List, length, map, reverse, slice_set, MatchOption, OnOk, IfOk, IsTrue};
 ghost use Rattle.ipg_lin.specs.Formula.{width};
 ghost use Rattle.ipg_lin.specs.declared.formula.Boxed.{Boxed as Bounded};
-ghost use Rattle.ipg_cert.specs.Checks.{root_facts};
 ghost use Rattle.ipg_solve.specs.declared.span.Span.{Span as Spanned};
 ghost use Rattle.ipg_solve.specs.Spans.{span_at, width_of, rules_out, AreFull, ArePoints};
 ghost use Rattle.ipg_solve.specs.Cuts.{side_of, above, start_spans, spans_after, AreCuts, IsCut, Backs, Halved, Turns};

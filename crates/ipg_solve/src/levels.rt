@@ -1,4 +1,4 @@
-ghost use Rattle.std.specs.Prelude.{◌≡◌, ◌+◌, ◌^◌, ◌<◌, ◌≤◌, ◌∷◌, [], ◌-ℤ◌, ◌≤ℤ◌, length, IsTrue, IfOk};
+ghost use Rattle.std.specs.Prelude.{◌≡◌, ◌+◌, ◌^◌, ◌<◌, ◌≤◌, ◌∷◌, [], ◌-ℤ◌, ◌≤ℤ◌, length, IfOk};
 ghost use Rattle.ipg_lin.specs.Formula.{width};
 ghost use Rattle.ipg_walk.specs.Falls.{level_at};
 ghost use Rattle.ipg_solve.specs.Decides.{Decides};

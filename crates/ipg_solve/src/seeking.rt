@@ -1,6 +1,5 @@
-ghost use Rattle.std.specs.Prelude.{◌≤◌, length, IsTrue};
+ghost use Rattle.std.specs.Prelude.{◌≤◌, length};
 ghost use Rattle.ipg_lin.specs.Formula.{width, depth};
-ghost use Rattle.ipg_solve.specs.Decides.{Solves};
 
 use crate::candidate::solves;
 use crate::decision::Decision;

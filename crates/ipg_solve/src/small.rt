@@ -1,6 +1,6 @@
 //! Random small systems, decided and tried at every point.
 
-ghost use Rattle.std.specs.Prelude.{◌≡◌, ◌+◌, ◌*◌, ◌<◌, ◌≤◌, pos, negsuc, ◌≤ℤ◌, length, IfOk};
+ghost use Rattle.std.specs.Prelude.{◌≡◌, ◌+◌, ◌*◌, ◌<◌, ◌≤◌, pos, negsuc, ◌≤ℤ◌, IfOk};
 ghost use Rattle.ipg_lin.specs.Form.{terms_width};
 ghost use Rattle.ipg_lin.specs.Formula.{width, depth};
 

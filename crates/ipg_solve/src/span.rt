@@ -1,5 +1,3 @@
-ghost use Rattle.std.specs.Prelude.{◌≡◌, ◌<◌, length};
-ghost use Rattle.ipg_solve.specs.Spans.{span_at};
 
 /// What a variable can be, and the numbers of the facts that say so.
 #[derive(Clone, Copy)]

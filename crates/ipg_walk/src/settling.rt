@@ -1,4 +1,4 @@
-ghost use Rattle.std.specs.Prelude.{◌≡◌, ℕ, pos, ◌^◌, ◌<◌, ◌≤◌, length, IfOk};
+ghost use Rattle.std.specs.Prelude.{◌^◌, ◌<◌, ◌≤◌, length, IfOk};
 ghost use Rattle.ipg_walk.specs.Falls.{AreEdges, Settles, IsExact};
 ghost use Rattle.ipg_walk.specs.Trails.{IsWrong, State, Lowers};
 
