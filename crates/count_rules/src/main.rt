@@ -53,10 +53,12 @@ fn made(alloc: Global, kind: &str, size: u32) -> Result<Vec<u8>> {
     })
 }
 
-const ALT: &[u8] = b"{n = A.v + 1} ?(n > 0x2 && A.v != 7) U8[0, 1] A[n, EOI - 4] \"abcd\"[EOI - 4, EOI] \
+const ALT: &[u8] =
+    b"{n = A.v + 1} ?(n > 0x2 && A.v != 7) U8[0, 1] A[n, EOI - 4] \"abcd\"[EOI - 4, EOI] \
     switch {case (A.v == 1) B[0, n] case (A.v == 2) C[n, EOI] else D} for i = 0 to A.v do E[4 * i, 4 * i + 4]";
 
-const SLASH_ALT: &[u8] = b" / {n = A.v + 1} ?(n > 0x2 && A.v != 7) U8[0, 1] A[n, EOI - 4] \"abcd\"[EOI - 4, EOI] \
+const SLASH_ALT: &[u8] =
+    b" / {n = A.v + 1} ?(n > 0x2 && A.v != 7) U8[0, 1] A[n, EOI - 4] \"abcd\"[EOI - 4, EOI] \
     switch {case (A.v == 1) B[0, n] case (A.v == 2) C[n, EOI] else D} for i = 0 to A.v do E[4 * i, 4 * i + 4]";
 
 /// How many rules the text has, or where it breaks.

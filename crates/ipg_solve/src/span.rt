@@ -1,4 +1,3 @@
-
 /// What a variable can be, and the numbers of the facts that say so.
 #[derive(Clone, Copy)]
 pub struct Span {
