@@ -1,4 +1,4 @@
-use Rattle.std.proofs.Common.{◌≡◌, ◌≤◌, map, subst, sym, arith}
+use Rattle.std.proofs.Common.{◌≤◌, map, subst, sym, arith}
 use Rattle.ipg_lin.specs.Formula.{greatest, width, depth}
 use Rattle.ipg_solve.proofs.Greatest.{greatest_push}
 use Rattle.ipg_solve.proofs.small.differences.Goals as goal
