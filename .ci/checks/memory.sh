@@ -1,0 +1,44 @@
+#!/usr/bin/env bash
+# Refuses each request for memory in turn: the program ends with 7 and says nothing, or answers as ever.
+set -u
+cd "$(dirname "$0")/../.." || exit 1
+command -v cc >/dev/null || {
+  echo "memory: skipped, for want of a C compiler"
+  exit 0
+}
+folder=$(mktemp -d) || exit 1
+trap 'rm -rf "$folder"' EXIT
+cc -shared -fPIC -O1 -o "$folder/refuse.so" .ci/refuse.c || exit 1
+cat >"$folder/g" <<'END'
+S -> A[1, EOI] B[0, 1] / A[0, EOI - 1] ; # two alternatives
+A -> "b"[0, 1] / "c"[0, 1] ;
+B -> "\x61"[0, 0x1] ;
+END
+printf 'ac' >"$folder/input"
+
+# each WORDS..: runs the program with these words once for each request, up to the first run that refuses none.
+each() {
+  local due number=0 refused=0 status
+  due=$(./ipg "$@") || return 1
+  while true; do
+    number=$((number + 1))
+    REFUSED=$number LD_PRELOAD="$folder/refuse.so" crates/ipg_app/out/ipg_app "$@" >"$folder/out" 2>"$folder/err"
+    status=$?
+    [ -s "$folder/err" ] || break
+    if [ "$status" -eq 7 ] && [ ! -s "$folder/out" ]; then
+      refused=$((refused + 1))
+    elif [ "$status" -ne 0 ] || [ "$(cat "$folder/out")" != "$due" ]; then
+      echo "memory: $*: request $number refused: status $status"
+      return 1
+    fi
+  done
+  if [ "$status" -ne 0 ] || [ "$refused" -eq 0 ]; then
+    echo "memory: $*: no request was refused"
+    return 1
+  fi
+  echo "memory: $1: $((number - 1)) requests, each refused in turn; $refused ended the run"
+}
+
+each parse crates/ipg_app/data/row.ipg crates/ipg_app/data/row.bin &&
+  each parse "$folder/g" "$folder/input" &&
+  each fmt "$folder/g"
