@@ -58,8 +58,9 @@ fn crossing(alloc: Global, x: usize) -> Result<Refutation, AllocError>
 
 /// A solution of the formula in the box, exactly where there is one, and otherwise a refutation that
 /// checks. Where the formula is differences alone, `x - y + c <= 0`, `x + c <= 0`, `-x + c <= 0` or
-/// `c <= 0`, the refutation is one Combine of at most one fact more than there are variables. It goes as deep as members stand in one another, so formulas that nest deeper than 4096 are
-/// not asked.
+/// `c <= 0`, the refutation is one Combine of at most one fact more than there are variables, of which
+/// there are fewer than 2^21. It goes as deep as members stand in one another, so formulas that nest
+/// deeper than 4096 are not asked.
 pub fn decide(alloc: Global, f: &Formula, b: &Boxed) -> Result<Decision, AllocError>
     requires valued { width f.now ≤ length b.now.bounds }
     requires shallow { depth f.now ≤ 4096 }
