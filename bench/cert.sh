@@ -3,16 +3,9 @@
 # Splits. Run `rt run bench_cert` once before, which builds it.
 set -eu
 cd "$(dirname "$0")/.."
+. bench/least.sh
 
-# The least of five runs, in milliseconds.
 for size in "combine 524288" "combine 1048576" "splits 50000" "splits 100000"; do
-  best=999999
-  for _ in 1 2 3 4 5; do
-    from=$(date +%s%N)
-    # shellcheck disable=SC2086
-    crates/bench_cert/out/bench_cert $size >/dev/null
-    took=$((($(date +%s%N) - from) / 1000000))
-    if [ "$took" -lt "$best" ]; then best=$took; fi
-  done
-  echo "$best ms  $size"
+  # shellcheck disable=SC2086
+  least crates/bench_cert/out/bench_cert $size
 done

@@ -5,18 +5,7 @@
 # `rt test ipg_solve` once before, which build them.
 set -eu
 cd "$(dirname "$0")/.."
-
-# The least of five runs, in microseconds.
-least() {
-  local best=999999999 told=
-  for _ in 1 2 3 4 5; do
-    local from=$(date +%s%N)
-    told=$("$@" | tail -n 1)
-    local took=$((($(date +%s%N) - from) / 1000))
-    if [ "$took" -lt "$best" ]; then best=$took; fi
-  done
-  echo "$best us  ${*:2}: ${told%%.*}"
-}
+. bench/least.sh
 
 for size in "chain 100" "chain 1000" "chain 10000" "cycle 100" "cycle 1000" "cycle 10000" \
   "open 50" "open 100" "open 250" "closed 50" "closed 100" "closed 250"; do
