@@ -7,7 +7,7 @@ use Rattle.ipg_ast.specs.declared.grammar.Grammar.{Grammar}
 use Rattle.ipg_ast.specs.declared.grammar.Rule.{Rule, out-Rule}
 use Rattle.ipg_ast.specs.declared.grammar.Alt.{Alt, out-Alt}
 use Rattle.ipg_ast.specs.declared.grammar.Term.{Term}
-use Rattle.ipg_ast.specs.declared.grammar.Term.TheVariants.{Slot as SlotTerm, Set, Test, Repeat, Pick}
+use Rattle.ipg_ast.specs.declared.grammar.Term.TheVariants.{Slot as SlotTerm, Set, Test, Repeat, Many, Pick}
 use Rattle.ipg_ast.specs.declared.grammar.Case.{Case}
 use Rattle.ipg_ast.specs.declared.grammar.Slot.{Slot}
 use Rattle.ipg_ast.specs.declared.grammar.Place.{Place}
@@ -112,11 +112,13 @@ IsFormedSlot s = IsFormedPlace s.place
 abbrev pub IsFormedCase : Case → Type 0
 IsFormedCase c = IsFormedExpr c.cond × IsFormedSlot c.slot
 
+-- a repetition has no text yet: the grammar of grammars doesn't take one
 abbrev pub IsFormedTerm : Term → Type 0
 IsFormedTerm (SlotTerm s) = IsFormedSlot s
 IsFormedTerm (Set name value) = IsFormedExpr value
 IsFormedTerm (Test at cond) = IsFormedExpr cond
 IsFormedTerm (Repeat var first last item from to) = IsFormedExpr first × IsFormedExpr last × IsFormedExpr from × IsFormedExpr to
+IsFormedTerm (Many at item place) = ⊥
 IsFormedTerm (Pick at cases other) = (0 < length cases) × AllByRecursion IsFormedCase cases × IsFormedSlot other
 
 pub record IsFormedTerms (terms : List Term) : Type 0 where

@@ -6,7 +6,7 @@ use Rattle.ipg_ast.specs.declared.grammar.Grammar.{Grammar}
 use Rattle.ipg_ast.specs.declared.grammar.Rule.{Rule, out-Rule}
 use Rattle.ipg_ast.specs.declared.grammar.Alt.{Alt, out-Alt}
 use Rattle.ipg_ast.specs.declared.grammar.Term.{Term}
-use Rattle.ipg_ast.specs.declared.grammar.Term.TheVariants.{Slot as SlotTerm, Set, Test, Repeat, Pick}
+use Rattle.ipg_ast.specs.declared.grammar.Term.TheVariants.{Slot as SlotTerm, Set, Test, Repeat, Many, Pick}
 use Rattle.ipg_ast.specs.declared.grammar.Case.{Case}
 use Rattle.ipg_ast.specs.declared.grammar.Slot.{Slot}
 use Rattle.ipg_ast.specs.declared.grammar.What.{What}
@@ -92,6 +92,7 @@ term_tokens (Test at cond) = Symbol (codes "?") ∷ Symbol (codes "(") ∷ (expr
 term_tokens (Repeat var first last item from to) =
     Word (codes "for") ∷ Name var.name ∷ Symbol (codes "=") ∷ (expr_tokens first ++ (Word (codes "to") ∷ (expr_tokens last
     ++ (Word (codes "do") ∷ Name item.name ∷ place_tokens (Ends from to)))))
+term_tokens (Many at item place) = Word (codes "many") ∷ Name item.name ∷ place_tokens place
 term_tokens (Pick at cases other) =
     Word (codes "switch") ∷ Symbol (codes "{") ∷ (cases_tokens cases ++ (Word (codes "else") ∷ (slot_tokens other ++ (Symbol (codes "}") ∷ []))))
 

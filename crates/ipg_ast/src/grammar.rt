@@ -58,6 +58,12 @@ pub enum Term {
         from: Expr,
         to: Expr,
     },
+    /// `many item place`; `at` is the place of its first token.
+    Many {
+        at: Span,
+        item: Ident,
+        place: Place,
+    },
     /// `switch { case(cond) slot .. else other }`; `at` is the place of its first token.
     Pick {
         at: Span,

@@ -131,6 +131,11 @@ fn put_term(term: &Term, out: &mut Vec<u8>) -> Result<(), AllocError>
             put(item.name.as_slice(), out)?;
             put_ends(from, to, out)
         }
+        Term::Many { at: _, item, place } => {
+            put(b"many", out)?;
+            put(item.name.as_slice(), out)?;
+            put_place(place, out)
+        }
         Term::Pick {
             at: _,
             cases,
