@@ -6,7 +6,7 @@ use Rattle.ipg_core.specs.declared.grammar.CoreField.{CoreField}
 use Rattle.ipg_core.specs.declared.grammar.CoreField.TheVariants.{Attr, Start, End}
 use Rattle.ipg_core.specs.declared.grammar.Sym.{Sym}
 use Rattle.ipg_core.specs.Grammar.{name_at, same_sym, is_text}
-use Rattle.ipg_core.specs.Tree.{Kid, Sub, Token, Number, Raw, Array, Kids, no_kids, items_of, sym_of, attrs_of}
+use Rattle.ipg_core.specs.Tree.{Kid, Sub, Token, Number, Raw, Array, Many, Kids, no_kids, items_of, sym_of, attrs_of}
 use Rattle.ipg_core.specs.Touch.{ends_of}
 
 -- attributes with their values, the first entry of a name counting
@@ -42,7 +42,7 @@ if_done (Some d) = d
 abbrev pub done_at : List (Option Done) → ℕ → Option Done
 done_at done term = if_done (slice_get done term)
 
--- the items of an array so far, which are none before it has begun
+-- the items of an array or a repetition so far, which are none before it has begun
 abbrev pub items_so_far : Option Done → Kids
 items_so_far None = no_kids
 items_so_far (Some d) = items_of d.kid
@@ -74,10 +74,12 @@ attr_of names a (Token from to bytes) = None
 attr_of names a (Number from to prim high low) = number_attr prim (name_at names a) high low
 attr_of names a (Raw from to bytes) = None
 attr_of names a (Array sym items) = None
+attr_of names a (Many sym items) = None
 
--- a field of what was parsed, places being those of the parent's part; an array has none
+-- a field of what was parsed, places being those of the parent's part; an array or a repetition has none
 abbrev pub field_of : List (List ℕ) → CoreField → Kid → Option ℤ
 field_of names field (Array sym items) = None
+field_of names field (Many sym items) = None
 field_of names (Attr a) k = attr_of names a k
 field_of names Start k = Some (pos (ends_of k).start)
 field_of names End k = Some (pos (ends_of k).end)

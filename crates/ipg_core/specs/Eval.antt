@@ -39,7 +39,7 @@ abbrev pub greatest_end : Kids → Option ℕ
 greatest_end no_kids = None
 greatest_end (kid k ks) = later (ends_of k) (greatest_end ks)
 
--- behind an array: the greatest end, else `left`
+-- behind an array or a repetition: the greatest end, else `left`
 abbrev pub behind : Option ℕ → Answer → Answer
 behind None left = left
 behind (Some end) left = Val (pos end)

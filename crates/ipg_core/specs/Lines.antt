@@ -1,4 +1,4 @@
--- The printed tree: a line for each node, terminal, number, raw bytes and array, in preorder.
+-- The printed tree: a line for each node, terminal, number, raw bytes, array and repetition, in preorder.
 use Rattle.std.specs.Prelude.{ℕ, ◌+◌, ◌-◌, ◌/◌, ◌%◌, List, [], ◌∷◌, ◌++◌, map, flat_map, take, length, nat_le, if◌then◌else◌, decimal, codes, slice_index, ℤ, Option, Some, None}
 use Rattle.std.specs.Fmt.{signed_decimal}
 use Rattle.ipg_core.specs.declared.grammar.Primitive.{Primitive}
@@ -7,7 +7,7 @@ use Rattle.ipg_core.specs.declared.grammar.Sym.{Sym}
 use Rattle.ipg_core.specs.declared.grammar.Sym.TheVariants.{Text, Prim, Rule}
 use Rattle.ipg_core.specs.declared.grammar.CoreRule.{CoreRule}
 use Rattle.ipg_core.specs.Grammar.{Grammar, rule_at, name_at}
-use Rattle.ipg_core.specs.Tree.{Tree, Node, Kid, Sub, Token, Number, Raw, Array, Kids, no_kids, kid, count_of}
+use Rattle.ipg_core.specs.Tree.{Tree, Node, Kid, Sub, Token, Number, Raw, Array, Many, Kids, no_kids, kid, count_of}
 
 -- words parted by one space, and a line feed
 abbrev pub line : List (List ℕ) → List ℕ
@@ -51,7 +51,7 @@ name_of (Some rule) = rule.name
 abbrev pub rule_name : Grammar → ℕ → List ℕ
 rule_name g r = name_of (rule_at g r)
 
--- a terminal is no symbol of an array, and has no name
+-- a terminal is no symbol of an array or a repetition, and has no name
 abbrev pub sym_name : Grammar → Sym → List ℕ
 sym_name g (Text bytes) = []
 sym_name g (Prim prim) = primitive_name prim
@@ -80,8 +80,9 @@ node_line g depth at rule size start end attrs =
 abbrev pub leaf_line : ℕ → ℕ → List ℕ → ℕ → ℕ → List (List ℕ) → List ℕ
 leaf_line depth at kind from to shown = line (decimal depth ∷ kind ∷ decimal (at + from) ∷ decimal (at + to) ∷ shown)
 
-abbrev pub array_line : Grammar → ℕ → Sym → Kids → List ℕ
-array_line g depth sym items = line (decimal depth ∷ codes "for" ∷ sym_name g sym ∷ decimal (count_of items) ∷ [])
+-- a line of items: depth, kind, symbol and count
+abbrev pub items_line : Grammar → ℕ → List ℕ → Sym → Kids → List ℕ
+items_line g depth kind sym items = line (decimal depth ∷ kind ∷ sym_name g sym ∷ decimal (count_of items) ∷ [])
 
 -- the lines of a tree whose part begins at an absolute place, of a child and of children whose parent's part does
 abbrev mutual
@@ -95,7 +96,8 @@ abbrev mutual
   kid_lines g depth at (Number from to prim high low) =
       leaf_line depth at (primitive_name prim) from to (number_words prim high low) ∷ []
   kid_lines g depth at (Raw from to bytes) = leaf_line depth at (codes "Bytes") from to (short_hex bytes ∷ []) ∷ []
-  kid_lines g depth at (Array sym items) = array_line g depth sym items ∷ kids_lines g (depth + 1) at items
+  kid_lines g depth at (Array sym items) = items_line g depth (codes "for") sym items ∷ kids_lines g (depth + 1) at items
+  kid_lines g depth at (Many sym items) = items_line g depth (codes "many") sym items ∷ kids_lines g (depth + 1) at items
 
   pub kids_lines : Grammar → ℕ → ℕ → Kids → List (List ℕ)
   kids_lines g depth at no_kids = []

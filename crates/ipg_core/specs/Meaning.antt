@@ -1,5 +1,5 @@
 -- What a grammar means: the tree that a rule has on a part, found to a height.
-use Rattle.std.specs.Prelude.{◌≡◌, ◌≢◌, ℕ, zero, suc, ◌+◌, List, [], ◌∷◌, ◌++◌, Result, Err, Option, Some, None, Bool, true, false, ℤ, pos, negsuc, ◌+ℤ◌, ◌-ℤ◌, drop, length, replicate, nat_lt, bytes_eq, take, if◌then◌else◌, slice_get, slice_set}
+use Rattle.std.specs.Prelude.{◌≡◌, ◌≢◌, ℕ, zero, suc, ◌+◌, List, [], ◌∷◌, ◌++◌, Result, Ok, Err, Option, Some, None, Bool, true, false, ℤ, pos, negsuc, ◌+ℤ◌, ◌-ℤ◌, ◌-◌, drop, length, replicate, nat_lt, nat_le, bytes_eq, take, if◌then◌else◌, slice_get, slice_set}
 use Rattle.std.specs.Int.{w8, w16, w32, from_le_bytes, from_be_bytes}
 use Rattle.ipg_core.specs.declared.grammar.Primitive.{Primitive}
 use Rattle.ipg_core.specs.declared.grammar.Primitive.TheVariants.{U8, U16LE, U16BE, U32LE, U32BE, U64LE, U64BE, Bytes}
@@ -8,16 +8,16 @@ use Rattle.ipg_core.specs.declared.grammar.Sym.TheVariants.{Text, Prim, Rule}
 use Rattle.ipg_core.specs.declared.grammar.CoreExpr.{CoreExpr}
 use Rattle.ipg_core.specs.declared.grammar.CoreSlot.{CoreSlot}
 use Rattle.ipg_core.specs.declared.grammar.CoreTerm.{CoreTerm}
-use Rattle.ipg_core.specs.declared.grammar.CoreTerm.TheVariants.{Slot, Set, Test, Repeat, Pick}
+use Rattle.ipg_core.specs.declared.grammar.CoreTerm.TheVariants.{Slot, Set, Test, Repeat, Many, Pick}
 use Rattle.ipg_core.specs.declared.grammar.CoreAlt.{CoreAlt}
 use Rattle.ipg_core.specs.declared.grammar.CoreRule.{CoreRule}
 use Rattle.ipg_core.specs.Grammar.{Grammar, rule_at, holder_of, same_place}
 use Rattle.ipg_core.specs.Part.{part, interval}
-use Rattle.ipg_core.specs.Tree.{Tree, Node, Kid, Sub, Token, Number, Raw, Array, kids_of}
-use Rattle.ipg_core.specs.Touch.{width, untouched, kids_touch}
+use Rattle.ipg_core.specs.Tree.{Tree, Node, Kid, Sub, Token, Number, Raw, Array, Many as Repetition, kids_of}
+use Rattle.ipg_core.specs.Touch.{width, untouched, touches, ends_of, kids_touch}
 use Rattle.ipg_core.specs.Environment.{Values, value_at, Done, Environment}
 use Rattle.ipg_core.specs.Eval.{eval, is_zero}
-use Rattle.ipg_core.specs.Run.{Stop, NoTree, Deep, Run, finish, stop, ◌>>=◌, or_else, value_of, some_of}
+use Rattle.ipg_core.specs.Run.{Stop, NoTree, OutOfRange, Deep, Run, finish, stop, after, ◌>>=◌, or_else, value_of, some_of}
 
 -- what a call answers: a rule on a part, with the holder's attributes
 abbrev pub Call : Type 0
@@ -123,6 +123,38 @@ abbrev pub times : ℤ → ℕ
 times (pos n) = n
 times (negsuc n) = 0
 
+-- where an item of a repetition from p to r ends its part: a number takes its width, all else what is left
+abbrev pub item_end : ℕ → ℕ → Sym → Option ℕ
+item_end p r (Text token) = Some r
+item_end p r (Rule callee) = Some r
+item_end p r (Prim Bytes) = Some r
+item_end p r (Prim prim) = if nat_le (p + width prim) r then Some (p + width prim) else None
+
+-- an item of a repetition
+unfoldable pub item_on : Call → Frame → Place → Values → ℕ → ℕ → Sym → Run Kid
+item_on call f place own p r sym = do
+  to ← some_of (item_end p r sym)
+  symbol_on call f place own p to sym
+
+-- an item that touches a byte is kept, and the repetition goes on from its end; one that touches none, or has no tree,
+-- ends the repetition
+unfoldable pub kept : Result Kid Stop → List Kid → (ℕ → List Kid → Run (List Kid)) → Run (List Kid)
+kept (Ok item) items go = if touches (ends_of item) then go (ends_of item).end (items ++ item ∷ []) else finish items
+kept (Err NoTree) items go = finish items
+kept (Err OutOfRange) items go = stop OutOfRange
+kept (Err Deep) items go = stop Deep
+
+-- the items of a repetition from p to r, in n turns at most
+unfoldable pub many_on : Call → Frame → Place → Values → Sym → ℕ → ℕ → ℕ → List Kid → Run (List Kid)
+many_on call f place own sym zero p r items = finish items
+many_on call f place own sym (suc n) p r items =
+    let item = item_on call f place own p r sym in
+    after item.asked (kept item.answer items (λ end more. many_on call f place own sym n end r more))
+
+-- each item that is kept touches a byte, so these turns suffice
+abbrev pub turns : ℕ → ℕ → ℕ
+turns l r = (r - l) + 1
+
 -- the first branch whose condition isn't 0, else the last one
 unfoldable pub pick_on : Call → Frame → Place → State → List (CoreExpr × CoreSlot) → CoreSlot → Run Kid
 pick_on call f place state [] other = slot_on call f place state None other
@@ -148,6 +180,12 @@ term_on call f state u (Some (Repeat first last sym from to)) = do
   b ← value_in f state None last
   items ← items_on call f u state (record { sym = sym; from = from; to = to }) (times (b -ℤ a)) a []
   finish (with_kid state u false (Array sym (kids_of items)))
+term_on call f state u (Some (Many sym from to)) = do
+  l ← value_in f state None from
+  r ← value_in f state None to
+  ends ← some_of (interval (length f.bytes) l r)
+  items ← many_on call f (record { term = u; branch = 0 }) state.own sym (turns ends.0 ends.1) ends.0 ends.1 []
+  finish (with_kid state u false (Repetition sym (kids_of items)))
 term_on call f state u (Some (Pick cases other)) = do
   kid ← pick_on call f (record { term = u; branch = 0 }) state cases other
   finish (with_kid state u true kid)
@@ -177,6 +215,7 @@ attrs_set (Set a e ∷ terms) own = entry a (value_at own a) ++ attrs_set terms 
 attrs_set (Slot s ∷ terms) own = attrs_set terms own
 attrs_set (Test e ∷ terms) own = attrs_set terms own
 attrs_set (Repeat first last sym from to ∷ terms) own = attrs_set terms own
+attrs_set (Many sym from to ∷ terms) own = attrs_set terms own
 attrs_set (Pick cases other ∷ terms) own = attrs_set terms own
 
 -- the node of an alternative whose terms have all run

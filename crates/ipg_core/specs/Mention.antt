@@ -8,10 +8,10 @@ use Rattle.ipg_core.specs.declared.grammar.CoreExpr.{CoreExpr, fold-CoreExpr}
 use Rattle.ipg_core.specs.declared.grammar.CoreExpr.TheOpen.{CoreExpr-F}
 use Rattle.ipg_core.specs.declared.grammar.CoreSlot.{CoreSlot}
 use Rattle.ipg_core.specs.declared.grammar.CoreTerm.{CoreTerm}
-use Rattle.ipg_core.specs.declared.grammar.CoreTerm.TheVariants.{Slot, Set, Test, Repeat, Pick}
+use Rattle.ipg_core.specs.declared.grammar.CoreTerm.TheVariants.{Slot, Set, Test, Repeat, Many, Pick}
 
 pub data Mention : Type 0 where
-  -- the result of a slot or a switch, read by a symbol; the items of an array; the end of an array
+  -- the result of a slot or a switch, read by a symbol; the items of an array or a repetition; the end behind them
   SeenOf : (term : ℕ) → Sym → Mention
   ItemOf : (term : ℕ) → Mention
   AfterOf : (term : ℕ) → Mention
@@ -60,6 +60,7 @@ term_mentions (Set attr e) = mentions e
 term_mentions (Test e) = mentions e
 term_mentions (Repeat first last item from to) =
     mentions first ++ (mentions last ++ (mentions from ++ mentions to))
+term_mentions (Many item from to) = mentions from ++ mentions to
 term_mentions (Pick cases other) = flat_map case_mentions cases ++ slot_mentions other
 
 -- the symbols that a term parses
@@ -68,6 +69,7 @@ term_syms (Slot slot) = slot.sym ∷ []
 term_syms (Set attr e) = []
 term_syms (Test e) = []
 term_syms (Repeat first last item from to) = item ∷ []
+term_syms (Many item from to) = item ∷ []
 term_syms (Pick cases other) = flat_map (λ c. c.1.sym ∷ []) cases ++ other.sym ∷ []
 
 -- P holds of each symbol that a term parses
@@ -76,4 +78,5 @@ EachSym P (Slot slot) = P slot.sym
 EachSym P (Set attr e) = Unit {0}
 EachSym P (Test e) = Unit {0}
 EachSym P (Repeat first last item from to) = P item
+EachSym P (Many item from to) = P item
 EachSym P (Pick cases other) = AllByRecursion (λ c. P c.1.sym) cases × P other.sym

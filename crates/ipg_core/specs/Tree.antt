@@ -20,6 +20,8 @@ mutual
     Raw : (from to : ℕ) → List ℕ → Kid
     -- an array of items of one symbol
     Array : Sym → Kids → Kid
+    -- a repetition of items of one symbol
+    Many : Sym → Kids → Kid
 
   pub data Kids : Type 0 where
     no_kids : Kids
@@ -45,6 +47,7 @@ items_of (Token from to bytes) = no_kids
 items_of (Number from to prim high low) = no_kids
 items_of (Raw from to bytes) = no_kids
 items_of (Array sym items) = items
+items_of (Many sym items) = items
 
 abbrev pub rule_of : Tree → ℕ
 rule_of (Node rule size attrs start end kids) = rule
@@ -59,3 +62,4 @@ sym_of (Token from to bytes) = Text bytes
 sym_of (Number from to prim high low) = Prim prim
 sym_of (Raw from to bytes) = Prim Bytes
 sym_of (Array sym items) = sym
+sym_of (Many sym items) = sym

@@ -52,13 +52,13 @@ pub enum CoreExpr {
         sym: Sym,
         field: CoreField,
     },
-    /// A field of an item of an array.
+    /// A field of an item of an array or a repetition.
     Item {
         term: u32,
         index: Held<CoreExpr>,
         field: CoreField,
     },
-    /// The greatest end of an array's items that touch, else `left`.
+    /// The greatest end of the items of an array or a repetition that touch, else `left`.
     After {
         term: u32,
         left: Held<CoreExpr>,
@@ -90,6 +90,12 @@ pub enum CoreTerm {
     Repeat {
         first: CoreExpr,
         last: CoreExpr,
+        item: Sym,
+        from: CoreExpr,
+        to: CoreExpr,
+    },
+    /// Items one after another on `[from, to]`, each from the end of the one before.
+    Many {
         item: Sym,
         from: CoreExpr,
         to: CoreExpr,
