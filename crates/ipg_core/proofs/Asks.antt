@@ -20,7 +20,7 @@ pub asks_finish : {A : Type 0} {Q : Asked → Type 0} (a : A) → Asks Q (finish
 unfolding finish
 asks_finish a = record { each = tt }
 
-pub asks_stop : {A : Type 0} {Q : Asked → Type 0} (why : Stop) → Asks {A} Q (stop why)
+pub asks_stop : {A : Type 0} {Q : Asked → Type 0} (why : Stop) → Asks Q (stop {A = A} why)
 unfolding stop
 asks_stop why = record { each = tt }
 

@@ -8,3 +8,4 @@ pub mod Within
 pub mod Turns
 pub mod Touching
 pub mod Asks
+pub mod Grows

@@ -175,7 +175,7 @@ number_end : (n from end to w : ℕ) (b : Bool) → nat_le (from + w) to ≡ b �
 number_end n from end to w true t i e = same_end n from (from + w) end to i (omega arith) (leb-true _ _ t) e
 number_end n from end to w false t i e = absurd (cc)
 
-item_interval : {n : ℕ} (from end to : ℕ) (sym : Sym) → IsInterval n from to → item_end from to sym ≡ Some end → IsInterval n from end × (end ≤ to)
+pub item_interval : {n : ℕ} (from end to : ℕ) (sym : Sym) → IsInterval n from to → item_end from to sym ≡ Some end → IsInterval n from end × (end ≤ to)
 item_interval {n} from end to (Text token) i e = same_end n from to end to i i.valid (omega arith) e
 item_interval {n} from end to (Rule callee) i e = same_end n from to end to i i.valid (omega arith) e
 item_interval {n} from end to (Prim Bytes) i e = same_end n from to end to i i.valid (omega arith) e
