@@ -23,7 +23,7 @@ use Rattle.ipg_core.specs.Touch.{ends_of}
 use Rattle.ipg_core.specs.Environment.{Values}
 use Rattle.ipg_core.specs.Eval.{is_zero, eval}
 use Rattle.ipg_core.specs.Run.{Stop, NoTree, Asked, Run, finish, stop, after, go_on, ◌>>=◌, some_of}
-use Rattle.ipg_core.specs.Meaning.{Call, Frame, State, Place, environment, value_in, outer_for, ask, token_on, number_on, primitive_on, symbol_on, slot_on, items_on, times, item_end, item_on, many_on, turns, pick_on, with_kid, term_on, terms_on, start, alt_on, alts_on, rule_run, rule_on, den}
+use Rattle.ipg_core.specs.Meaning.{Call, Frame, State, Place, environment, value_in, outer_for, ask, token_on, number_on, primitive_on, symbol_on, slot_on, items_on, times, item_end, item_on, many_on, turns, repetition_on, pick_on, with_kid, term_on, terms_on, start, alt_on, alts_on, rule_run, rule_on, den}
 use Rattle.ipg_core.specs.Mention.{EachSym, term_syms}
 use Rattle.ipg_core.specs.Order.{TermOf}
 use Rattle.ipg_core.specs.Good.{AltAt, IsCallable, MayCall, IsGlobalAlt, Good}
@@ -183,6 +183,14 @@ module _ (call : Call) (calls : WithinCalls call) (f : Frame) where
       asks_bind _ _ (value_asks state None c.0) (λ x _.
       asks_chosen (is_zero x) _ _ (pick_asks (record p { branch = p.branch + 1 }) state cases other h.1 k) (slot_asks p state None c.1 h.0))
 
+  repetition_asks : (p : Place) (state : State) (slot : CoreSlot) → SymFits state.own slot.sym → Asks FitsHere (repetition_on call f p state slot)
+  unfolding repetition_on
+  repetition_asks p state slot h =
+      asks_bind _ _ (value_asks state None slot.from) (λ l _.
+      asks_bind _ _ (value_asks state None slot.to) (λ r _.
+      asks_bind _ _ (asks_some (interval (length f.bytes) l r)) (λ ends e.
+      many_asks p state.own slot.sym h (turns ends.0 ends.1) ends.0 ends.1 [] (valid _ l r ends.0 ends.1 ((yields_some (interval (length f.bytes) l r)).holds ends e)))))
+
   term_asks : (state : State) (u : ℕ) (term : CoreTerm) → EachSym (SymFits state.own) term → Asks FitsHere (term_on call f state u (Some term))
   term_asks state u (Slot slot) h = asks_bind _ _ (slot_asks _ state None slot h) (λ kid _. asks_finish _)
   term_asks state u (Set attr e) h = asks_bind _ _ (value_asks state None e) (λ z _. asks_finish _)
@@ -191,11 +199,7 @@ module _ (call : Call) (calls : WithinCalls call) (f : Frame) where
       asks_bind _ _ (value_asks state None first) (λ a _.
       asks_bind _ _ (value_asks state None last) (λ b _.
       asks_bind _ _ (items_ask u state (record { sym = item; from = from; to = to }) (times (b -ℤ a)) a [] h) (λ items _. asks_finish _)))
-  term_asks state u (Many item from to) h =
-      asks_bind _ _ (value_asks state None from) (λ l _.
-      asks_bind _ _ (value_asks state None to) (λ r _.
-      asks_bind _ _ (asks_some (interval (length f.bytes) l r)) (λ ends e.
-      asks_bind _ _ (many_asks _ state.own item h (turns ends.0 ends.1) ends.0 ends.1 [] (valid _ l r ends.0 ends.1 ((yields_some (interval (length f.bytes) l r)).holds ends e))) (λ items _. asks_finish _))))
+  term_asks state u (Many item from to) h = asks_bind _ _ (repetition_asks _ state _ h) (λ items _. asks_finish _)
   term_asks state u (Pick cases other) h = asks_bind _ _ (pick_asks _ state cases other h.0 h.1) (λ kid _. asks_finish _)
 
 -- ---- what a called rule is grown by

@@ -195,8 +195,8 @@ module _ (marks : Marks) (call : Call) (calls : TouchingCalls marks call) (f : F
       yields_then _ _ (λ a _. yields_then _ _ (λ b _. yields_then _ _ (λ items _.
       yields_finish _ (kid_on_the_way _ u v _ taken false state _ lt refl h (λ same. absurd (true≢false (sym (marked_term terms u v _ m e same))))))))
   term_on_the_way terms u v taken state (Some (Many item from to)) m lt e h =
-      yields_then _ _ (λ l _. yields_then _ _ (λ r _. yields_then _ _ (λ ends _. yields_then _ _ (λ items _.
-      yields_finish _ (kid_on_the_way _ u v _ taken false state _ lt refl h (λ same. absurd (true≢false (sym (marked_term terms u v _ m e same)))))))))
+      yields_then _ _ (λ items _.
+      yields_finish _ (kid_on_the_way _ u v _ taken false state _ lt refl h (λ same. absurd (true≢false (sym (marked_term terms u v _ m e same))))))
   term_on_the_way terms u v taken state (Some (Pick cases other)) m lt e h =
       yields_then _ _ (λ k q. yields_finish _ (kid_on_the_way _ u v _ taken true state k lt refl h
       (λ same. let each = and_parts (cases_marked marks cases) (sym_marked marks other.sym) (marked_term terms u v _ m e same) in
