@@ -16,7 +16,7 @@ use Rattle.ipg_ast.specs.declared.grammar.Term.TheVariants as T
 use Rattle.ipg_ast.specs.declared.grammar.Alt.{Alt, out-Alt, roll-out-Alt}
 use Rattle.ipg_ast.specs.declared.grammar.Rule.{Rule, out-Rule, roll-out-Rule}
 use Rattle.ipg_ast.specs.declared.grammar.Grammar.{Grammar}
-use Rattle.ipg_ast.specs.Shape.{IsFormedLocalAlt, IsFormedLocal, IsFormedAlt, IsFormedRule, IsFormed}
+use Rattle.ipg_ast.specs.Shape.{IsFormedTerm, IsFormedTerms, IsFormedLocalAlt, IsFormedLocal, IsFormedAlt, IsFormedRule, IsFormed}
 use Rattle.ipg_syntax.specs.Classes.{either, both, op}
 use Rattle.ipg_syntax.specs.Written.{ExprTree, num, eoi, own, part, item, group, neg, isnt, two, choose, anywhere, long, ends, CaseTree, TermTree, slot_term, set_term, test_term, repeat_term, pick_term, LocalTree, AltTree, RuleTree}
 use Rattle.ipg_canon.specs.Bare.{every}

@@ -301,7 +301,15 @@ fn repetition_on<'a>(
     let Some(ends) = interval(f.size, from, to) else {
         return Err(Halt::NoTree);
     };
-    many_on(alloc, height, f, place, state.own.as_slice(), ends, slot.sym)
+    many_on(
+        alloc,
+        height,
+        f,
+        place,
+        state.own.as_slice(),
+        ends,
+        slot.sym,
+    )
 }
 
 /// The values of a loop variable: from `first` up to, and not including, `last`.
