@@ -1,0 +1,2 @@
+-- what a completed grammar is
+pub mod Unordered

@@ -1,0 +1,4 @@
+//! Missing intervals, written out.
+#![tactic(auto)]
+
+pub mod completed;

@@ -1,0 +1,6 @@
+-- where an order gets stuck
+pub mod Stuck
+-- what functions inside the crate promise each other
+pub mod Needs
+pub mod Named
+pub mod Closure

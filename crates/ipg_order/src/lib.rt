@@ -1,0 +1,6 @@
+//! The order in which the terms of each alternative run.
+#![tactic(auto)]
+
+mod arranging;
+mod closure;
+mod named;
