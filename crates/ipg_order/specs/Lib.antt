@@ -4,3 +4,4 @@ pub mod Stuck
 pub mod Needs
 pub mod Named
 pub mod Closure
+pub mod Locals

@@ -3,4 +3,5 @@
 
 mod arranging;
 mod closure;
+mod locals;
 mod named;
