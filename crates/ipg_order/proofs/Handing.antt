@@ -120,7 +120,7 @@ are_reached rows keys hands flags size sound holds closed = record { size = size
 
 -- ---- what is gone over so far
 
-only_one : {X : Type 0} (x y : X) → Contains (x ∷ []) y → y ≡ x
+pub only_one : {X : Type 0} (x y : X) → Contains (x ∷ []) y → y ≡ x
 only_one x y m = one m.0 m.1 m.2
   where
     one : (k : ℕ) → k < 1 → slice_index_or (x ∷ []) k y ≡ y → y ≡ x

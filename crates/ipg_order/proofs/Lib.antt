@@ -1,2 +1,5 @@
 pub mod Going
 pub mod Handing
+pub mod Members
+pub mod Waiting
+pub mod Waits

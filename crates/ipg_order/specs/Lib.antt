@@ -5,3 +5,4 @@ pub mod Needs
 pub mod Named
 pub mod Closure
 pub mod Locals
+pub mod Reading
