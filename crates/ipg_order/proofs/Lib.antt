@@ -2,4 +2,6 @@ pub mod Going
 pub mod Handing
 pub mod Members
 pub mod Waiting
-pub mod Waits
+pub mod Telling
+pub mod Bounds
+pub mod Provided

@@ -6,3 +6,4 @@ pub mod Named
 pub mod Closure
 pub mod Locals
 pub mod Reading
+pub mod Providers

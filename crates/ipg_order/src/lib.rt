@@ -5,3 +5,5 @@ mod arranging;
 mod closure;
 mod locals;
 mod named;
+mod providers;
+mod waits;

@@ -58,7 +58,7 @@ fn terms_of(alts: &[CompletedAlt], alt: u32) -> &[CoreTerm]
 }
 
 /// The places of the flags of what local rules read themselves.
-fn all_keys(alloc: Global, rules: &[CompletedRule]) -> Result<Vec<u32>, AllocError>
+pub(crate) fn all_keys(alloc: Global, rules: &[CompletedRule]) -> Result<Vec<u32>, AllocError>
     requires { IsFew rules.now }
     ensures { IfOk result (λ keys. keys.items ≡ spec.all_keys rules.now) }
 {
@@ -140,7 +140,7 @@ fn add_name_key(
 }
 
 /// The calls of local rules by local rules.
-fn all_hands(alloc: Global, rules: &[CompletedRule]) -> Result<Vec<Hand>, AllocError>
+pub(crate) fn all_hands(alloc: Global, rules: &[CompletedRule]) -> Result<Vec<Hand>, AllocError>
     requires { IsFew rules.now }
     ensures { IfOk result (λ hands. hands.items ≡ spec.all_hands rules.now) }
 {

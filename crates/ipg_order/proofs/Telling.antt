@@ -103,13 +103,13 @@ module _ (c : Unordered) (good : WellFormed (core_of c)) where
 
   -- ---- what the keys are
 
-  record IsKey (k : ℕ) : Type 0 where
-    row : ℕ
-    column : ℕ
-    holder : ℕ × ℕ
-    is : k ≡ flag row column
-    is_local : holder_of (rule_at g row) ≡ Some holder
-    waits : WaitsFor c holder row column
+  pub record IsKey (k : ℕ) : Type 0 where
+    pub row : ℕ
+    pub column : ℕ
+    pub holder : ℕ × ℕ
+    pub is : k ≡ flag row column
+    pub is_local : holder_of (rule_at g row) ≡ Some holder
+    pub waits : WaitsFor c holder row column
 
   keys_by : (terms : List CoreTerm) (row k attr : ℕ) (o : Option ℕ) → Contains (option_to_list (option_map (flag row) o)) k → (v : ℕ) × ((o ≡ Some v) × (k ≡ flag row v))
   keys_by terms row k attr None m = absurd (not_in k m)
@@ -137,20 +137,20 @@ module _ (c : Unordered) (good : WellFormed (core_of c)) where
       let name = in_flat (name_keys (terms_at c.rules holder) r) (flat_map named (term_mentions term.item)) k term.holds in
       name_key r holder term.item k name.item (ap holder_of (rule_there c r rule e) ∙ h) (written_term r rule alt.item term.item e alt.member term.member) name.member name.holds
 
-  is_key : (k : ℕ) → Contains (all_keys c.rules) k → IsKey k
+  pub is_key : (k : ℕ) → Contains (all_keys c.rules) k → IsKey k
   is_key k m = let n = in_numbered 0 (rule_keys c.rules) c.rules k m in
       key_under (0 + n.number) n.item k n.item.holder (ap (slice_get c.rules) (let e : 0 + n.number ≡ n.number = omega arith in e) ∙ n.is_item) refl n.holds
 
   -- ---- what the hands are
 
-  record IsHand (hand : Hand) : Type 0 where
-    holder : ℕ × ℕ
-    is_local : holder_of (rule_at g hand.caller) ≡ Some holder
-    term : CoreTerm
-    of : TermOf g hand.caller term
-    calls : Contains (term_syms term) (syms.Rule hand.callee)
-    under : ℕ × ℕ
-    callee_local : holder_of (rule_at g hand.callee) ≡ Some under
+  pub record IsHand (hand : Hand) : Type 0 where
+    pub holder : ℕ × ℕ
+    pub is_local : holder_of (rule_at g hand.caller) ≡ Some holder
+    pub term : CoreTerm
+    pub of : TermOf g hand.caller term
+    pub calls : Contains (term_syms term) (syms.Rule hand.callee)
+    pub under : ℕ × ℕ
+    pub callee_local : holder_of (rule_at g hand.callee) ≡ Some under
 
   some_holder : (o : Option (ℕ × ℕ)) → is_some o ≡ true → (h : ℕ × ℕ) × (o ≡ Some h)
   some_holder None h = absurd (true≢false (sym h))
@@ -182,15 +182,15 @@ module _ (c : Unordered) (good : WellFormed (core_of c)) where
       let one = in_flat (sym_hands c.rules r) (term_syms term.item) hand term.holds in
       sym_hand r holder term.item hand one.item (ap holder_of (rule_there c r rule e) ∙ h) (written_term r rule alt.item term.item e alt.member term.member) one.member one.holds
 
-  is_hand : (hand : Hand) → Contains (all_hands c.rules) hand → IsHand hand
+  pub is_hand : (hand : Hand) → Contains (all_hands c.rules) hand → IsHand hand
   is_hand hand m = let n = in_numbered 0 (rule_hands c.rules) c.rules hand m in
       hand_under (0 + n.number) n.item hand n.item.holder (ap (slice_get c.rules) (let e : 0 + n.number ≡ n.number = omega arith in e) ∙ n.is_item) refl n.holds
 
   -- ---- the terms of a holder are few, and set each attribute once
 
-  record IsHolder (holder : ℕ × ℕ) : Type 0 where
-    few : length (terms_at c.rules holder) ≤ 256
-    once : SetsOnce (terms_at c.rules holder)
+  pub record IsHolder (holder : ℕ × ℕ) : Type 0 where
+    pub few : length (terms_at c.rules holder) ≤ 256
+    pub once : SetsOnce (terms_at c.rules holder)
 
   is_holder : (r : ℕ) (holder : ℕ × ℕ) → holder_of (rule_at g r) ≡ Some holder → IsHolder holder
 
@@ -200,7 +200,7 @@ module _ (c : Unordered) (good : WellFormed (core_of c)) where
       let there = terms_there c global.0 global.1 holder global.2 in
       record { few = subst (λ ts. length ts ≤ 256) there alt.limit; once = subst (λ ts. (attr u v : ℕ) → Sets ts u attr → Sets ts v attr → u ≡ v) there alt.sets_once }
 
-  column_below : (r : ℕ) (holder : ℕ × ℕ) (v attr : ℕ) → holder_of (rule_at g r) ≡ Some holder → Sets (terms_at c.rules holder) v attr → v < 256
+  pub column_below : (r : ℕ) (holder : ℕ × ℕ) (v attr : ℕ) → holder_of (rule_at g r) ≡ Some holder → Sets (terms_at c.rules holder) v attr → v < 256
   column_below r holder v attr h s = let lt = slice_get_within (terms_at c.rules holder) v _ s.1 in let few = (is_holder r holder h).few in omega arith
 
   -- ---- what is reached waits
