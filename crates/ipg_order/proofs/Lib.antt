@@ -5,3 +5,5 @@ pub mod Waiting
 pub mod Telling
 pub mod Bounds
 pub mod Provided
+pub mod Sequences
+pub mod Alternatives

@@ -7,3 +7,4 @@ pub mod Closure
 pub mod Locals
 pub mod Reading
 pub mod Providers
+pub mod Ordered

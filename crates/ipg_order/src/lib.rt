@@ -5,5 +5,6 @@ mod arranging;
 mod closure;
 mod locals;
 mod named;
+mod ordering;
 mod providers;
 mod waits;
