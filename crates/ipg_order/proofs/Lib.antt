@@ -7,3 +7,4 @@ pub mod Bounds
 pub mod Provided
 pub mod Sequences
 pub mod Alternatives
+pub mod Alone

@@ -1,5 +1,7 @@
 -- where an order gets stuck
 pub mod Stuck
+-- what ordering answers
+pub mod Answer
 -- what functions inside the crate promise each other
 pub mod Needs
 pub mod Named

@@ -11,6 +11,8 @@ use Rattle.ipg_complete.specs.declared.completed.CompletedAlt.{CompletedAlt}
 use Rattle.ipg_complete.specs.declared.completed.CompletedRule.{CompletedRule}
 use Rattle.ipg_order.specs.declared.ordering.AltFault.{AltFault}
 use Rattle.ipg_order.specs.declared.ordering.AltFault.TheVariants as alt_fault
+use Rattle.ipg_order.specs.declared.fault.OrderFault.{OrderFault}
+use Rattle.ipg_order.specs.declared.fault.OrderFault.TheVariants as order_fault
 use Rattle.ipg_order.specs.declared.ordering.RuleFault.{RuleFault}
 use Rattle.ipg_order.specs.declared.ordering.RuleFault.TheVariants as rule_fault
 use Rattle.ipg_order.specs.Stuck.{EndsAt}
@@ -62,3 +64,36 @@ RuleStops holders flags r alts (Err rule_fault.Memory) = Unit {0}
 pub record AreSmall (alts : List CompletedAlt) : Type 0 where
   pub count : length alts ≤ 64
   pub each : AllByRecursion (λ alt. length alt.terms ≤ 256) alts
+
+-- the same rule, with its alternatives in order
+pub record IsOrderedRule (holders : Holders) (flags : Marks) (r : ℕ) (old : CompletedRule) (new : CoreRule) : Type 0 where
+  pub name : new.name ≡ old.name
+  pub holder : new.holder ≡ old.holder
+  pub alts : AreOrderedAlts holders flags r 0 old.alts new.alts
+
+-- each rule in order, numbered from r on
+abbrev pub AreOrderedRules : Holders → Marks → ℕ → List CompletedRule → List CoreRule → Type 0
+AreOrderedRules holders flags r [] [] = Unit {0}
+AreOrderedRules holders flags r (old ∷ olds) (new ∷ news) = IsOrderedRule holders flags r old new × AreOrderedRules holders flags (r + 1) olds news
+AreOrderedRules holders flags r [] (new ∷ news) = ⊥
+AreOrderedRules holders flags r (old ∷ olds) [] = ⊥
+
+-- each alternative of the rule has an order
+abbrev pub HasOrders : Holders → Marks → ℕ → CompletedRule → Type 0
+HasOrders holders flags r rule = (b : ℕ) (alt : CompletedAlt) → slice_get rule.alts b ≡ Some alt → HasOrder holders flags (r, b) alt
+
+-- the rules before have orders, and this one gets stuck
+pub record StopsAtRule (holders : Holders) (flags : Marks) (rules : List CompletedRule) (r a u : ℕ) : Type 0 where
+  pub rule : CompletedRule
+  pub is_rule : slice_get rules r ≡ Some rule
+  pub stops : StopsIn holders flags r rule.alts a u
+  pub before : (s : ℕ) (other : CompletedRule) → s < r → slice_get rules s ≡ Some other → HasOrders holders flags s other
+
+abbrev pub RulesStop : Holders → Marks → List CompletedRule → Result (Vec CoreRule Global) OrderFault → Type 0
+RulesStop holders flags rules (Ok new) = Unit {0}
+RulesStop holders flags rules (Err (order_fault.Circular r a u)) = StopsAtRule holders flags rules r a u
+RulesStop holders flags rules (Err order_fault.Memory) = Unit {0}
+
+pub record AreSmallRules (rules : List CompletedRule) : Type 0 where
+  pub count : length rules ≤ 1024
+  pub each : AllByRecursion (λ rule. AreSmall rule.alts) rules

@@ -3,6 +3,7 @@
 
 mod arranging;
 mod closure;
+mod fault;
 mod locals;
 mod named;
 mod ordering;

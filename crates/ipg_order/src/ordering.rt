@@ -1,12 +1,13 @@
 //! Terms put in order, alternative by alternative.
 
 ghost use Rattle.std.specs.Prelude.{◌≡◌, ◌≤◌, ◌+◌, length, IfOk, ℕ};
-ghost use Rattle.ipg_order.specs.Ordered.{IsOrderedAlt, AreOrderedAlts, AltStops, RuleStops, AreSmall};
+ghost use Rattle.ipg_order.specs.Ordered.{IsOrderedAlt, AreOrderedAlts, AreOrderedRules, AltStops, RuleStops, RulesStop, AreSmall, AreSmallRules};
 
 use crate::arranging::{Arrangement, arrange};
+use crate::fault::OrderFault;
 use crate::providers::{Local, needs};
-use ipg_complete::completed::CompletedAlt;
-use ipg_core::grammar::CoreAlt;
+use ipg_complete::completed::{CompletedAlt, CompletedRule};
+use ipg_core::grammar::{CoreAlt, CoreRule};
 use ipg_num::List;
 use std::alloc::{AllocError, AllocFailed, Global};
 
@@ -94,6 +95,38 @@ pub(crate) fn ordered_alts(
             Ok(alt) => ordered.push(alt)?,
             Err(AltFault::Stuck(term)) => return Err(RuleFault::Stuck { alt: number, term }),
             Err(AltFault::Memory) => return Err(RuleFault::Memory),
+        }
+    }
+    Ok(ordered)
+}
+
+/// The rules, each alternative with its order.
+pub(crate) fn ordered_rules(
+    alloc: Global,
+    local: Local<'_>,
+    rules: List<CompletedRule>,
+) -> Result<Vec<CoreRule>, OrderFault>
+    requires { AreSmallRules rules }
+    ensures ok { IfOk result (λ new. AreOrderedRules local.entry.holders.now local.entry.flags.now 0 rules new.items) }
+    ensures err { RulesStop local.entry.holders.now local.entry.flags.now rules result }
+{
+    let mut ordered = Vec::new(alloc);
+    for rule in rules.into_vec() {
+        let number = ordered.len() as u32;
+        match ordered_alts(alloc, local, number, rule.alts) {
+            Ok(alts) => ordered.push(CoreRule {
+                name: rule.name,
+                holder: rule.holder,
+                alts: List::from_vec(alts),
+            })?,
+            Err(RuleFault::Stuck { alt, term }) => {
+                return Err(OrderFault::Circular {
+                    rule: number,
+                    alt,
+                    term,
+                });
+            }
+            Err(RuleFault::Memory) => return Err(OrderFault::Memory),
         }
     }
     Ok(ordered)
