@@ -8,3 +8,4 @@ pub mod Provided
 pub mod Sequences
 pub mod Alternatives
 pub mod Alone
+pub mod Outcome

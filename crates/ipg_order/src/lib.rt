@@ -6,6 +6,10 @@ mod closure;
 mod fault;
 mod locals;
 mod named;
+mod ordered;
 mod ordering;
 mod providers;
 mod waits;
+
+pub use fault::OrderFault;
+pub use ordered::order;
