@@ -1,5 +1,5 @@
 -- A grammar and the same without orders are well-formed together, and have the same providers.
-use Rattle.std.proofs.Common.{◌≡◌, ◌≢◌, ℕ, ◌+◌, ◌^◌, ◌<◌, ◌≤◌, refl, sym, ap, ◌∙◌, subst, arith, List, [], ◌∷◌, Option, Some, None, length, inl, inr, ◌⊎◌}
+use Rattle.std.proofs.Common.{◌≡◌, ℕ, ◌^◌, ◌<◌, ◌≤◌, refl, sym, ap, ◌∙◌, subst, arith, List, [], ◌∷◌, Option, Some, None, length, inl, inr, ◌⊎◌}
 use Rattle.std.specs.Prelude.{slice_get, map, option_map, sum_by, Contains}
 use Rattle.std.specs.List.{AllByRecursion}
 use Rattle.std.proofs.lemmas.List.{length-map}
@@ -14,10 +14,10 @@ use Rattle.ipg_core.specs.declared.grammar.CoreRule.{CoreRule}
 use Rattle.ipg_core.specs.Grammar.{Grammar, rule_at, holder_of}
 use Rattle.ipg_core.specs.Mention.{Mention, SeenOf, ItemOf, AfterOf, OwnOf, OuterOf, FieldOf, LoopOf, term_mentions, EachSym}
 use Rattle.ipg_core.specs.Order.{TermOf, Reads, itself, through, Passes, Names, Provides}
-use Rattle.ipg_core.specs.Good.{AltAt, IsSym, SetsSome, HolderSets, IsGoodMention, IsGoodShape, IsCallable, MayCall, GoodTerm, GoodAlt, GoodRule, IsGlobalAlt, WellFormed, slots_of, slots_in}
+use Rattle.ipg_core.specs.Good.{AltAt, IsSym, SetsSome, HolderSets, IsGoodMention, IsGoodShape, IsCallable, MayCall, GoodAlt, IsGlobalAlt, WellFormed, slots_of, slots_in}
 use Rattle.ipg_order.specs.Answer.{alt_alone, rule_alone, without_orders}
 use Rattle.ipg_order.proofs.Members.{in_map, to_map}
-use Rattle.ipg_order.proofs.Telling.{Written, written}
+use Rattle.ipg_order.proofs.Telling.{written}
 
 all_more : {X : Type 0} (P Q : X → Type 0) (xs : List X) → ((x : X) → P x → Q x) → AllByRecursion P xs → AllByRecursion Q xs
 all_more P Q [] f h = tt
@@ -115,7 +115,9 @@ module _ (g : Grammar) where
 
   good_alt : (at : ℕ × ℕ) (holder : Option (ℕ × ℕ)) (alt : CoreAlt) → GoodAlt alone at holder (alt_alone alt) → GoodAlt g at holder alt
   good_alt at holder alt h = record {
-    some = h.some; limit = h.limit; sets_once = h.sets_once;
+    some = h.some;
+    limit = h.limit;
+    sets_once = h.sets_once;
     terms = λ u term e. let t = h.terms u term e in record {
       shape = shape term t.shape;
       syms = each_more (IsCallable alone at holder) (IsCallable g at holder) term (callable at holder) t.syms;
@@ -142,7 +144,8 @@ module _ (g : Grammar) where
     };
     alts = λ at rule alt e. good_alt at rule.holder alt (h.alts at (rule_alone rule) (alt_alone alt) (to_alone rule alt at e));
     holders = λ r holder e. global holder (h.holders r holder (holder_is r ∙ e));
-    few_names = h.few_names; names_differ = h.names_differ;
+    few_names = h.few_names;
+    names_differ = h.names_differ;
     few_slots = subst (λ n. n < 2 ^ 32) slots h.few_slots;
   }
 
@@ -150,7 +153,8 @@ module _ (g : Grammar) where
 
   term_to : (r : ℕ) (term : CoreTerm) → TermOf g r term → TermOf alone r term
   term_to r term h = record {
-    rule = rule_alone h.rule; alt = alt_alone h.alt;
+    rule = rule_alone h.rule;
+    alt = alt_alone h.alt;
     is_rule = rule_is r ∙ ap (option_map rule_alone) h.is_rule;
     is_alt = to_map alt_alone h.rule.alts h.alt h.is_alt;
     is_term = h.is_term;

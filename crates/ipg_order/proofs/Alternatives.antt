@@ -1,5 +1,5 @@
 -- Alternatives put in order one after another.
-use Rattle.std.proofs.Common.{◌≡◌, ℕ, zero, suc, ◌+◌, ◌<◌, ◌≤◌, refl, sym, ap, ◌∙◌, subst, arith, List, [], ◌∷◌, ◌++◌, Option, Some, None, length}
+use Rattle.std.proofs.Common.{◌≡◌, ℕ, zero, suc, ◌+◌, ◌<◌, refl, ap, ◌∙◌, subst, arith, List, [], ◌∷◌, ◌++◌, Some, length}
 use Rattle.std.specs.Prelude.{slice_get}
 use Rattle.std.proofs.Common.{append-nil}
 use Rattle.std.proofs.lemmas.Option.{slice_get_within}
@@ -42,7 +42,7 @@ module _ (holders : Holders) (flags : Marks) (r : ℕ) where
       subst (λ k. HasOrder holders flags (r, k) other) (let z : n ≡ n + 0 = omega arith in z) (subst (HasOrder holders flags (r, n)) same has)
   have_orders n (old ∷ olds) rest (new ∷ news) h (suc b) other lt e =
       subst (λ k. HasOrder holders flags (r, k) other) (let z : (n + 1) + b ≡ n + suc b = omega arith in z)
-          (have_orders (n + 1) olds rest news h.1 b other (omega arith) e)
+      (have_orders (n + 1) olds rest news h.1 b other (omega arith) e)
   have_orders n [] rest (new ∷ news) h b other lt e = absurd h
   have_orders n (old ∷ olds) rest [] h b other lt e = absurd h
 
@@ -53,7 +53,7 @@ module _ (holders : Holders) (flags : Marks) where
   all_orders : (r : ℕ) (old : CompletedRule) (new : CoreRule) → IsOrderedRule holders flags r old new → HasOrders holders flags r old
   all_orders r old new h b alt e =
       subst (λ k. HasOrder holders flags (r, k) alt) (let z : 0 + b ≡ b = omega arith in z)
-          (have_orders holders flags r 0 old.alts [] new.alts h.alts b alt (slice_get_within old.alts b alt e) (ap (λ xs. slice_get xs b) (append-nil old.alts) ∙ e))
+      (have_orders holders flags r 0 old.alts [] new.alts h.alts b alt (slice_get_within old.alts b alt e) (ap (λ xs. slice_get xs b) (append-nil old.alts) ∙ e))
 
   pub as_many_rules : (n : ℕ) (olds : List CompletedRule) (news : List CoreRule) → AreOrderedRules holders flags n olds news → length news ≡ length olds
   as_many_rules n [] [] h = refl
@@ -78,6 +78,6 @@ module _ (holders : Holders) (flags : Marks) where
       subst (λ k. HasOrders holders flags k other) (let z : n ≡ n + 0 = omega arith in z) (subst (HasOrders holders flags n) same (all_orders n old new h.0))
   rules_have_orders n (old ∷ olds) rest (new ∷ news) h (suc s) other lt e =
       subst (λ k. HasOrders holders flags k other) (let z : (n + 1) + s ≡ n + suc s = omega arith in z)
-          (rules_have_orders (n + 1) olds rest news h.1 s other (omega arith) e)
+      (rules_have_orders (n + 1) olds rest news h.1 s other (omega arith) e)
   rules_have_orders n [] rest (new ∷ news) h s other lt e = absurd h
   rules_have_orders n (old ∷ olds) rest [] h s other lt e = absurd h

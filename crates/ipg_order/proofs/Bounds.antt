@@ -1,12 +1,12 @@
 -- The places of flags are within the rows, and alternatives are few.
-use Rattle.std.proofs.Common.{◌≡◌, ℕ, zero, suc, ◌*◌, ◌<◌, ◌≤◌, refl, sym, ap, ◌∙◌, subst, arith, List, [], ◌∷◌, Option, Some, None, map, length, Bool, Vec, Global, Result, Ok, Err, IfOk}
+use Rattle.std.proofs.Common.{◌≡◌, ℕ, zero, suc, ◌*◌, ◌<◌, ◌≤◌, refl, ap, subst, arith, List, [], ◌∷◌, Option, Some, None, map, length, Bool, Vec, Global, Result, Ok, Err, IfOk}
 use Rattle.std.specs.declared.alloc.AllocError.{AllocError}
 use Rattle.std.specs.Prelude.{slice_get, Contains}
 use Rattle.std.specs.List.{AllByRecursion}
 use Rattle.std.proofs.lemmas.List.{length-map}
 use Rattle.std.proofs.lemmas.Option.{slice_get_within}
 use Rattle.ipg_core.specs.Grammar.{rule_at, holder_of}
-use Rattle.ipg_core.specs.Good.{AltAt, WellFormed}
+use Rattle.ipg_core.specs.Good.{WellFormed}
 use Rattle.ipg_core.specs.declared.grammar.CoreRule.{CoreRule}
 use Rattle.ipg_complete.specs.declared.completed.CompletedAlt.{CompletedAlt}
 use Rattle.ipg_complete.specs.declared.completed.CompletedRule.{CompletedRule}
@@ -16,7 +16,7 @@ use Rattle.ipg_order.specs.Closure.{IsRow, AreReached}
 use Rattle.ipg_order.specs.Reading.{TellWaits}
 use Rattle.ipg_order.specs.Locals.{IsFew, all_keys, all_hands}
 use Rattle.ipg_order.proofs.Members.{here, later}
-use Rattle.ipg_order.proofs.Telling.{rule_there, IsKey, is_key, IsHand, is_hand, column_below, tell_waits}
+use Rattle.ipg_order.proofs.Telling.{rule_there, is_key, is_hand, column_below, tell_waits}
 
 pub each : {X : Type 0} (P : X → Type 0) (xs : List X) → ((x : X) → Contains xs x → P x) → AllByRecursion P xs
 each P [] h = tt

@@ -1,12 +1,12 @@
 -- Items taken one after another.
-use Rattle.std.proofs.Common.{◌≡◌, ℕ, zero, suc, ◌+◌, ◌<◌, ◌≤◌, refl, sym, ap, ◌∙◌, subst, arith, List, [], ◌∷◌, ◌++◌, Option, Some, None, Bool, true, false, length, true≢false, ◌⊎◌, inl, inr}
-use Rattle.std.specs.Prelude.{slice_get, slice_set, replicate, ◌||◌, nat_eq, Contains}
+use Rattle.std.proofs.Common.{◌≡◌, ℕ, zero, suc, ◌<◌, refl, sym, ap, ◌∙◌, subst, arith, List, [], ◌∷◌, ◌++◌, Bool, true, false, length, true≢false, ◌⊎◌, inl, inr}
+use Rattle.std.specs.Prelude.{slice_set, replicate, ◌||◌, nat_eq}
 use Rattle.std.proofs.lemmas.Bool.Decides.{nat_tests}
 use Rattle.ipg_core.specs.MustTouch.{Marks, is_marked}
 use Rattle.ipg_core.specs.Order.{is_taken, IsProvided, IsNext, InOrder}
 use Rattle.ipg_order.specs.Stuck.{IsEnd, EndsAt}
 use Rattle.ipg_order.specs.Closure.{unset}
-use Rattle.ipg_order.specs.Needs.{needs_at, Listed, IsReady, IsFirstReady, IsFirstFree}
+use Rattle.ipg_order.specs.Needs.{Listed, IsReady, IsFirstReady, IsFirstFree}
 
 -- what is taken after an order
 abbrev pub taken_after : List ℕ → List ℕ → List ℕ
@@ -19,22 +19,18 @@ Goes provides n taken [] = Unit {0}
 Goes provides n taken (u ∷ order) = IsNext provides n taken u × Goes provides n (u ∷ taken) order
 
 pub taken_more : (taken order : List ℕ) (u : ℕ) → taken_after taken (order ++ u ∷ []) ≡ u ∷ taken_after taken order
-
 taken_more taken [] u = refl
 taken_more taken (v ∷ order) u = taken_more (v ∷ taken) order u
 
 pub goes_more : (provides : ℕ → ℕ → Type 0) (n : ℕ) (taken order : List ℕ) (u : ℕ) → Goes provides n taken order → IsNext provides n (taken_after taken order) u → Goes provides n taken (order ++ u ∷ [])
-
 goes_more provides n taken [] u h k = (k, tt)
 goes_more provides n taken (v ∷ order) u h k = (h.0, goes_more provides n (v ∷ taken) order u h.1 k)
 
 pub goes_whole : (provides : ℕ → ℕ → Type 0) (n : ℕ) (taken order : List ℕ) → Goes provides n taken order → ((u : ℕ) → u < n → is_taken (taken_after taken order) u ≡ true) → InOrder provides n taken order
-
 goes_whole provides n taken [] h k = k
 goes_whole provides n taken (v ∷ order) h k = (h.0, goes_whole provides n (v ∷ taken) order h.1 k)
 
 pub goes_stuck : (provides : ℕ → ℕ → Type 0) (n : ℕ) (taken order : List ℕ) (u : ℕ) → Goes provides n taken order → IsEnd provides n (taken_after taken order) u → EndsAt provides n taken order u
-
 goes_stuck provides n taken [] u h k = k
 goes_stuck provides n taken (v ∷ order) u h k = (h.0, goes_stuck provides n (v ∷ taken) order u h.1 k)
 
@@ -132,7 +128,6 @@ is_end needs flags taken u h same none first = record {
 }
 
 pub fewer_unset : (flags : Marks) (u : ℕ) → u < length flags → is_marked flags u ≡ false → unset (slice_set flags u true) < unset flags
-
 fewer_unset [] u lt h = absurd (omega arith)
 fewer_unset (true ∷ flags) zero lt h = absurd (true≢false h)
 fewer_unset (false ∷ flags) zero lt h = omega arith

@@ -1,13 +1,13 @@
 -- Flags that are handed on, one after another.
-use Rattle.std.proofs.Common.{◌≡◌, ℕ, zero, suc, ◌+◌, ◌*◌, ◌<◌, ◌≤◌, refl, sym, ap, ◌∙◌, subst, arith, List, [], ◌∷◌, Bool, true, false, length, true≢false, ◌⊎◌, inl, inr, take, get_or}
-use Rattle.std.specs.Prelude.{slice_set, slice_index_or, Contains, ◌||◌, ◌↔◌}
+use Rattle.std.proofs.Common.{◌≡◌, ℕ, zero, suc, ◌+◌, ◌*◌, ◌<◌, refl, sym, ap, ◌∙◌, subst, arith, List, [], ◌∷◌, Bool, true, false, length, true≢false, ◌⊎◌, inl, inr, take, get_or}
+use Rattle.std.specs.Prelude.{slice_set, slice_index_or, Contains, ◌||◌}
 use Rattle.std.specs.List.{AllByRecursion}
 use Rattle.std.proofs.lemmas.List.{take_more}
 use Rattle.std.proofs.lemmas.List.Elements.{Contains-append_cases}
 use Rattle.ipg_core.specs.MustTouch.{Marks, is_marked}
 use Rattle.ipg_order.specs.declared.closure.Hand.{Hand}
-use Rattle.ipg_order.specs.Closure.{flag, Reached, direct, handed, AreSound, AreReached, IsRow, IsHandedOn, AreHandedOn, Stepped, unset}
-use Rattle.ipg_order.proofs.Going.{set_here, set_keeps, was_set, set_size, fewer_unset}
+use Rattle.ipg_order.specs.Closure.{flag, Reached, direct, handed, AreSound, AreReached, IsHandedOn, AreHandedOn, Stepped, unset}
+use Rattle.ipg_order.proofs.Going.{set_keeps, was_set, set_size, fewer_unset}
 
 pub step_size : (new : Bool) (old : Marks) (from to : ℕ) (flags : Marks) → Stepped new old from to flags → length flags ≡ length old
 step_size true old from to flags s = ap length s.0 ∙ set_size old to
@@ -51,10 +51,12 @@ passing_next false true hand column first old flags lt s h =
     let less = fewer_unset old (flag hand.caller column) lt s.2 in
     let same : unset flags ≡ unset (slice_set old (flag hand.caller column) true) = ap unset s.0 in
     let first_same : unset old ≡ unset first = ap unset h.0 in omega arith
-passing_next false false hand column first old flags lt s h =
-    (s.0 ∙ h.0, one_more hand column flags
-    (subst (λ fs. is_marked fs (flag hand.callee column) ≡ true → is_marked fs (flag hand.caller column) ≡ true) (sym s.0) s.1)
-    (subst (IsHandedOn column hand) (sym s.0) h.1))
+passing_next false false hand column first old flags lt s h = (
+  s.0 ∙ h.0,
+  one_more hand column flags
+      (subst (λ fs. is_marked fs (flag hand.callee column) ≡ true → is_marked fs (flag hand.caller column) ≡ true) (sym s.0) s.1)
+      (subst (IsHandedOn column hand) (sym s.0) h.1),
+)
 
 pub nothing_passed : (hand : Hand) (flags : Marks) → Passing false hand 0 flags flags
 unfolding Passing

@@ -9,3 +9,4 @@ pub mod Sequences
 pub mod Alternatives
 pub mod Alone
 pub mod Outcome
+pub mod Stuck

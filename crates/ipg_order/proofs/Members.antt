@@ -1,6 +1,6 @@
 -- What stands in lists that are made of others.
-use Rattle.std.proofs.Common.{◌≡◌, ℕ, zero, suc, ◌+◌, ◌<◌, refl, sym, ap, ◌∙◌, subst, arith, List, [], ◌∷◌, ◌++◌, Option, Some, None, map, length, ◌⊎◌, inl, inr, get_or}
-use Rattle.std.specs.Prelude.{slice_get, unwrap_or, slice_index_or, flat_map, Contains}
+use Rattle.std.proofs.Common.{◌≡◌, ℕ, zero, suc, ◌+◌, refl, sym, ap, ◌∙◌, subst, arith, List, [], ◌∷◌, Some, map, ◌⊎◌, inl, inr}
+use Rattle.std.specs.Prelude.{slice_get, unwrap_or, flat_map, Contains}
 use Rattle.std.proofs.lemmas.Option.{slice_get_within, unwrap_or-slice_get}
 use Rattle.std.proofs.lemmas.List.Elements.{Contains-append_left, Contains-append_right, Contains-append_cases}
 use Rattle.ipg_order.specs.Locals.{numbered}
@@ -54,7 +54,9 @@ pub record Numbered {X Y : Type 0} (n : ℕ) (f : ℕ → X → List Y) (xs : Li
 
 numbered_more : {X Y : Type 0} (n : ℕ) (f : ℕ → X → List Y) (x : X) (xs : List X) (y : Y) → Numbered (n + 1) f xs y → Numbered n f (x ∷ xs) y
 numbered_more n f x xs y a = record {
-  number = suc a.number; item = a.item; is_item = a.is_item;
+  number = suc a.number;
+  item = a.item;
+  is_item = a.is_item;
   holds = subst (λ k. Contains (f k a.item) y) (let e : (n + 1) + a.number ≡ n + suc a.number = omega arith in e) a.holds;
 }
 

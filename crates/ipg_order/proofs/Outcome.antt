@@ -1,7 +1,7 @@
 -- Rules in order make a good grammar, and an order that gets stuck is that of the first alternative without one.
-use Rattle.std.proofs.Common.{◌≡◌, ℕ, zero, suc, ◌+◌, ◌<◌, ◌≤◌, refl, sym, ap, ◌∙◌, subst, arith, List, [], ◌∷◌, Option, Some, None, length, Err, inl, inr, ◌⊎◌}
+use Rattle.std.proofs.Common.{◌≡◌, ℕ, zero, suc, ◌+◌, ◌≤◌, refl, sym, ap, ◌∙◌, subst, arith, List, [], ◌∷◌, Some, length, Err, inl, inr}
 use Rattle.std.specs.Prelude.{slice_get, map, option_map}
-use Rattle.std.proofs.lemmas.Option.{slice_get-map, slice_get_within}
+use Rattle.std.proofs.lemmas.Option.{slice_get-map}
 use Rattle.std.proofs.lemmas.List.{length-map}
 use Rattle.ipg_core.specs.declared.grammar.CoreTerm.{CoreTerm}
 use Rattle.ipg_core.specs.declared.grammar.CoreAlt.{CoreAlt}
@@ -22,13 +22,13 @@ use Rattle.ipg_order.specs.Ordered.{IsOrderedAlt, AreOrderedAlts, IsOrderedRule,
 use Rattle.ipg_order.specs.Answer.{alt_alone, rule_alone, without_orders, HasOrder, IsBefore, IsFirstStuck, OrderStops}
 use Rattle.ipg_order.proofs.Sequences.{order_to, is_order, is_stuck}
 use Rattle.ipg_order.proofs.Bounds.{at_each}
-use Rattle.ipg_order.proofs.Telling.{Written, written}
+use Rattle.ipg_order.proofs.Telling.{written}
 use Rattle.ipg_order.proofs.Alone.{whole, provides_to, provides_from}
 
 module _ (holders : Holders) (flags : Marks) where
   alts_alone : (r n : ℕ) (olds : List CompletedAlt) (news : List CoreAlt) → AreOrderedAlts holders flags r n olds news → map alt_alone news ≡ map alt_of olds
   alts_alone r n [] [] h = refl
-  alts_alone r n (old ∷ olds) (new ∷ news) h = 
+  alts_alone r n (old ∷ olds) (new ∷ news) h =
       let rest = alts_alone r (n + 1) olds news h.1 in
       rw (h.0.terms, rest) refl
   alts_alone r n [] (new ∷ news) h = absurd h
@@ -41,7 +41,7 @@ module _ (holders : Holders) (flags : Marks) where
 
   pub rules_alone : (r : ℕ) (olds : List CompletedRule) (news : List CoreRule) → AreOrderedRules holders flags r olds news → map rule_alone news ≡ map rule_of olds
   rules_alone r [] [] h = refl
-  rules_alone r (old ∷ olds) (new ∷ news) h = 
+  rules_alone r (old ∷ olds) (new ∷ news) h =
       let one = one_alone r old new h.0 in
       let rest = rules_alone (r + 1) olds news h.1 in
       rw (one, rest) refl
@@ -99,11 +99,12 @@ module _ (c : Unordered) (good : WellFormed (core_of c)) (flags : Marks) (tells 
         let one : Some rule ≡ Some h.rule = sym e ∙ ap (slice_get c.rules) same ∙ h.is_rule in
         let rules : rule ≡ h.rule = cc in
         subst (λ k. lists.HasOrder (holders_of c.rules) flags (k, b) alt) (sym same)
-            (h.stops.before b alt lt (subst (λ (x : CompletedRule). slice_get x.alts b ≡ Some alt) rules f))
+        (h.stops.before b alt lt (subst (λ (x : CompletedRule). slice_get x.alts b ≡ Some alt) rules f))
 
     pub first_stuck : IsFirstStuck (core_of c) (r, a) u
     first_stuck = record {
-      rule = rule_of h.rule; alt = alt_of h.stops.alt;
+      rule = rule_of h.rule;
+      alt = alt_of h.stops.alt;
       is_alt = alt_there h.rule h.stops.alt (r, a) h.is_rule h.stops.is_alt;
       stuck = record {
         order = h.stops.stops.0;
@@ -113,7 +114,7 @@ module _ (c : Unordered) (good : WellFormed (core_of c)) (flags : Marks) (tells 
           let w = written rule_of c.rules to.0 other at.is_rule in
           let v = written alt_of w.item.alts to.1 alt (subst (λ (x : CoreRule). slice_get x.alts to.1 ≡ Some alt) w.is at.is_alt) in
           subst (λ (x : CoreAlt). HasOrder (core_of c) to x.terms) (sym v.is)
-              (has_order w.item v.item to w.is_item v.is_item (before to w.item v.item is_before w.is_item v.is_item));
+          (has_order w.item v.item to w.is_item v.is_item (before to w.item v.item is_before w.is_item v.is_item));
     }
 
   -- ---- all in order
@@ -135,15 +136,15 @@ module _ (c : Unordered) (good : WellFormed (core_of c)) (flags : Marks) (tells 
     is_ordered at rule alt is =
         let w = rule_was (holders_of c.rules) flags 0 c.rules news h at.0 rule is.is_rule in
         let v = alt_was (holders_of c.rules) flags (0 + at.0) 0 w.old.alts rule.alts w.is.alts at.1 alt is.is_alt in
-        let place : (0 + at.0, 0 + at.1) ≡ at = 
-            let z : 0 + at.0 ≡ at.0 = omega arith in
-            let y : 0 + at.1 ≡ at.1 = omega arith in
-            rw (z, y) refl in
+        let place : (0 + at.0, 0 + at.1) ≡ at =
+        let z : 0 + at.0 ≡ at.0 = omega arith in
+        let y : 0 + at.1 ≡ at.1 = omega arith in
+        rw (z, y) refl in
         let one : IsOrderedAlt (holders_of c.rules) flags at v.old alt = subst (λ p. IsOrderedAlt (holders_of c.rules) flags p v.old alt) place v.is in
         let there = alt_there w.old v.old at w.there v.there in
         let known = is_order c good flags tells (rule_of w.old) (alt_of v.old) at there alt.order one.order in
         let moved = order_to (Provides (core_of c) at v.old.terms) (Provides ordered at v.old.terms) (length v.old.terms)
-            (λ x y lt p. to_provides at v.old.terms x y p) (λ x y lt p. from_provides at v.old.terms x y p) [] alt.order known in
+        (λ x y lt p. to_provides at v.old.terms x y p) (λ x y lt p. from_provides at v.old.terms x y p) [] alt.order known in
         subst (λ ts. InOrder (Provides ordered at ts) (length ts) [] alt.order) (sym one.terms) moved
 
     pub good_of : Good ordered
@@ -159,11 +160,11 @@ pub are_small : (c : Unordered) → WellFormed (core_of c) → AreSmallRules c.r
 are_small c good = record {
   count = subst (λ n. n ≤ 1024) (length-map c.rules rule_of) good.limit;
   each = at_each (λ rule. AreSmall rule.alts) c.rules (λ r rule e.
-    let is_rule = slice_get-map rule_of c.rules r ∙ ap (option_map rule_of) e in record {
-      count = subst (λ n. n ≤ 64) (length-map rule.alts alt_of) (good.rules r (rule_of rule) is_rule).limit;
-      each = at_each (λ alt. length alt.terms ≤ 256) rule.alts (λ a alt f.
-        (good.alts (r, a) (rule_of rule) (alt_of alt) (record { is_rule = is_rule; is_alt = slice_get-map alt_of rule.alts a ∙ ap (option_map alt_of) f })).limit);
-    });
+      let is_rule = slice_get-map rule_of c.rules r ∙ ap (option_map rule_of) e in record {
+        count = subst (λ n. n ≤ 64) (length-map rule.alts alt_of) (good.rules r (rule_of rule) is_rule).limit;
+        each = at_each (λ alt. length alt.terms ≤ 256) rule.alts (λ a alt f.
+            (good.alts (r, a) (rule_of rule) (alt_of alt) (record { is_rule = is_rule; is_alt = slice_get-map alt_of rule.alts a ∙ ap (option_map alt_of) f })).limit);
+      });
 }
 
 -- ---- the same of a value in the words of its parts

@@ -1,17 +1,15 @@
 -- Orders by lists of needs are orders by providers.
-use Rattle.std.proofs.Common.{◌≡◌, ℕ, zero, suc, ◌+◌, ◌<◌, ◌≤◌, refl, sym, ap, ◌∙◌, subst, arith, List, [], ◌∷◌, Option, Some, None, length, true}
+use Rattle.std.proofs.Common.{◌≡◌, ℕ, zero, suc, ◌+◌, ◌<◌, refl, sym, ap, ◌∙◌, subst, arith, List, [], ◌∷◌, Some, length}
 use Rattle.std.specs.Prelude.{slice_get, Contains}
-use Rattle.std.proofs.lemmas.Option.{slice_get_within}
 use Rattle.ipg_core.specs.declared.grammar.CoreTerm.{CoreTerm}
 use Rattle.ipg_core.specs.declared.grammar.CoreAlt.{CoreAlt}
 use Rattle.ipg_core.specs.declared.grammar.CoreRule.{CoreRule}
-use Rattle.ipg_core.specs.Grammar.{Grammar}
 use Rattle.ipg_core.specs.MustTouch.{Marks}
-use Rattle.ipg_core.specs.Order.{is_taken, IsProvided, IsNext, InOrder, Provides}
+use Rattle.ipg_core.specs.Order.{IsNext, InOrder, Provides}
 use Rattle.ipg_core.specs.Good.{AltAt, WellFormed}
 use Rattle.ipg_complete.specs.Unordered.{Unordered, core_of}
-use Rattle.ipg_order.specs.Stuck.{IsEnd, EndsAt}
-use Rattle.ipg_order.specs.Needs.{needs_at, or_none, Listed}
+use Rattle.ipg_order.specs.Stuck.{EndsAt}
+use Rattle.ipg_order.specs.Needs.{needs_at, Listed}
 use Rattle.ipg_order.specs.Reading.{TellWaits, holders_of}
 use Rattle.ipg_order.specs.Providers.{Holders, term_needs, all_needs}
 use Rattle.ipg_order.proofs.Provided.{listed_provides, provides_listed}
@@ -21,13 +19,17 @@ use Rattle.ipg_order.proofs.Provided.{listed_provides, provides_listed}
 module _ (P Q : ℕ → ℕ → Type 0) (n : ℕ) (to : (u v : ℕ) → u < n → P u v → Q u v) (from : (u v : ℕ) → u < n → Q u v → P u v) where
   next_to : (taken : List ℕ) (u : ℕ) → IsNext P n taken u → IsNext Q n taken u
   next_to taken u h = record {
-    below = h.below; fresh = h.fresh; provided = λ v q. h.provided v (from u v h.below q);
+    below = h.below;
+    fresh = h.fresh;
+    provided = λ v q. h.provided v (from u v h.below q);
     least = λ w lt fresh provided. h.least w lt fresh (λ v p. provided v (to w v (let a = h.below in omega arith) p));
   }
 
   next_from : (taken : List ℕ) (u : ℕ) → IsNext Q n taken u → IsNext P n taken u
   next_from taken u h = record {
-    below = h.below; fresh = h.fresh; provided = λ v p. h.provided v (to u v h.below p);
+    below = h.below;
+    fresh = h.fresh;
+    provided = λ v p. h.provided v (to u v h.below p);
     least = λ w lt fresh provided. h.least w lt fresh (λ v q. provided v (from w v (let a = h.below in omega arith) q));
   }
 

@@ -1,6 +1,6 @@
 -- Flags that are reached are those of the terms that a local rule waits for.
-use Rattle.std.proofs.Common.{◌≡◌, ℕ, zero, suc, ◌+◌, ◌*◌, ◌<◌, ◌≤◌, refl, sym, ap, ◌∙◌, subst, arith, List, [], ◌∷◌, Option, Some, None, Bool, true, false, cond, map, length, ◌⊎◌, inl, inr, true≢false}
-use Rattle.std.specs.Prelude.{slice_get, option_map, option_to_list, flat_map, Contains, ◌↔◌}
+use Rattle.std.proofs.Common.{◌≡◌, ℕ, zero, suc, ◌+◌, ◌<◌, ◌≤◌, refl, sym, ap, ◌∙◌, subst, arith, List, [], ◌∷◌, Option, Some, None, Bool, true, false, cond, map, length, inl, inr, true≢false}
+use Rattle.std.specs.Prelude.{slice_get, option_map, option_to_list, flat_map, Contains}
 use Rattle.std.specs.List.{AllByRecursion}
 use Rattle.std.proofs.lemmas.Option.{slice_get-map, slice_get_within}
 use Rattle.std.proofs.lemmas.List.Elements.{Contains-append_cases}
@@ -14,7 +14,7 @@ use Rattle.ipg_core.specs.declared.grammar.CoreAlt.{CoreAlt}
 use Rattle.ipg_core.specs.declared.grammar.CoreRule.{CoreRule}
 use Rattle.ipg_core.specs.Grammar.{Grammar, rule_at, holder_of}
 use Rattle.ipg_core.specs.Mention.{OuterOf, EachSym, term_mentions, term_syms}
-use Rattle.ipg_core.specs.MustTouch.{Marks, is_marked}
+use Rattle.ipg_core.specs.MustTouch.{Marks}
 use Rattle.ipg_core.specs.Order.{Sets, TermOf, Reads, itself, through}
 use Rattle.ipg_core.specs.Good.{AltAt, IsCallable, MayCall, WellFormed}
 use Rattle.ipg_complete.specs.declared.completed.CompletedAlt.{CompletedAlt}
@@ -25,9 +25,9 @@ use Rattle.ipg_order.specs.declared.named.Named.TheVariants.{Term, Own, Outer}
 use Rattle.ipg_order.specs.declared.closure.Hand.{Hand}
 use Rattle.ipg_order.specs.Named.{named}
 use Rattle.ipg_order.specs.Closure.{flag, Reached, direct, handed, AreReached}
-use Rattle.ipg_order.specs.Locals.{setter, terms_in, terms_of, terms_of_rule, terms_at, name_keys, term_keys, alt_keys, keys_under, rule_keys, all_keys, is_some, is_local, sym_hands, term_hands, alt_hands, hands_under, rule_hands, all_hands}
+use Rattle.ipg_order.specs.Locals.{setter, terms_in, terms_of_rule, terms_at, name_keys, term_keys, alt_keys, keys_under, rule_keys, all_keys, is_some, is_local, sym_hands, term_hands, alt_hands, hands_under, rule_hands, all_hands}
 use Rattle.ipg_order.specs.Reading.{WaitsFor, TellWaits}
-use Rattle.ipg_order.proofs.Members.{by, not_in, cons_cases, here, got, Among, in_flat, to_flat, Numbered, in_numbered, to_numbered, Image, in_map, to_map, Placed, place_of}
+use Rattle.ipg_order.proofs.Members.{by, not_in, cons_cases, here, in_flat, to_flat, in_numbered, to_numbered, in_map, to_map, place_of}
 use Rattle.ipg_order.proofs.Handing.{only_one}
 use Rattle.ipg_order.proofs.Waiting.{SetsOnce, setter_is, is_setter, mentioned_outer, outer_named, same_row, same_column}
 
@@ -58,9 +58,9 @@ terms_there c rule alt at a =
 cases_at : (P : Sym → Type 0) (cases : List (CoreExpr × CoreSlot)) (one : Sym) → AllByRecursion (λ x. P x.1.sym) cases → Contains (flat_map (λ x. x.1.sym ∷ []) cases) one → P one
 cases_at P [] one h m = absurd (not_in one m)
 cases_at P (x ∷ cases) one h m = elim (cons_cases x.1.sym (flat_map (λ y. y.1.sym ∷ []) cases) one m) as (λ _. P one) [
-    | inl e ↦ subst P (sym e) h.0
-    | inr k ↦ cases_at P cases one h.1 k
-  ]
+  | inl e ↦ subst P (sym e) h.0
+  | inr k ↦ cases_at P cases one h.1 k
+]
 
 alone : (P : Sym → Type 0) (s one : Sym) → P s → Contains (s ∷ []) one → P one
 alone P s one h m = subst P (sym (only_one s one m)) h
@@ -122,7 +122,11 @@ module _ (c : Unordered) (good : WellFormed (core_of c)) where
   name_key row holder term k (Outer attr) h of m n =
       let s = keys_by (terms_at c.rules holder) row k attr (setter 0 (terms_at c.rules holder) attr) n in
       record {
-        row = row; column = s.0; holder = holder; is = s.1.1; is_local = h;
+        row = row;
+        column = s.0;
+        holder = holder;
+        is = s.1.1;
+        is_local = h;
         waits = record { attr = attr; sets = setter_is (terms_at c.rules holder) attr s.0 s.1.0; reads = itself row term of (mentioned_outer (term_mentions term) attr m) };
       }
 
@@ -193,7 +197,6 @@ module _ (c : Unordered) (good : WellFormed (core_of c)) where
     pub once : SetsOnce (terms_at c.rules holder)
 
   is_holder : (r : ℕ) (holder : ℕ × ℕ) → holder_of (rule_at g r) ≡ Some holder → IsHolder holder
-
   is_holder r holder h =
       let global = good.holders r holder h in
       let alt = good.alts holder global.0 global.1 global.2 in
@@ -251,7 +254,7 @@ module _ (c : Unordered) (good : WellFormed (core_of c)) where
       let terms = terms_at c.rules holder in
       let set = is_setter terms attr v (is_holder r holder h).once s in
       let key : Contains (name_keys terms r (Outer attr)) (flag r v) =
-          subst (λ o. Contains (option_to_list (option_map (flag r) o)) (flag r v)) (sym set) (here (flag r v) []) in
+      subst (λ o. Contains (option_to_list (option_map (flag r) o)) (flag r v)) (sym set) (here (flag r v) []) in
       let in_term = to_flat (name_keys terms r) (flat_map named (term_mentions term)) (Outer attr) (flag r v) (outer_named (term_mentions term) attr m) key in
       let in_alt = to_flat (term_keys terms r) st.alt.terms term (flag r v) st.is_term in_term in
       let in_rule = to_flat (alt_keys terms r) st.rule.alts st.alt (flag r v) st.is_alt in_alt in
@@ -283,6 +286,7 @@ module _ (c : Unordered) (good : WellFormed (core_of c)) where
       (waits_reached attr callee reads holder v (k ∙ ap Some one) s)
 
   pub tell_waits : (flags : Marks) → AreReached (length c.rules) (all_keys c.rules) (all_hands c.rules) flags → TellWaits c flags
-  tell_waits flags are holder r v h lt =
-      (λ m. reached_waits (flag r v) ((are.exact (flag r v)).0 m) holder r v h lt refl,
-      λ w. (are.exact (flag r v)).1 (waits_reached w.attr r w.reads holder v h w.sets))
+  tell_waits flags are holder r v h lt = (
+    λ m. reached_waits (flag r v) ((are.exact (flag r v)).0 m) holder r v h lt refl,
+    λ w. (are.exact (flag r v)).1 (waits_reached w.attr r w.reads holder v h w.sets),
+  )

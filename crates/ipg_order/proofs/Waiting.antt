@@ -1,30 +1,17 @@
 -- The flags tell of each local rule which terms of its holder it waits for.
-use Rattle.std.proofs.Common.{◌≡◌, ℕ, zero, suc, ◌+◌, ◌*◌, ◌<◌, ◌≤◌, refl, sym, ap, ◌∙◌, subst, arith, List, [], ◌∷◌, Option, Some, None, Bool, true, false, cond, map, length, ◌⊎◌, inl, inr, true≢false}
-use Rattle.std.specs.Prelude.{slice_get, option_map, option_to_list, flat_map, nat_eq, Contains, ◌↔◌}
+use Rattle.std.proofs.Common.{◌≡◌, ℕ, zero, suc, ◌+◌, ◌<◌, refl, sym, ap, ◌∙◌, subst, arith, List, [], ◌∷◌, Option, Some, Bool, true, false, cond, true≢false}
+use Rattle.std.specs.Prelude.{slice_get, flat_map, nat_eq, Contains}
 use Rattle.std.proofs.lemmas.Bool.Decides.{nat_tests}
-use Rattle.std.proofs.lemmas.Option.{slice_get-map, slice_get_within}
-use Rattle.ipg_core.specs.declared.grammar.Sym.{Sym}
-use Rattle.ipg_core.specs.declared.grammar.Sym.TheVariants as syms
 use Rattle.ipg_core.specs.declared.grammar.CoreExpr.{CoreExpr}
 use Rattle.ipg_core.specs.declared.grammar.CoreTerm.{CoreTerm}
 use Rattle.ipg_core.specs.declared.grammar.CoreTerm.TheVariants.{Slot, Set, Test, Repeat, Many, Pick}
-use Rattle.ipg_core.specs.declared.grammar.CoreAlt.{CoreAlt}
-use Rattle.ipg_core.specs.declared.grammar.CoreRule.{CoreRule}
-use Rattle.ipg_core.specs.Grammar.{Grammar, rule_at, holder_of}
-use Rattle.ipg_core.specs.Mention.{Mention, SeenOf, ItemOf, AfterOf, OwnOf, OuterOf, FieldOf, LoopOf, term_mentions, term_syms}
-use Rattle.ipg_core.specs.MustTouch.{Marks, is_marked}
-use Rattle.ipg_core.specs.Order.{Sets, TermOf, Reads, itself, through}
-use Rattle.ipg_complete.specs.declared.completed.CompletedAlt.{CompletedAlt}
-use Rattle.ipg_complete.specs.declared.completed.CompletedRule.{CompletedRule}
-use Rattle.ipg_complete.specs.Unordered.{Unordered, core_of, rule_of, alt_of}
-use Rattle.ipg_order.specs.declared.named.Named.{Named}
+use Rattle.ipg_core.specs.Mention.{Mention, SeenOf, ItemOf, AfterOf, OwnOf, OuterOf, FieldOf, LoopOf}
+use Rattle.ipg_core.specs.Order.{Sets}
 use Rattle.ipg_order.specs.declared.named.Named.TheVariants.{Term, Own, Outer}
-use Rattle.ipg_order.specs.declared.closure.Hand.{Hand}
 use Rattle.ipg_order.specs.Named.{named}
-use Rattle.ipg_order.specs.Closure.{flag, Reached, direct, handed, AreReached}
-use Rattle.ipg_order.specs.Locals.{sets, setter, terms_at, name_keys, term_keys, alt_keys, keys_under, rule_keys, all_keys, is_some, is_local, sym_hands, term_hands, alt_hands, hands_under, rule_hands, all_hands}
-use Rattle.ipg_order.specs.Reading.{WaitsFor, TellWaits}
-use Rattle.ipg_order.proofs.Members.{not_in, cons_cases, here, got, Among, in_flat, to_flat, Numbered, in_numbered, to_numbered, Image, in_map, to_map}
+use Rattle.ipg_order.specs.Closure.{flag}
+use Rattle.ipg_order.specs.Locals.{sets, setter}
+use Rattle.ipg_order.proofs.Members.{not_in, here, in_flat, to_flat}
 use Rattle.ipg_order.proofs.Handing.{only_one}
 
 -- ---- the term that sets an attribute
@@ -89,7 +76,6 @@ setter_is terms attr v e =
     (s.value, ap (slice_get terms) (let a : v ≡ s.number = let b = s.is in omega arith in a) ∙ s.sets)
 
 pub is_setter : (terms : List CoreTerm) (attr v : ℕ) → SetsOnce terms → Sets terms v attr → setter 0 terms attr ≡ Some v
-
 is_setter terms attr v once s =
     let f = found 0 terms attr v s.0 s.1 in
     f.is ∙ ap some_number (once attr f.number v (setter_is terms attr f.number f.is) s)

@@ -2,6 +2,7 @@
 pub mod Stuck
 -- what ordering answers
 pub mod Answer
+pub mod Laws
 -- what functions inside the crate promise each other
 pub mod Needs
 pub mod Named

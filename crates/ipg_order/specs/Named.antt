@@ -1,5 +1,5 @@
 -- What a mention names that an order depends on: a term, or an attribute that some term sets.
-use Rattle.std.specs.Prelude.{ℕ, List, [], ◌∷◌}
+use Rattle.std.specs.Prelude.{List, [], ◌∷◌}
 use Rattle.ipg_core.specs.Mention.{Mention, SeenOf, ItemOf, AfterOf, OwnOf, OuterOf, FieldOf, LoopOf}
 use Rattle.ipg_order.specs.declared.named.Named.{Named}
 use Rattle.ipg_order.specs.declared.named.Named.TheVariants.{Term, Own, Outer}

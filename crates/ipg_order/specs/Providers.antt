@@ -1,6 +1,6 @@
 -- What each term of an alternative needs, as lists: the terms that its expressions name, those that set the attributes
 -- that it reads, and those that a local rule which it calls waits for.
-use Rattle.std.specs.Prelude.{◌≡◌, ℕ, zero, suc, ◌+◌, List, [], ◌∷◌, ◌++◌, length, flat_map, Option, Some, None, Bool, false, nat_eq, if◌then◌else◌, slice_get}
+use Rattle.std.specs.Prelude.{ℕ, zero, suc, ◌+◌, List, [], ◌∷◌, ◌++◌, length, flat_map, Option, Some, None, Bool, false, nat_eq, if◌then◌else◌, slice_get}
 use Rattle.ipg_core.specs.declared.grammar.Sym.{Sym}
 use Rattle.ipg_core.specs.declared.grammar.Sym.TheVariants as syms
 use Rattle.ipg_core.specs.declared.grammar.CoreTerm.{CoreTerm}

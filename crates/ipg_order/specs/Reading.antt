@@ -1,7 +1,7 @@
 -- Which terms of its holder a local rule waits for: those that set the attributes which it reads, itself or through others.
 use Rattle.std.specs.Prelude.{◌≡◌, ℕ, ◌<◌, List, map, Option, Some, true, ◌↔◌}
 use Rattle.ipg_complete.specs.declared.completed.CompletedRule.{CompletedRule}
-use Rattle.ipg_core.specs.Grammar.{Grammar, rule_at, holder_of}
+use Rattle.ipg_core.specs.Grammar.{rule_at, holder_of}
 use Rattle.ipg_core.specs.MustTouch.{Marks, is_marked}
 use Rattle.ipg_core.specs.Order.{Sets, Reads}
 use Rattle.ipg_complete.specs.Unordered.{Unordered, core_of}

@@ -4,6 +4,7 @@
 mod arranging;
 mod closure;
 mod fault;
+pub mod laws;
 mod locals;
 mod named;
 mod ordered;

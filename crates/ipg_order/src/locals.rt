@@ -29,7 +29,10 @@ fn sets(term: &CoreTerm, attr: u32) -> bool
     ensures { result ≡ spec.sets term.now attr }
 {
     match term {
-        CoreTerm::Set { attr: set, value: _ } => *set == attr,
+        CoreTerm::Set {
+            attr: set,
+            value: _,
+        } => *set == attr,
         CoreTerm::Slot(_) => false,
         CoreTerm::Test(_) => false,
         CoreTerm::Repeat { .. } => false,

@@ -147,12 +147,7 @@ fn add_cases(
 }
 
 /// A call of a local rule of this alternative needs what that rule waits for.
-fn add_sym(
-    needs: &mut Vec<u32>,
-    local: Local<'_>,
-    of: Of<'_>,
-    sym: &Sym,
-) -> Result<(), AllocError>
+fn add_sym(needs: &mut Vec<u32>, local: Local<'_>, of: Of<'_>, sym: &Sym) -> Result<(), AllocError>
     requires { length of.terms.now ≤ 256 }
     ensures { OnOk result (needs.new.items ≡ needs.old.items ++ spec.sym_needs local.entry.holders.now local.entry.flags.now of.entry.at (length of.entry.terms.now) of.entry.number sym.now) }
 {

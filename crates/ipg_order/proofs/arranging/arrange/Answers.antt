@@ -1,8 +1,7 @@
-use Rattle.std.proofs.Common.{rules, ◌≡◌, ◌<◌, ℕ, refl, sym, ap, ◌∙◌, subst, arith, List, [], ◌∷◌, ◌++◌, length, true, false, None, Some}
+use Rattle.std.proofs.Common.{rules, ◌≡◌, ◌<◌, ℕ, sym, ap, ◌∙◌, subst, arith, [], length, true, false}
 use Rattle.std.specs.Prelude.{slice_set, replicate}
 use Rattle.std.proofs.lemmas.List.{length-replicate}
-use Rattle.ipg_core.specs.MustTouch.{Marks, is_marked}
-use Rattle.ipg_core.specs.Order.{is_taken}
+use Rattle.ipg_core.specs.MustTouch.{is_marked}
 use Rattle.ipg_order.specs.Needs.{Listed, IsReady, IsFirstReady, IsFirstFree}
 use Rattle.ipg_order.proofs.Going.{Goes, Shows, taken_after, taken_more, goes_more, goes_whole, goes_stuck, shows_none, shows_more, is_next, is_end, fewer_unset, set_size, none_set}
 use Rattle.ipg_order.proofs.arranging.arrange.Goals as goal
@@ -46,9 +45,11 @@ returns-in-Some-first_free c =
     let flags = c.loop-next.taken.items in
     let order = c.loop-next.order.items in
     let none = subst (λ fs. (w : ℕ) → IsReady needs fs w → ⊥) c.as_slice.ensures.value c.in_default.ensures.none in
-    let free = subst (λ fs. IsFirstFree fs c.in-Some-first_free.left) c.as_slice-2.ensures.value c.in-Some-first_free.ensures.some in
-    (order, goes_stuck (Listed needs) (length needs) [] order c.in-Some-first_free.left c.loop-next.invariant.goes
-    (is_end needs flags (taken_after [] order) c.in-Some-first_free.left c.loop-next.invariant.shows c.loop-next.invariant.size none free))
+    let free = subst (λ fs. IsFirstFree fs c.in-Some-first_free.left) c.as_slice-2.ensures.value c.in-Some-first_free.ensures.some in (
+      order,
+      goes_stuck (Listed needs) (length needs) [] order c.in-Some-first_free.left c.loop-next.invariant.goes
+          (is_end needs flags (taken_after [] order) c.in-Some-first_free.left c.loop-next.invariant.shows c.loop-next.invariant.size none free),
+    )
 
 pub returns : goal.returns
 returns c =

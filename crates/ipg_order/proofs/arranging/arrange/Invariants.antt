@@ -1,4 +1,4 @@
-use Rattle.std.proofs.Common.{◌≡◌, ℕ, List, [], length}
+use Rattle.std.proofs.Common.{◌≡◌, [], length}
 use Rattle.ipg_order.specs.Needs.{Listed}
 use Rattle.ipg_order.proofs.Going.{Goes, Shows, taken_after}
 use Rattle.ipg_order.specs.Closure.{unset}

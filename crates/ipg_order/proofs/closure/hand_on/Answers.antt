@@ -1,4 +1,4 @@
-use Rattle.std.proofs.Common.{◌≡◌, ◌+◌, ◌∙◌, sym, subst, arith, take, get_or}
+use Rattle.std.proofs.Common.{◌+◌, subst, arith, take, get_or}
 use Rattle.std.proofs.lemmas.List.{take_all}
 use Rattle.ipg_order.specs.declared.closure.Hand.{Hand}
 use Rattle.ipg_order.proofs.Handing.{PassingAll, Handed, all_next, none_passed, all_closed, all_fewer, so_far, is_there}

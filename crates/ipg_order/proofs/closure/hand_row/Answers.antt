@@ -1,4 +1,4 @@
-use Rattle.std.proofs.Common.{◌≡◌, ◌<◌, ◌+◌, ◌*◌, ℕ, sym, ap, ◌∙◌, subst, arith, length}
+use Rattle.std.proofs.Common.{◌≡◌, ◌<◌, ◌∙◌, subst, arith, length}
 use Rattle.ipg_order.specs.Closure.{flag}
 use Rattle.ipg_order.proofs.Handing.{Passing, step_size, step_keeps, step_sound, passing_next, nothing_passed, passed_closed, passed_fewer}
 use Rattle.ipg_order.proofs.closure.hand_row.Goals as goal

@@ -1,6 +1,5 @@
-use Rattle.std.proofs.Common.{◌≡◌, ◌<◌, ◌+◌, ℕ, sym, ap, ◌∙◌, subst, arith, length, true, take, get_or, ◌⊎◌, inl, inr}
+use Rattle.std.proofs.Common.{◌≡◌, ◌<◌, ℕ, sym, ◌∙◌, subst, arith, length, true, take, get_or, ◌⊎◌, inl, inr}
 use Rattle.std.specs.Prelude.{slice_set, Contains}
-use Rattle.std.specs.List.{AllByRecursion}
 use Rattle.std.proofs.lemmas.List.{take_all}
 use Rattle.ipg_core.specs.MustTouch.{is_marked}
 use Rattle.ipg_order.proofs.Going.{set_here, set_keeps, was_set, set_size}

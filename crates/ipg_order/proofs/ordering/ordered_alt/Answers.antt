@@ -1,4 +1,4 @@
-use Rattle.std.proofs.Common.{◌≡◌, ◌≤◌, refl, sym, ap, ◌∙◌, subst, arith, List, ℕ, [], length}
+use Rattle.std.proofs.Common.{◌≡◌, refl, sym, ap, ◌∙◌, subst, arith, List, ℕ, [], length}
 use Rattle.ipg_core.specs.Order.{InOrder}
 use Rattle.ipg_order.specs.Needs.{Listed, IsArrangement}
 use Rattle.ipg_order.specs.Providers.{all_needs}

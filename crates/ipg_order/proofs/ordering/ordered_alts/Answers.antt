@@ -1,8 +1,7 @@
-use Rattle.std.proofs.Common.{◌≡◌, ◌≤◌, ◌<◌, ◌+◌, ◌∷◌, [], ◌++◌, ℕ, List, length, Some, Err, refl, sym, ap, subst, ◌∙◌, append_assoc, arith}
+use Rattle.std.proofs.Common.{◌≡◌, ◌+◌, ◌∷◌, [], ◌++◌, length, Some, Err, sym, ap, subst, ◌∙◌, append_assoc, arith}
 use Rattle.std.specs.Prelude.{slice_get}
 use Rattle.std.specs.Vec.Iter.{into_iter_items}
 use Rattle.std.proofs.lemmas.List.{length-append}
-use Rattle.ipg_complete.specs.declared.completed.CompletedAlt.{CompletedAlt}
 use Rattle.ipg_order.specs.Ordered.{IsOrderedAlt, AreOrderedAlts, AltStops, StopsAt, HasOrder}
 use Rattle.ipg_order.proofs.Alternatives.{next_item, as_many, one_more, have_orders}
 use Rattle.ipg_order.proofs.ordering.ordered_alts.Goals as goal
@@ -33,7 +32,7 @@ loop-alt-preserved c =
           omega arith,
       subst (AreOrderedAlts holders flags c.args.rule 0 (at.yielded ++ c.in-Some.alt ∷ [])) (sym c.in_ok-push-in-Ok.ensures.items)
           (one_more holders flags c.args.rule 0 at.yielded at.ordered.items c.in-Some.alt c.in-Ok.alt at.invariant.2
-            (subst (λ k. IsOrderedAlt holders flags (c.args.rule, k) c.in-Some.alt c.in-Ok.alt) number c.in-Ok.ensures.ok)),
+          (subst (λ k. IsOrderedAlt holders flags (c.args.rule, k) c.in-Some.alt c.in-Ok.alt) number c.in-Ok.ensures.ok)),
     )
 
 pub returns-in-Err-Stuck-clause-err : goal.returns-in-Err-Stuck-clause-err
@@ -56,5 +55,5 @@ returns-in-Err-Stuck-clause-err c =
           (subst (λ f. AltStops holders flags (c.args.rule, c.len-number.result) c.in-Some.alt (Err f)) c.in-Err-Stuck.field-0-is c.in-Err-Stuck.ensures.err);
       before = λ b other lt e. subst (λ k. HasOrder holders flags (c.args.rule, k) other) (let z : 0 + b ≡ b = omega arith in z)
           (have_orders holders flags c.args.rule 0 at.yielded rest at.ordered.items at.invariant.2 b other (let n = number in omega arith)
-            (ap (λ xs. slice_get xs b) parts ∙ e));
+          (ap (λ xs. slice_get xs b) parts ∙ e));
     }

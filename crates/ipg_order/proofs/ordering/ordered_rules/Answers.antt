@@ -1,4 +1,4 @@
-use Rattle.std.proofs.Common.{◌≡◌, ◌≤◌, ◌<◌, ◌+◌, ◌∷◌, [], ◌++◌, ℕ, List, length, Some, Err, refl, sym, ap, subst, ◌∙◌, append_assoc, arith}
+use Rattle.std.proofs.Common.{◌≡◌, ◌+◌, ◌∷◌, [], ◌++◌, length, Some, Err, refl, sym, ap, subst, ◌∙◌, append_assoc, arith}
 use Rattle.std.specs.Prelude.{slice_get}
 use Rattle.std.specs.Vec.Iter.{into_iter_items}
 use Rattle.std.proofs.lemmas.List.{length-append}
@@ -34,9 +34,11 @@ loop-rule-preserved c =
           omega arith,
       subst (AreOrderedRules holders flags 0 (at.yielded ++ c.in-Some.rule ∷ [])) (sym c.in_ok-push-in-Ok.ensures.items)
           (one_more_rule holders flags 0 at.yielded at.ordered.items c.in-Some.rule new at.invariant.2
-            (subst (λ k. IsOrderedRule holders flags k c.in-Some.rule new) number (record {
-              name = refl; holder = refl; alts = subst (AreOrderedAlts holders flags c.len-number.result 0 c.in-Some.rule.alts) (sym c.from_vec.ensures) c.in-Ok.ensures.ok;
-            }))),
+          (subst (λ k. IsOrderedRule holders flags k c.in-Some.rule new) number (record {
+            name = refl;
+            holder = refl;
+            alts = subst (AreOrderedAlts holders flags c.len-number.result 0 c.in-Some.rule.alts) (sym c.from_vec.ensures) c.in-Ok.ensures.ok;
+          }))),
     )
 
 pub returns-in-Err-Stuck-clause-err : goal.returns-in-Err-Stuck-clause-err
@@ -57,8 +59,8 @@ returns-in-Err-Stuck-clause-err c =
           (ap (slice_get (at.yielded ++ rest)) number ∙ next_item at.yielded c.in-Some.rule (into_iter_items c.next.new.self));
       stops = subst (StopsIn holders flags c.len-number.result c.in-Some.rule.alts _) (sym c.in-Err-Stuck.term-is)
           (subst (λ a. StopsIn holders flags c.len-number.result c.in-Some.rule.alts a c.in-Err-Stuck.term) (sym c.in-Err-Stuck.alt-is)
-            (subst (λ f. RuleStops holders flags c.len-number.result c.in-Some.rule.alts (Err f)) c.in-Err-Stuck.field-0-is c.in-Err-Stuck.ensures.err));
+          (subst (λ f. RuleStops holders flags c.len-number.result c.in-Some.rule.alts (Err f)) c.in-Err-Stuck.field-0-is c.in-Err-Stuck.ensures.err));
       before = λ s other lt e. subst (λ k. HasOrders holders flags k other) (let z : 0 + s ≡ s = omega arith in z)
           (rules_have_orders holders flags 0 at.yielded rest at.ordered.items at.invariant.2 s other (let n = number in omega arith)
-            (ap (λ xs. slice_get xs s) parts ∙ e));
+          (ap (λ xs. slice_get xs s) parts ∙ e));
     }

@@ -1,6 +1,5 @@
-use Rattle.std.proofs.Common.{◌≡◌, ◌++◌, drop, length}
+use Rattle.std.proofs.Common.{◌≡◌, ◌++◌, drop}
 use Rattle.std.specs.Prelude.{flat_map}
-use Rattle.ipg_order.specs.Locals.{case_syms}
 use Rattle.ipg_order.specs.Providers as spec
 use Rattle.ipg_order.proofs.providers.add_names.Given as goal
 

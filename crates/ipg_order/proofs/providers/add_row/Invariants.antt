@@ -1,6 +1,4 @@
-use Rattle.std.proofs.Common.{◌≡◌, ◌++◌, drop, length}
-use Rattle.std.specs.Prelude.{flat_map}
-use Rattle.ipg_order.specs.Locals.{case_syms}
+use Rattle.std.proofs.Common.{◌≡◌, ◌++◌}
 use Rattle.ipg_order.specs.Providers as spec
 use Rattle.ipg_order.proofs.providers.add_row.Given as goal
 

@@ -1,9 +1,7 @@
-use Rattle.std.proofs.Common.{◌≡◌, ◌<◌, ◌*◌, ℕ, sym, ap, ◌∙◌, subst, length, List}
+use Rattle.std.proofs.Common.{◌<◌, ◌*◌, sym, ◌∙◌, subst, length}
 use Rattle.std.specs.List.{AllByRecursion}
-use Rattle.ipg_order.specs.Closure.{IsRow, AreReached}
+use Rattle.ipg_order.specs.Closure.{IsRow}
 use Rattle.ipg_order.specs.Locals.{IsFew, all_keys, all_hands}
-use Rattle.ipg_order.specs.Reading.{TellWaits}
-use Rattle.ipg_order.proofs.Telling.{tell_waits}
 use Rattle.ipg_order.proofs.Bounds.{is_few, keys_below, hands_below, if_reached}
 use Rattle.ipg_order.proofs.waits.waits.Goals as goal
 
