@@ -4,7 +4,7 @@
 mod systems;
 
 ghost use Rattle.std.specs.Prelude.{◌≡◌, ◌≤◌, length, IfOk};
-ghost use Rattle.ipg_lin.specs.Formula.{width, depth};
+ghost use Rattle.ipg_lin.specs.Formula.{width};
 
 use anyhow::{Result, bail};
 use ipg_cert::{Refutation, Step};
@@ -39,8 +39,7 @@ fn wide_box(alloc: Global, vars: u64) -> std::result::Result<Boxed, AllocError>
 }
 
 fn report(rt: &HostRuntime, what: &str, f: &Formula, vars: u64) -> Result<()>
-    requires width { width f.now ≤ vars }
-    requires depth { depth f.now ≤ 4096 }
+    requires { width f.now ≤ vars }
 {
     let alloc = rt.alloc();
     let b = wide_box(alloc, vars)?;

@@ -1,5 +1,5 @@
 ghost use Rattle.std.specs.Prelude.{◌≡◌, ◌+◌, ◌*◌, ◌<◌, ◌≤◌, ◌^◌, IfOk, OnOk};
-ghost use Rattle.ipg_lin.specs.Formula.{width, depth};
+ghost use Rattle.ipg_lin.specs.Formula.{width};
 ghost use Rattle.bench_solve.specs.Small.{AreSmall};
 
 use ipg_lin::{Formula, LinFault, Linear};
@@ -10,8 +10,7 @@ use std::alloc::Global;
 fn difference(alloc: Global, vars: u64, x: u64, y: u64, constant: i64) -> Result<Formula, LinFault>
     requires x { x < vars }
     requires y { y < vars }
-    ensures width { IfOk result (λ f. width f ≤ vars) }
-    ensures depth { IfOk result (λ f. depth f ≡ 0) }
+    ensures { IfOk result (λ f. width f ≤ vars) }
 {
     if x < y {
         Ok(Formula::Atom(Linear::new(alloc, &[(x, 1), (y, -1)], constant)?))
@@ -23,17 +22,15 @@ fn difference(alloc: Global, vars: u64, x: u64, y: u64, constant: i64) -> Result
 /// `sign * x + constant <= 0`.
 fn bound(alloc: Global, vars: u64, x: u64, sign: i64, constant: i64) -> Result<Formula, LinFault>
     requires { x < vars }
-    ensures width { IfOk result (λ f. width f ≤ vars) }
-    ensures depth { IfOk result (λ f. depth f ≡ 0) }
+    ensures { IfOk result (λ f. width f ≤ vars) }
 {
     Ok(Formula::Atom(Linear::new(alloc, &[(x, sign)], constant)?))
 }
 
-fn put(members: &mut List<Formula>, vars: u64, level: u64, f: Formula) -> Result<(), LinFault>
-    requires small { AreSmall vars level members.old }
+fn put(members: &mut List<Formula>, vars: u64, f: Formula) -> Result<(), LinFault>
+    requires small { AreSmall vars members.old }
     requires width { width f ≤ vars }
-    requires depth { depth f ≤ level }
-    ensures { OnOk result (AreSmall vars level members.new) }
+    ensures { OnOk result (AreSmall vars members.new) }
 {
     match members.push(f) {
         Ok(()) => Ok(()),
@@ -46,17 +43,16 @@ fn put_equation(
     alloc: Global,
     members: &mut List<Formula>,
     vars: u64,
-    level: u64,
     x: u64,
     y: u64,
 ) -> Result<(), LinFault>
     requires x { x < vars }
     requires y { y < vars }
-    requires small { AreSmall vars level members.old }
-    ensures { OnOk result (AreSmall vars level members.new) }
+    requires small { AreSmall vars members.old }
+    ensures { OnOk result (AreSmall vars members.new) }
 {
-    put(members, vars, level, difference(alloc, vars, x, y, 0)?)?;
-    put(members, vars, level, difference(alloc, vars, y, x, 0)?)
+    put(members, vars, difference(alloc, vars, x, y, 0)?)?;
+    put(members, vars, difference(alloc, vars, y, x, 0)?)
 }
 
 /// Steps of at least 1 and at most 5 along the variables from 1 on.
@@ -67,29 +63,14 @@ fn put_chain(
     count: u64,
 ) -> Result<(), LinFault>
     requires vars { count + 2 ≤ vars }
-    requires small { AreSmall vars 0 members.old }
-    ensures { OnOk result (AreSmall vars 0 members.new) }
+    requires small { AreSmall vars members.old }
+    ensures { OnOk result (AreSmall vars members.new) }
 {
     for i in 0..count {
         let here = i + 1;
-        put(
-            members,
-            vars,
-            0,
-            difference(alloc, vars, here, here + 1, 1)?,
-        )?;
-        put(
-            members,
-            vars,
-            0,
-            difference(alloc, vars, here, here + 1, 0)?,
-        )?;
-        put(
-            members,
-            vars,
-            0,
-            difference(alloc, vars, here + 1, here, -5)?,
-        )?;
+        put(members, vars, difference(alloc, vars, here, here + 1, 1)?)?;
+        put(members, vars, difference(alloc, vars, here, here + 1, 0)?)?;
+        put(members, vars, difference(alloc, vars, here + 1, here, -5)?)?;
     }
     Ok(())
 }
@@ -97,8 +78,7 @@ fn put_chain(
 /// A chain over `count + 2` variables, which has solutions.
 pub fn chain(alloc: Global, count: u64) -> Result<Formula, LinFault>
     requires { count < 2 ^ 32 }
-    ensures width { IfOk result (λ f. width f ≤ count + 2) }
-    ensures depth { IfOk result (λ f. depth f ≤ 4) }
+    ensures { IfOk result (λ f. width f ≤ count + 2) }
 {
     let mut members = List::new(alloc);
     put_chain(alloc, &mut members, count + 2, count)?;
@@ -108,14 +88,13 @@ pub fn chain(alloc: Global, count: u64) -> Result<Formula, LinFault>
 /// The chain, and its last variable at most the first: it has no solution.
 pub fn cycle(alloc: Global, count: u64) -> Result<Formula, LinFault>
     requires { count < 2 ^ 32 }
-    ensures width { IfOk result (λ f. width f ≤ count + 2) }
-    ensures depth { IfOk result (λ f. depth f ≤ 4) }
+    ensures { IfOk result (λ f. width f ≤ count + 2) }
 {
     let vars = count + 2;
     let mut members = List::new(alloc);
     put_chain(alloc, &mut members, vars, count)?;
     let back = difference(alloc, vars, count + 1, 1, 0)?;
-    put(&mut members, vars, 0, back)?;
+    put(&mut members, vars, back)?;
     Ok(Formula::All(members))
 }
 
@@ -123,51 +102,41 @@ pub fn cycle(alloc: Global, count: u64) -> Result<Formula, LinFault>
 /// length. The left end has the number `left`, the start and the end the next two, the length 0.
 fn touching(alloc: Global, vars: u64, left: u64) -> Result<Formula, LinFault>
     requires { left + 3 < vars }
-    ensures width { IfOk result (λ f. width f ≤ vars) }
-    ensures depth { IfOk result (λ f. depth f ≤ 1) }
+    ensures { IfOk result (λ f. width f ≤ vars) }
 {
     let mut members = List::new(alloc);
     put(
         &mut members,
         vars,
-        0,
         difference(alloc, vars, left, left + 1, 0)?,
     )?;
     put(
         &mut members,
         vars,
-        0,
         difference(alloc, vars, left + 1, left + 2, 1)?,
     )?;
-    put(
-        &mut members,
-        vars,
-        0,
-        difference(alloc, vars, left + 2, 0, 0)?,
-    )?;
+    put(&mut members, vars, difference(alloc, vars, left + 2, 0, 0)?)?;
     Ok(Formula::All(members))
 }
 
 /// The slot is passed over: its start is the length, and its end is its left end.
 fn passing(alloc: Global, vars: u64, left: u64) -> Result<Formula, LinFault>
     requires { left + 3 < vars }
-    ensures width { IfOk result (λ f. width f ≤ vars) }
-    ensures depth { IfOk result (λ f. depth f ≤ 1) }
+    ensures { IfOk result (λ f. width f ≤ vars) }
 {
     let mut members = List::new(alloc);
-    put_equation(alloc, &mut members, vars, 0, left + 1, 0)?;
-    put_equation(alloc, &mut members, vars, 0, left + 2, left)?;
+    put_equation(alloc, &mut members, vars, left + 1, 0)?;
+    put_equation(alloc, &mut members, vars, left + 2, left)?;
     Ok(Formula::All(members))
 }
 
 fn either(alloc: Global, vars: u64, left: u64) -> Result<Formula, LinFault>
     requires { left + 3 < vars }
-    ensures width { IfOk result (λ f. width f ≤ vars) }
-    ensures depth { IfOk result (λ f. depth f ≤ 2) }
+    ensures { IfOk result (λ f. width f ≤ vars) }
 {
     let mut members = List::new(alloc);
-    put(&mut members, vars, 1, touching(alloc, vars, left)?)?;
-    put(&mut members, vars, 1, passing(alloc, vars, left)?)?;
+    put(&mut members, vars, touching(alloc, vars, left)?)?;
+    put(&mut members, vars, passing(alloc, vars, left)?)?;
     Ok(Formula::Any(members))
 }
 
@@ -179,13 +148,13 @@ fn put_slot(
     left: u64,
 ) -> Result<(), LinFault>
     requires left { left + 3 < vars }
-    requires small { AreSmall vars 2 members.old }
-    ensures { OnOk result (AreSmall vars 2 members.new) }
+    requires small { AreSmall vars members.old }
+    ensures { OnOk result (AreSmall vars members.new) }
 {
-    put(members, vars, 2, bound(alloc, vars, left, -1, 0)?)?;
-    put(members, vars, 2, difference(alloc, vars, left, 0, 0)?)?;
-    put(members, vars, 2, either(alloc, vars, left)?)?;
-    put_equation(alloc, members, vars, 2, left + 3, left + 2)
+    put(members, vars, bound(alloc, vars, left, -1, 0)?)?;
+    put(members, vars, difference(alloc, vars, left, 0, 0)?)?;
+    put(members, vars, either(alloc, vars, left)?)?;
+    put_equation(alloc, members, vars, left + 3, left + 2)
 }
 
 fn put_slots(
@@ -195,8 +164,8 @@ fn put_slots(
     count: u64,
 ) -> Result<(), LinFault>
     requires vars { 3 * count + 5 ≤ vars }
-    requires small { AreSmall vars 2 members.old }
-    ensures { OnOk result (AreSmall vars 2 members.new) }
+    requires small { AreSmall vars members.old }
+    ensures { OnOk result (AreSmall vars members.new) }
 {
     for i in 0..count {
         put_slot(alloc, members, vars, 3 * i + 1)?;
@@ -207,20 +176,14 @@ fn put_slots(
 /// A chain of slots, with solutions; closed, it ends at 0 and its first slot at 1 or later, and has none.
 pub fn slots(alloc: Global, count: u64, is_closed: bool) -> Result<Formula, LinFault>
     requires { count < 2 ^ 32 }
-    ensures width { IfOk result (λ f. width f ≤ 3 * count + 5) }
-    ensures depth { IfOk result (λ f. depth f ≤ 4) }
+    ensures { IfOk result (λ f. width f ≤ 3 * count + 5) }
 {
     let vars = 3 * count + 5;
     let mut members = List::new(alloc);
     put_slots(alloc, &mut members, vars, count)?;
     if is_closed {
-        put(
-            &mut members,
-            vars,
-            2,
-            bound(alloc, vars, 3 * count + 1, 1, 0)?,
-        )?;
-        put(&mut members, vars, 2, bound(alloc, vars, 3, -1, 1)?)?;
+        put(&mut members, vars, bound(alloc, vars, 3 * count + 1, 1, 0)?)?;
+        put(&mut members, vars, bound(alloc, vars, 3, -1, 1)?)?;
     }
     Ok(Formula::All(members))
 }

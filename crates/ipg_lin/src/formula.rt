@@ -1,5 +1,5 @@
 ghost use Rattle.std.specs.Prelude.{◌≡◌, ◌≤◌, map, length};
-ghost use Rattle.ipg_lin.specs.Formula.{holds_at, every, some, width, greatest, depth, assigned};
+ghost use Rattle.ipg_lin.specs.Formula.{holds_at, every, some, width, greatest, assigned};
 
 use crate::linear::{Linear, value};
 use ipg_num::List;
@@ -18,18 +18,10 @@ pub struct Boxed {
     pub bounds: List<(i64, i64)>,
 }
 
-/// Whether the formula holds where each variable x is `values[x]`. It goes as deep as members stand in
-/// one another, so formulas that nest deeper than 4096 are not asked.
-pub fn holds(f: &Formula, values: &[i64]) -> bool
-    requires valued { width f.now ≤ length values.now }
-    requires shallow { depth f.now ≤ 4096 }
-    ensures { result ≡ holds_at (assigned values.now) f.now }
-{
-    holds_in(f, values)
-}
-
+/// Whether the formula holds where each variable x is `values[x]`. It recurses as deep as members stand
+/// in one another, as dropping the formula does.
 #[cycle(members)]
-fn holds_in(f: &Formula, values: &[i64]) -> bool
+pub fn holds(f: &Formula, values: &[i64]) -> bool
     requires { width f.now ≤ length values.now }
     ensures { result ≡ holds_at (assigned values.now) f.now }
 {
@@ -46,7 +38,7 @@ fn every(members: &[Formula], values: &[i64]) -> bool
     ensures { result ≡ every (map (holds_at (assigned values.now)) members.now) }
 {
     for member in members {
-        if !holds_in(member, values) {
+        if !holds(member, values) {
             return false;
         }
     }
@@ -59,7 +51,7 @@ fn some(members: &[Formula], values: &[i64]) -> bool
     ensures { result ≡ some (map (holds_at (assigned values.now)) members.now) }
 {
     for member in members {
-        if holds_in(member, values) {
+        if holds(member, values) {
             return true;
         }
     }

@@ -1,5 +1,5 @@
 ghost use Rattle.std.specs.Prelude.{◌≡◌, ◌≤◌, length, int_le, ◌&&◌, IsTrue, IfOk, IfSome};
-ghost use Rattle.ipg_lin.specs.Formula.{width, depth};
+ghost use Rattle.ipg_lin.specs.Formula.{width};
 ghost use Rattle.ipg_solve.specs.Decides.{Solves, Decides};
 ghost use Rattle.ipg_solve.specs.Within.{AreWithin};
 
@@ -30,8 +30,7 @@ fn are_within(values: &[i64], bounds: &[(i64, i64)]) -> bool
 
 /// Whether the values solve the formula.
 pub fn solves(f: &Formula, b: &Boxed, values: &[i64]) -> bool
-    requires valued { width f.now ≤ length b.now.bounds }
-    requires shallow { depth f.now ≤ 4096 }
+    requires { width f.now ≤ length b.now.bounds }
     ensures { IsTrue result → Solves f.now b.now values.now }
 {
     if values.len() != b.bounds.len() {
@@ -47,8 +46,7 @@ pub fn checked(
     b: &Boxed,
     found: Option<Decision>,
 ) -> Result<Option<Decision>, AllocError>
-    requires valued { width f.now ≤ length b.now.bounds }
-    requires shallow { depth f.now ≤ 4096 }
+    requires { width f.now ≤ length b.now.bounds }
     ensures { IfOk result (λ kept. IfSome kept (Decides f.now b.now)) }
 {
     match found {
@@ -59,8 +57,7 @@ pub fn checked(
 }
 
 fn solution(f: &Formula, b: &Boxed, values: List<i64>) -> Option<Decision>
-    requires valued { width f.now ≤ length b.now.bounds }
-    requires shallow { depth f.now ≤ 4096 }
+    requires { width f.now ≤ length b.now.bounds }
     ensures { IfSome result (Decides f.now b.now) }
 {
     if solves(f, b, values.as_slice()) {
@@ -76,7 +73,6 @@ fn refutation(
     b: &Boxed,
     r: Refutation,
 ) -> Result<Option<Decision>, AllocError>
-    requires { depth f.now ≤ 4096 }
     ensures { IfOk result (λ kept. IfSome kept (Decides f.now b.now)) }
 {
     if check(alloc, f, b, &r)? {

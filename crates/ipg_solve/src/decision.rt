@@ -1,5 +1,5 @@
 ghost use Rattle.std.specs.Prelude.{◌≡◌, ◌+◌, ◌^◌, ◌<◌, ◌≤◌, [], ◌∷◌, length, int_lt, MatchOption, IfOk};
-ghost use Rattle.ipg_lin.specs.Formula.{width, depth};
+ghost use Rattle.ipg_lin.specs.Formula.{width};
 ghost use Rattle.ipg_cert.specs.declared.refutation.Step.TheVariants.{Combine};
 ghost use Rattle.ipg_solve.specs.Decides.{Decides, IsExact};
 ghost use Rattle.ipg_solve.specs.Differences.{IsDifference, IsShort};
@@ -59,11 +59,10 @@ fn crossing(alloc: Global, x: usize) -> Result<Refutation, AllocError>
 /// A solution of the formula in the box, exactly where there is one, and otherwise a refutation that
 /// checks. Where the formula is differences alone, `x - y + c <= 0`, `x + c <= 0`, `-x + c <= 0` or
 /// `c <= 0`, the refutation is one Combine of at most one fact more than there are variables, of which
-/// there are fewer than 2^21. It goes as deep as members stand in one another, so formulas that nest
-/// deeper than 4096 are not asked.
+/// there are fewer than 2^21. It recurses as deep as members stand in one another, as dropping the
+/// formula does.
 pub fn decide(alloc: Global, f: &Formula, b: &Boxed) -> Result<Decision, AllocError>
-    requires valued { width f.now ≤ length b.now.bounds }
-    requires shallow { depth f.now ≤ 4096 }
+    requires { width f.now ≤ length b.now.bounds }
     ensures decided { IfOk result (λ decision. Decides f.now b.now decision) }
     ensures exact { IfOk result (λ decision. IsExact f.now b.now decision) }
     ensures short { IfOk result (λ decision. IsDifference f.now → length b.now.bounds < 2 ^ 21 → IsShort (length b.now.bounds) decision) }
@@ -73,8 +72,7 @@ pub fn decide(alloc: Global, f: &Formula, b: &Boxed) -> Result<Decision, AllocEr
 }
 
 fn decided(alloc: Global, f: &Formula, b: &Boxed) -> Result<Decision, AllocError>
-    requires valued { width f.now ≤ length b.now.bounds }
-    requires shallow { depth f.now ≤ 4096 }
+    requires { width f.now ≤ length b.now.bounds }
     ensures decided { IfOk result (λ decision. Decides f.now b.now decision) }
     ensures short { IfOk result (λ decision. IsDifference f.now → length b.now.bounds < 2 ^ 21 → IsShort (length b.now.bounds) decision) }
 {

@@ -1,5 +1,5 @@
 ghost use Rattle.std.specs.Prelude.{◌≤◌, length};
-ghost use Rattle.ipg_lin.specs.Formula.{width, depth};
+ghost use Rattle.ipg_lin.specs.Formula.{width};
 
 use crate::candidate::solves;
 use crate::decision::Decision;
@@ -414,8 +414,7 @@ enum Found {
 impl<'a> Seeker<'a> {
     /// The lower ends as values, if they solve the formula.
     fn try_lows(&mut self, f: &Formula, b: &Boxed) -> Result<Option<List<i64>>, AllocError>
-        requires valued { width f.now ≤ length b.now.bounds }
-        requires shallow { depth f.now ≤ 4096 }
+        requires { width f.now ≤ length b.now.bounds }
     {
         let values = self.lows()?;
         if solves(f, b, values.as_slice()) {
@@ -427,8 +426,7 @@ impl<'a> Seeker<'a> {
 
     /// The values nearest to zero, if they solve the formula.
     fn try_dive(&mut self, f: &Formula, b: &Boxed) -> Result<Option<List<i64>>, AllocError>
-        requires valued { width f.now ≤ length b.now.bounds }
-        requires shallow { depth f.now ≤ 4096 }
+        requires { width f.now ≤ length b.now.bounds }
     {
         let marks = self.marks.len();
         self.dive()?;
@@ -464,8 +462,7 @@ impl<'a> Seeker<'a> {
         goal: Pending<'a>,
         turn: u64,
     ) -> Result<Found, AllocError>
-        requires valued { width f.now ≤ length b.now.bounds }
-        requires shallow { depth f.now ≤ 4096 }
+        requires { width f.now ≤ length b.now.bounds }
     {
         self.enter(goal)?;
         let passes = self.vars.saturating_mul(2).saturating_add(64);
@@ -512,8 +509,7 @@ impl<'a> Seeker<'a> {
 
 /// Searches for a solution or a refutation, by bounds, cases and sums of facts, and by cuts last.
 pub fn seek(alloc: Global, f: &Formula, b: &Boxed) -> Result<Option<Decision>, AllocError>
-    requires valued { width f.now ≤ length b.now.bounds }
-    requires shallow { depth f.now ≤ 4096 }
+    requires { width f.now ≤ length b.now.bounds }
 {
     let mut seeker = Seeker::new(alloc, f, b)?;
     for turn in 0..u64::MAX {

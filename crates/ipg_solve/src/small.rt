@@ -2,7 +2,7 @@
 
 ghost use Rattle.std.specs.Prelude.{◌≡◌, ◌+◌, ◌*◌, ◌<◌, ◌≤◌, pos, negsuc, ◌≤ℤ◌, IfOk};
 ghost use Rattle.ipg_lin.specs.Form.{terms_width};
-ghost use Rattle.ipg_lin.specs.Formula.{width, depth};
+ghost use Rattle.ipg_lin.specs.Formula.{width};
 
 use super::*;
 use crate::difference::wants_short;
@@ -65,8 +65,7 @@ fn form(alloc: Global, state: &mut u64) -> Result<Linear, Fail>
 /// An atom, or at a level above 0 an All or an Any of up to three formulas of the level below.
 fn formula(alloc: Global, state: &mut u64, level: u64) -> Result<Formula, Fail>
     requires { level ≤ 3 }
-    ensures width { IfOk result (λ f. width f ≤ 4) }
-    ensures depth { IfOk result (λ f. depth f ≤ level) }
+    ensures { IfOk result (λ f. width f ≤ 4) }
 {
     if level == 0 {
         return Ok(Formula::Atom(form(alloc, state)?));
@@ -95,8 +94,7 @@ fn span(state: &mut u64) -> (i64, i64) {
 
 /// Whether the formula holds at some point of the box, by trying each.
 fn is_solvable(f: &Formula, bounds: &[(i64, i64); 4]) -> bool
-    requires width { width f.now ≤ 4 }
-    requires depth { depth f.now ≤ 4096 }
+    requires { width f.now ≤ 4 }
 {
     for a in bounds[0].0..=bounds[0].1 {
         for b in bounds[1].0..=bounds[1].1 {
@@ -114,8 +112,7 @@ fn is_solvable(f: &Formula, bounds: &[(i64, i64); 4]) -> bool
 
 /// Whether the decision is right, and stands.
 fn is_right(alloc: Global, f: &Formula, bounds: &[(i64, i64); 4]) -> Result<bool, Fail>
-    requires width { width f.now ≤ 4 }
-    requires depth { depth f.now ≤ 4096 }
+    requires { width f.now ≤ 4 }
 {
     let b = Boxed {
         bounds: List::from_vec(Vec::from_slice(alloc, bounds)?),
@@ -157,15 +154,13 @@ fn difference_form(alloc: Global, state: &mut u64) -> Result<Linear, Fail>
 }
 
 fn difference(alloc: Global, state: &mut u64) -> Result<Formula, Fail>
-    ensures width { IfOk result (λ f. width f ≤ 4) }
-    ensures depth { IfOk result (λ f. depth f ≡ 0) }
+    ensures { IfOk result (λ f. width f ≤ 4) }
 {
     Ok(Formula::Atom(difference_form(alloc, state)?))
 }
 
 fn differences(alloc: Global, state: &mut u64) -> Result<Formula, Fail>
-    ensures width { IfOk result (λ f. width f ≤ 4) }
-    ensures depth { IfOk result (λ f. depth f ≤ 1) }
+    ensures { IfOk result (λ f. width f ≤ 4) }
 {
     let mut members = List::new(alloc);
     let count = draw(state, 9);
@@ -203,8 +198,7 @@ fn differences_are_refuted_by_one_short_combine(rt: HostRuntime) -> Result<(), F
 
 /// Whether the levels alone decide the formula of differences, rightly and shortly.
 fn is_right_by_levels(alloc: Global, f: &Formula, bounds: &[(i64, i64); 4]) -> Result<bool, Fail>
-    requires width { width f.now ≤ 4 }
-    requires depth { depth f.now ≤ 4096 }
+    requires { width f.now ≤ 4 }
 {
     let b = Boxed {
         bounds: List::from_vec(Vec::from_slice(alloc, bounds)?),

@@ -1,5 +1,5 @@
 ghost use Rattle.std.specs.Prelude.{◌≡◌, ◌+◌, ◌<◌, ◌≤◌, max, length, IfOk};
-ghost use Rattle.ipg_lin.specs.Formula.{width, depth};
+ghost use Rattle.ipg_lin.specs.Formula.{width};
 
 use super::*;
 use crate::difference::are_differences;
@@ -22,28 +22,23 @@ fn box_of(alloc: Global, bounds: &[(i64, i64)]) -> Result<Boxed, Fail>
 
 /// `coefficient * x + constant <= 0`.
 fn one(alloc: Global, coefficient: i64, constant: i64) -> Result<Formula, Fail>
-    ensures width { IfOk result (λ f. width f ≤ 1) }
-    ensures depth { IfOk result (λ f. depth f ≡ 0) }
+    ensures { IfOk result (λ f. width f ≤ 1) }
 {
     Ok(Formula::Atom(Linear::new(alloc, &[(0, coefficient)], constant)?))
 }
 
 /// `a * x + b * y + constant <= 0`.
 fn two(alloc: Global, a: i64, b: i64, constant: i64) -> Result<Formula, Fail>
-    ensures width { IfOk result (λ f. width f ≤ 2) }
-    ensures depth { IfOk result (λ f. depth f ≡ 0) }
+    ensures { IfOk result (λ f. width f ≤ 2) }
 {
     Ok(Formula::Atom(Linear::new(alloc, &[(0, a), (1, b)], constant)?))
 }
 
 /// Both of two formulas that nest little.
 fn both(alloc: Global, f: Formula, g: Formula) -> Result<Formula, Fail>
-    requires depth { depth f ≤ 10 }
-    requires other_depth { depth g ≤ 10 }
     requires width { width f ≤ 3 }
     requires other_width { width g ≤ 3 }
-    ensures width { IfOk result (λ h. width h ≤ max (width f) (width g)) }
-    ensures depth { IfOk result (λ h. depth h ≤ max (depth f) (depth g) + 1) }
+    ensures { IfOk result (λ h. width h ≤ max (width f) (width g)) }
 {
     let mut members = List::new(alloc);
     members.push(f)?;
@@ -52,12 +47,9 @@ fn both(alloc: Global, f: Formula, g: Formula) -> Result<Formula, Fail>
 }
 
 fn either(alloc: Global, f: Formula, g: Formula) -> Result<Formula, Fail>
-    requires depth { depth f ≤ 10 }
-    requires other_depth { depth g ≤ 10 }
     requires width { width f ≤ 3 }
     requires other_width { width g ≤ 3 }
-    ensures width { IfOk result (λ h. width h ≤ max (width f) (width g)) }
-    ensures depth { IfOk result (λ h. depth h ≤ max (depth f) (depth g) + 1) }
+    ensures { IfOk result (λ h. width h ≤ max (width f) (width g)) }
 {
     let mut members = List::new(alloc);
     members.push(f)?;
@@ -81,8 +73,7 @@ fn refutation(decision: Decision) -> Result<Refutation, Fail> {
 
 /// The words of the refutation of this formula, which checks.
 fn words(alloc: Global, f: &Formula, b: &Boxed) -> Result<Vec<u8>, Fail>
-    requires valued { width f.now ≤ length b.now.bounds }
-    requires shallow { depth f.now ≤ 4096 }
+    requires { width f.now ≤ length b.now.bounds }
 {
     let r = refutation(decide(alloc, f, b)?)?;
     if !check(alloc, f, b, &r)? {
@@ -111,15 +102,13 @@ fn three_and_a_half_is_refuted(rt: HostRuntime) -> Result<(), Fail> {
 }
 
 fn empty_all(alloc: Global) -> Formula
-    ensures width { width result ≡ 0 }
-    ensures depth { depth result ≤ 1 }
+    ensures { width result ≡ 0 }
 {
     Formula::All(List::new(alloc))
 }
 
 fn empty_any(alloc: Global) -> Formula
-    ensures width { width result ≡ 0 }
-    ensures depth { depth result ≤ 1 }
+    ensures { width result ≡ 0 }
 {
     Formula::Any(List::new(alloc))
 }
@@ -174,8 +163,7 @@ fn ends_of_64_bits_are_reached(rt: HostRuntime) -> Result<(), Fail> {
 }
 
 fn three(alloc: Global, sign: i64, constant: i64) -> Result<Formula, Fail>
-    ensures width { IfOk result (λ f. width f ≤ 3) }
-    ensures depth { IfOk result (λ f. depth f ≡ 0) }
+    ensures { IfOk result (λ f. width f ≤ 3) }
 {
     let terms = [(0, sign), (1, sign), (2, sign)];
     Ok(Formula::Atom(Linear::new(alloc, &terms, constant)?))
@@ -184,8 +172,7 @@ fn three(alloc: Global, sign: i64, constant: i64) -> Result<Formula, Fail>
 fn difference(alloc: Global, x: u64, y: u64, constant: i64) -> Result<Formula, Fail>
     requires order { x < y }
     requires three { y ≤ 2 }
-    ensures width { IfOk result (λ f. width f ≤ 3) }
-    ensures depth { IfOk result (λ f. depth f ≡ 0) }
+    ensures { IfOk result (λ f. width f ≤ 3) }
 {
     Ok(Formula::Atom(Linear::new(alloc, &[(x, 1), (y, -1)], constant)?))
 }
@@ -225,8 +212,7 @@ fn a_round_of_differences_is_one_combine(rt: HostRuntime) -> Result<(), Fail> {
 }
 
 fn constant(alloc: Global, constant: i64) -> Result<Formula, Fail>
-    ensures width { IfOk result (λ f. width f ≡ 0) }
-    ensures depth { IfOk result (λ f. depth f ≡ 0) }
+    ensures { IfOk result (λ f. width f ≡ 0) }
 {
     Ok(Formula::Atom(Linear::new(alloc, &[], constant)?))
 }

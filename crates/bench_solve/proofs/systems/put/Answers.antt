@@ -5,4 +5,4 @@ use Rattle.bench_solve.proofs.systems.put.Goals as goal
 
 pub returns-in-Ok : goal.returns-in-Ok
 returns-in-Ok c =
-    subst (AreSmall c.args.vars c.args.level) (sym c.in-Ok.ensures.ok) (small_push c.args.vars c.args.level c.args.members.now c.args.f c.requires.small c.requires.width c.requires.depth)
+    subst (AreSmall c.args.vars) (sym c.in-Ok.ensures.ok) (small_push c.args.vars c.args.members.now c.args.f c.requires.small c.requires.width)
