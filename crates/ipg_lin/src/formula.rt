@@ -1,4 +1,5 @@
-ghost use Rattle.std.specs.Prelude.{◌≡◌, ◌≤◌, map, length};
+ghost use Rattle.std.specs.Prelude.{◌≡◌, ◌≤◌, nat_le, map, length};
+ghost use Rattle.ipg_lin.specs.Form.{terms_width};
 ghost use Rattle.ipg_lin.specs.Formula.{holds_at, every, some, width, greatest, assigned};
 
 use crate::linear::{Linear, value};
@@ -56,4 +57,39 @@ fn some(members: &[Formula], values: &[i64]) -> bool
         }
     }
     false
+}
+
+/// Whether each variable of the formula is one of the first `vars`.
+#[cycle(over)]
+pub fn is_over(f: &Formula, vars: usize) -> bool
+    ensures { result ≡ nat_le (width f.now) vars }
+{
+    match f {
+        Formula::Atom(form) => are_over(form.terms(), vars),
+        Formula::All(members) => all_over(members.as_slice(), vars),
+        Formula::Any(members) => all_over(members.as_slice(), vars),
+    }
+}
+
+#[cycle(over)]
+fn all_over(members: &[Formula], vars: usize) -> bool
+    ensures { result ≡ nat_le (greatest (map width members.now)) vars }
+{
+    for member in members {
+        if !is_over(member, vars) {
+            return false;
+        }
+    }
+    true
+}
+
+fn are_over(terms: &[(u64, i64)], vars: usize) -> bool
+    ensures { result ≡ nat_le (terms_width terms.now) vars }
+{
+    for term in terms {
+        if vars as u64 <= term.0 {
+            return false;
+        }
+    }
+    true
 }

@@ -16,10 +16,10 @@ use Rattle.ipg_cert.specs.declared.refutation.Refutation.{Refutation}
 use Rattle.ipg_cert.specs.declared.refutation.Step.TheVariants.{Combine}
 use Rattle.ipg_cert.proofs.Told.{all_hold}
 use Rattle.ipg_cert.proofs.Sound.{le_test}
-use Rattle.ipg_walk.specs.declared.edge.Edge.{Edge}
-use Rattle.ipg_walk.specs.declared.settling.Settled.{Settled}
-use Rattle.ipg_walk.specs.declared.settling.Settled.TheVariants.{Levels, Circle}
-use Rattle.ipg_walk.specs.Falls.{level_at, Falls, AllFall, Settles}
+use Rattle.ipg_levels.specs.declared.edge.Edge.{Edge}
+use Rattle.ipg_levels.specs.declared.settling.Settled.{Settled}
+use Rattle.ipg_levels.specs.declared.settling.Settled.TheVariants.{Levels, Circle}
+use Rattle.ipg_levels.specs.Falls.{level_at, Falls, AllFall, Settles}
 use Rattle.ipg_solve.specs.Decides.{Solves}
 use Rattle.ipg_solve.specs.Differences.{are_differences}
 use Rattle.ipg_solve.specs.Edges.{edge_of, edges_in, entries_of, IsSized, AreBetween, AreHeights}

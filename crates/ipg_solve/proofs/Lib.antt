@@ -6,7 +6,6 @@ pub mod Parts
 pub mod Turning
 pub mod Solved
 pub mod Crossing
-pub mod Greatest
 pub mod Shapes
 pub mod Narrow
 pub mod Graph

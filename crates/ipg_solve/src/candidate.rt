@@ -7,6 +7,7 @@ use crate::decision::Decision;
 use ipg_cert::{Refutation, check};
 use ipg_lin::{Boxed, Formula, holds};
 use ipg_num::List;
+use ipg_seek::Found;
 use std::alloc::{AllocError, Global};
 
 fn is_within(value: i64, bound: &(i64, i64)) -> bool
@@ -39,19 +40,19 @@ pub fn solves(f: &Formula, b: &Boxed, values: &[i64]) -> bool
     are_within(values, b.bounds.as_slice()) && holds(f, values)
 }
 
-/// The decision that was found, if it stands.
+/// What was found as a decision, if it stands.
 pub fn checked(
     alloc: Global,
     f: &Formula,
     b: &Boxed,
-    found: Option<Decision>,
+    found: Option<Found>,
 ) -> Result<Option<Decision>, AllocError>
     requires { width f.now ≤ length b.now.bounds }
     ensures { IfOk result (λ kept. IfSome kept (Decides f.now b.now)) }
 {
     match found {
-        Some(Decision::Solution(values)) => Ok(solution(f, b, values)),
-        Some(Decision::Refuted(r)) => refutation(alloc, f, b, r),
+        Some(Found::Values(values)) => Ok(solution(f, b, values)),
+        Some(Found::Refuted(r)) => refutation(alloc, f, b, r),
         None => Ok(None),
     }
 }

@@ -12,10 +12,10 @@ use crate::counting::counted;
 use crate::difference::{short_enough, wants_short};
 use crate::halving::halve;
 use crate::levels::decide_differences;
-use crate::seeking::seek;
 use ipg_cert::{Refutation, Step};
 use ipg_lin::{Boxed, Formula};
 use ipg_num::List;
+use ipg_seek::seek;
 use std::alloc::{AllocError, Global};
 
 /// Whether a formula can hold in a box.

@@ -1,6 +1,6 @@
 ghost use Rattle.std.specs.Prelude.{◌≡◌, ◌+◌, ◌^◌, ◌<◌, ◌≤◌, ◌∷◌, [], ◌-ℤ◌, ◌≤ℤ◌, length, IfOk};
 ghost use Rattle.ipg_lin.specs.Formula.{width};
-ghost use Rattle.ipg_walk.specs.Falls.{level_at};
+ghost use Rattle.ipg_levels.specs.Falls.{level_at};
 ghost use Rattle.ipg_solve.specs.Decides.{Decides};
 ghost use Rattle.ipg_solve.specs.Differences.{IsDifference, IsShort};
 ghost use Rattle.ipg_solve.specs.Edges.{AreBetween, AreHeights, entries_of};
@@ -11,7 +11,7 @@ use crate::edges::edges_of;
 use ipg_cert::{Refutation, Step};
 use ipg_lin::{Boxed, Formula};
 use ipg_num::List;
-use ipg_walk::{Settled, settle};
+use ipg_levels::{Settled, settle};
 use std::alloc::{AllocError, Global};
 
 /// The difference, which lies within the bounds.

@@ -1,14 +1,12 @@
 //! Random small systems, decided and tried at every point.
 
 ghost use Rattle.std.specs.Prelude.{◌≡◌, ◌+◌, ◌*◌, ◌<◌, ◌≤◌, pos, negsuc, ◌≤ℤ◌, IfOk};
-ghost use Rattle.ipg_lin.specs.Form.{terms_width};
-ghost use Rattle.ipg_lin.specs.Formula.{width};
 
 use super::*;
 use crate::difference::wants_short;
 use crate::levels::decide_differences;
 use ipg_cert::{Refutation, Step, check};
-use ipg_lin::{Boxed, Formula, Linear, holds};
+use ipg_lin::{Boxed, Formula, Linear, holds, is_over};
 use ipg_num::List;
 use std::alloc::Global;
 use std::test::Fail;
@@ -45,7 +43,6 @@ fn around_zero(state: &mut u64, most: u64) -> i64
 }
 
 fn form(alloc: Global, state: &mut u64) -> Result<Linear, Fail>
-    ensures { IfOk result (λ form. terms_width form.terms ≤ 4) }
 {
     let constant = around_zero(state, 12);
     let a = coefficient(state);
@@ -64,8 +61,6 @@ fn form(alloc: Global, state: &mut u64) -> Result<Linear, Fail>
 
 /// An atom, or at a level above 0 an All or an Any of up to three formulas of the level below.
 fn formula(alloc: Global, state: &mut u64, level: u64) -> Result<Formula, Fail>
-    requires { level ≤ 3 }
-    ensures { IfOk result (λ f. width f ≤ 4) }
 {
     if level == 0 {
         return Ok(Formula::Atom(form(alloc, state)?));
@@ -94,13 +89,12 @@ fn span(state: &mut u64) -> (i64, i64) {
 
 /// Whether the formula holds at some point of the box, by trying each.
 fn is_solvable(f: &Formula, bounds: &[(i64, i64); 4]) -> bool
-    requires { width f.now ≤ 4 }
 {
     for a in bounds[0].0..=bounds[0].1 {
         for b in bounds[1].0..=bounds[1].1 {
             for c in bounds[2].0..=bounds[2].1 {
                 for d in bounds[3].0..=bounds[3].1 {
-                    if holds(f, &[a, b, c, d]) {
+                    if is_over(f, 4) && holds(f, &[a, b, c, d]) {
                         return true;
                     }
                 }
@@ -112,11 +106,13 @@ fn is_solvable(f: &Formula, bounds: &[(i64, i64); 4]) -> bool
 
 /// Whether the decision is right, and stands.
 fn is_right(alloc: Global, f: &Formula, bounds: &[(i64, i64); 4]) -> Result<bool, Fail>
-    requires { width f.now ≤ 4 }
 {
     let b = Boxed {
         bounds: List::from_vec(Vec::from_slice(alloc, bounds)?),
     };
+    if !is_over(f, 4) {
+        return Ok(false);
+    }
     match decide(alloc, f, &b)? {
         Decision::Solution(_) => Ok(is_solvable(f, bounds)),
         Decision::Refuted(r) => Ok(!is_solvable(f, bounds) && check(alloc, f, &b, &r)?),
@@ -137,7 +133,6 @@ fn small_systems_are_decided_as_trying_every_point_does(rt: HostRuntime) -> Resu
 
 /// A difference of two of four variables, or a bound of one.
 fn difference_form(alloc: Global, state: &mut u64) -> Result<Linear, Fail>
-    ensures { IfOk result (λ form. terms_width form.terms ≤ 4) }
 {
     let constant = around_zero(state, 9);
     let a = if draw(state, 2) == 0 { 1 } else { -1 };
@@ -154,13 +149,11 @@ fn difference_form(alloc: Global, state: &mut u64) -> Result<Linear, Fail>
 }
 
 fn difference(alloc: Global, state: &mut u64) -> Result<Formula, Fail>
-    ensures { IfOk result (λ f. width f ≤ 4) }
 {
     Ok(Formula::Atom(difference_form(alloc, state)?))
 }
 
 fn differences(alloc: Global, state: &mut u64) -> Result<Formula, Fail>
-    ensures { IfOk result (λ f. width f ≤ 4) }
 {
     let mut members = List::new(alloc);
     let count = draw(state, 9);
@@ -188,6 +181,7 @@ fn differences_are_refuted_by_one_short_combine(rt: HostRuntime) -> Result<(), F
         let b = Boxed {
             bounds: List::from_vec(Vec::from_slice(alloc, &bounds)?),
         };
+        assert!(rt; is_over(&f, 4));
         match decide(alloc, &f, &b)? {
             Decision::Solution(_) => assert!(rt; is_solvable(&f, &bounds)),
             Decision::Refuted(r) => assert!(rt; is_short(&r, 4) && check(alloc, &f, &b, &r)?),
@@ -198,12 +192,11 @@ fn differences_are_refuted_by_one_short_combine(rt: HostRuntime) -> Result<(), F
 
 /// Whether the levels alone decide the formula of differences, rightly and shortly.
 fn is_right_by_levels(alloc: Global, f: &Formula, bounds: &[(i64, i64); 4]) -> Result<bool, Fail>
-    requires { width f.now ≤ 4 }
 {
     let b = Boxed {
         bounds: List::from_vec(Vec::from_slice(alloc, bounds)?),
     };
-    if !wants_short(f, &b) {
+    if !is_over(f, 4) || !wants_short(f, &b) {
         return Ok(false);
     }
     match decide_differences(alloc, f, &b)? {

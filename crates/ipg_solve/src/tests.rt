@@ -1,10 +1,9 @@
 ghost use Rattle.std.specs.Prelude.{◌≡◌, ◌+◌, ◌<◌, ◌≤◌, max, length, IfOk};
-ghost use Rattle.ipg_lin.specs.Formula.{width};
 
 use super::*;
 use crate::difference::are_differences;
 use ipg_cert::{Refutation, Step, check, refutation_text};
-use ipg_lin::{Boxed, Formula, Linear};
+use ipg_lin::{Boxed, Formula, Linear, is_over};
 use ipg_num::List;
 use std::alloc::Global;
 use std::test::Fail;
@@ -22,23 +21,17 @@ fn box_of(alloc: Global, bounds: &[(i64, i64)]) -> Result<Boxed, Fail>
 
 /// `coefficient * x + constant <= 0`.
 fn one(alloc: Global, coefficient: i64, constant: i64) -> Result<Formula, Fail>
-    ensures { IfOk result (λ f. width f ≤ 1) }
 {
     Ok(Formula::Atom(Linear::new(alloc, &[(0, coefficient)], constant)?))
 }
 
 /// `a * x + b * y + constant <= 0`.
 fn two(alloc: Global, a: i64, b: i64, constant: i64) -> Result<Formula, Fail>
-    ensures { IfOk result (λ f. width f ≤ 2) }
 {
     Ok(Formula::Atom(Linear::new(alloc, &[(0, a), (1, b)], constant)?))
 }
 
-/// Both of two formulas that nest little.
 fn both(alloc: Global, f: Formula, g: Formula) -> Result<Formula, Fail>
-    requires width { width f ≤ 3 }
-    requires other_width { width g ≤ 3 }
-    ensures { IfOk result (λ h. width h ≤ max (width f) (width g)) }
 {
     let mut members = List::new(alloc);
     members.push(f)?;
@@ -47,9 +40,6 @@ fn both(alloc: Global, f: Formula, g: Formula) -> Result<Formula, Fail>
 }
 
 fn either(alloc: Global, f: Formula, g: Formula) -> Result<Formula, Fail>
-    requires width { width f ≤ 3 }
-    requires other_width { width g ≤ 3 }
-    ensures { IfOk result (λ h. width h ≤ max (width f) (width g)) }
 {
     let mut members = List::new(alloc);
     members.push(f)?;
@@ -71,11 +61,18 @@ fn refutation(decision: Decision) -> Result<Refutation, Fail> {
     }
 }
 
+fn decided(alloc: Global, f: &Formula, b: &Boxed) -> Result<Decision, Fail> {
+    if is_over(f, b.bounds.len()) {
+        Ok(decide(alloc, f, b)?)
+    } else {
+        Err("a variable without bounds")?
+    }
+}
+
 /// The words of the refutation of this formula, which checks.
 fn words(alloc: Global, f: &Formula, b: &Boxed) -> Result<Vec<u8>, Fail>
-    requires { width f.now ≤ length b.now.bounds }
 {
-    let r = refutation(decide(alloc, f, b)?)?;
+    let r = refutation(decided(alloc, f, b)?)?;
     if !check(alloc, f, b, &r)? {
         return Err("unchecked")?;
     }
@@ -87,7 +84,7 @@ fn two_bounds_meet_at_four(rt: HostRuntime) -> Result<(), Fail> {
     let alloc = rt.alloc();
     let f = both(alloc, one(alloc, 2, -8)?, one(alloc, -2, 8)?)?;
     let b = box_of(alloc, &[(0, 10), (0, 0)])?;
-    let values = solution(decide(alloc, &f, &b)?)?;
+    let values = solution(decided(alloc, &f, &b)?)?;
     assert!(rt; values.as_slice() == [4, 0].as_slice());
     Ok(())
 }
@@ -102,13 +99,11 @@ fn three_and_a_half_is_refuted(rt: HostRuntime) -> Result<(), Fail> {
 }
 
 fn empty_all(alloc: Global) -> Formula
-    ensures { width result ≡ 0 }
 {
     Formula::All(List::new(alloc))
 }
 
 fn empty_any(alloc: Global) -> Formula
-    ensures { width result ≡ 0 }
 {
     Formula::Any(List::new(alloc))
 }
@@ -127,7 +122,7 @@ fn nothing_is_solved_by_nothing(rt: HostRuntime) -> Result<(), Fail> {
     let alloc = rt.alloc();
     let f = empty_all(alloc);
     let b = box_of(alloc, &[])?;
-    assert_eq!(rt; solution(decide(alloc, &f, &b)?)?.len(), 0);
+    assert_eq!(rt; solution(decided(alloc, &f, &b)?)?.len(), 0);
     Ok(())
 }
 
@@ -147,7 +142,7 @@ fn an_any_of_alls_takes_the_member_that_holds(rt: HostRuntime) -> Result<(), Fai
     let high = both(alloc, one(alloc, -1, 3)?, two(alloc, 1, 1, -3)?)?;
     let f = either(alloc, low, high)?;
     let b = box_of(alloc, &[(-2, 5), (0, 1)])?;
-    let values = solution(decide(alloc, &f, &b)?)?;
+    let values = solution(decided(alloc, &f, &b)?)?;
     assert!(rt; values.as_slice() == [3, 0].as_slice());
     Ok(())
 }
@@ -157,22 +152,18 @@ fn ends_of_64_bits_are_reached(rt: HostRuntime) -> Result<(), Fail> {
     let alloc = rt.alloc();
     let f = both(alloc, one(alloc, 1, MOST)?, two(alloc, -1, -1, 0)?)?;
     let b = box_of(alloc, &[(LEAST, MOST), (LEAST, MOST)])?;
-    let values = solution(decide(alloc, &f, &b)?)?;
+    let values = solution(decided(alloc, &f, &b)?)?;
     assert!(rt; values.as_slice() == [-MOST, MOST].as_slice());
     Ok(())
 }
 
 fn three(alloc: Global, sign: i64, constant: i64) -> Result<Formula, Fail>
-    ensures { IfOk result (λ f. width f ≤ 3) }
 {
     let terms = [(0, sign), (1, sign), (2, sign)];
     Ok(Formula::Atom(Linear::new(alloc, &terms, constant)?))
 }
 
 fn difference(alloc: Global, x: u64, y: u64, constant: i64) -> Result<Formula, Fail>
-    requires order { x < y }
-    requires three { y ≤ 2 }
-    ensures { IfOk result (λ f. width f ≤ 3) }
 {
     Ok(Formula::Atom(Linear::new(alloc, &[(x, 1), (y, -1)], constant)?))
 }
@@ -205,14 +196,13 @@ fn a_round_of_differences_is_one_combine(rt: HostRuntime) -> Result<(), Fail> {
     )?;
     let f = both(alloc, steps, back)?;
     let b = box_of(alloc, &[(LEAST, MOST), (LEAST, MOST), (LEAST, MOST)])?;
-    let r = refutation(decide(alloc, &f, &b)?)?;
+    let r = refutation(decided(alloc, &f, &b)?)?;
     assert!(rt; check(alloc, &f, &b, &r)?);
     assert!(rt; facts_of_one(&r)? <= 4);
     Ok(())
 }
 
 fn constant(alloc: Global, constant: i64) -> Result<Formula, Fail>
-    ensures { IfOk result (λ f. width f ≡ 0) }
 {
     Ok(Formula::Atom(Linear::new(alloc, &[], constant)?))
 }
@@ -249,7 +239,7 @@ fn formulas_of_differences_are_alls(rt: HostRuntime) -> Result<(), Fail> {
 fn a_bare_atom_is_decided(rt: HostRuntime) -> Result<(), Fail> {
     let alloc = rt.alloc();
     let b = box_of(alloc, &[(0, 10)])?;
-    let values = solution(decide(alloc, &one(alloc, -1, 10)?, &b)?)?;
+    let values = solution(decided(alloc, &one(alloc, -1, 10)?, &b)?)?;
     assert!(rt; values.as_slice() == [10].as_slice());
     assert!(rt; words(alloc, &one(alloc, -1, 11)?, &b)?.as_slice() == b"c 2 1 2 1 1".as_slice());
     assert!(rt; words(alloc, &constant(alloc, 1)?, &b)?.as_slice() == b"c 1 1 2".as_slice());
@@ -268,7 +258,7 @@ fn the_largest_coefficients_are_decided(rt: HostRuntime) -> Result<(), Fail> {
         one(alloc, large, -(1 << 60))?,
         one(alloc, -large, 1 << 60)?,
     )?;
-    let values = solution(decide(alloc, &met, &b)?)?;
+    let values = solution(decided(alloc, &met, &b)?)?;
     assert!(rt; values.as_slice() == [1 << 20, LEAST].as_slice());
     Ok(())
 }

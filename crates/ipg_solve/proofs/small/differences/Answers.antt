@@ -1,8 +1,0 @@
-use Rattle.std.proofs.Common.{◌≤◌, map, subst, sym}
-use Rattle.ipg_lin.specs.Formula.{greatest, width}
-use Rattle.ipg_solve.proofs.Greatest.{greatest_push}
-use Rattle.ipg_solve.proofs.small.differences.Goals as goal
-
-pub loop-member-preserved : goal.loop-member-preserved
-loop-member-preserved c =
-    subst (λ ms. greatest (map width ms) ≤ 4) (sym c.in_ok-push.ensures.ok) (greatest_push width c.loop-member.members c.in_ok-difference.field-0 4 c.loop-member.invariant c.in_ok-difference.ensures)
