@@ -10,7 +10,7 @@ const LONGEST: i64 = 1 << 30;
 
 /// Steps of at least 1 and at most 5 from one variable to the next. Closed, the last variable is at most
 /// the first, and there is no solution.
-pub fn chain(alloc: Global, count: u64, is_closed: bool) -> Result<System> {
+pub fn chain(alloc: Global, count: u32, is_closed: bool) -> Result<System> {
     let mut maker = Maker::new(alloc);
     let first = maker.wide()?;
     let mut here = first;
@@ -47,7 +47,7 @@ fn put_slot(alloc: Global, maker: &mut Maker, left: u64, eoi: u64) -> Result<(u6
 
 /// A chain of slots that may touch or not. Closed, it ends at 0 and its first slot at 1 or later, and there
 /// is no solution.
-pub fn slots(alloc: Global, count: u64, is_closed: bool) -> Result<System> {
+pub fn slots(alloc: Global, count: u32, is_closed: bool) -> Result<System> {
     let mut maker = Maker::new(alloc);
     let eoi = maker.var(0, LONGEST)?;
     let mut left = maker.wide()?;
@@ -68,7 +68,7 @@ pub fn slots(alloc: Global, count: u64, is_closed: bool) -> Result<System> {
 
 /// A header of so many bytes, each with its value, before a call on the whole part whose length is tested
 /// to be four times a field, and more.
-pub fn header(alloc: Global, count: u64) -> Result<System> {
+pub fn header(alloc: Global, count: u32) -> Result<System> {
     let mut maker = Maker::new(alloc);
     let eoi = maker.var(0, LONGEST)?;
     let field = maker.var(0, (1 << 32) - 1)?;
@@ -89,7 +89,7 @@ pub fn header(alloc: Global, count: u64) -> Result<System> {
 }
 
 /// A total of so many bytes, the last not 0, and a call on the whole part from the total less the others on.
-pub fn total(alloc: Global, count: u64) -> Result<System> {
+pub fn total(alloc: Global, count: u32) -> Result<System> {
     let mut maker = Maker::new(alloc);
     let total = maker.wide()?;
     let mut sum = maker.var(0, 0)?;
@@ -114,7 +114,7 @@ pub fn total(alloc: Global, count: u64) -> Result<System> {
 }
 
 /// Slots that may touch nothing, and twice a byte is 7.
-pub fn rounded(alloc: Global, count: u64) -> Result<System> {
+pub fn rounded(alloc: Global, count: u32) -> Result<System> {
     let mut maker = Maker::new(alloc);
     let eoi = maker.var(0, LONGEST)?;
     let mut left = maker.var(0, 0)?;
@@ -137,7 +137,7 @@ fn compared(alloc: Global, x: u64, y: u64) -> Result<Formula> {
 }
 
 /// Comparisons that don't matter, beside four pigeons in three holes.
-pub fn beside(alloc: Global, count: u64) -> Result<System> {
+pub fn beside(alloc: Global, count: u32) -> Result<System> {
     let mut maker = Maker::new(alloc);
     let mut pigeons = Vec::new(alloc);
     for _ in 0..4 {
@@ -160,9 +160,9 @@ pub fn beside(alloc: Global, count: u64) -> Result<System> {
 }
 
 /// `12 x + 2 = eoi = 3 y + 1` for a length of at most so much.
-pub fn rounds(alloc: Global, count: u64) -> Result<System> {
+pub fn rounds(alloc: Global, count: u32) -> Result<System> {
     let mut maker = Maker::new(alloc);
-    let eoi = maker.var(0, count as i64)?;
+    let eoi = maker.var(0, i64::from(count))?;
     let x = maker.var(0, (1 << 32) - 1)?;
     let y = maker.var(0, (1 << 32) - 1)?;
     maker.zero(&[(eoi, -1), (x, 12)], 2)?;
@@ -171,7 +171,7 @@ pub fn rounds(alloc: Global, count: u64) -> Result<System> {
 }
 
 /// So many edges, each with two slots that may touch or not before a call on the whole part.
-pub fn joint(alloc: Global, count: u64) -> Result<System> {
+pub fn joint(alloc: Global, count: u32) -> Result<System> {
     let mut maker = Maker::new(alloc);
     let eoi = maker.var(1, LONGEST)?;
     for _ in 0..count {
@@ -186,7 +186,7 @@ pub fn joint(alloc: Global, count: u64) -> Result<System> {
 
 /// Each variable is at least 2^30 times the one before it, and the last is below 2^60: no solution, and the
 /// sum that shows it has weights past 2^40.
-pub fn heavy(alloc: Global, count: u64) -> Result<System> {
+pub fn heavy(alloc: Global, count: u32) -> Result<System> {
     let mut maker = Maker::new(alloc);
     let mut here = maker.var(1, i64::MAX)?;
     for _ in 0..count {
@@ -198,8 +198,8 @@ pub fn heavy(alloc: Global, count: u64) -> Result<System> {
 }
 
 /// Twice a number of so many bits is twice another and 1.
-pub fn parity(alloc: Global, bits: u64) -> Result<System> {
-    let most = 1i64.checked_shl(bits as u32).unwrap_or(i64::MAX);
+pub fn parity(alloc: Global, bits: u32) -> Result<System> {
+    let most = 1i64.checked_shl(bits).unwrap_or(i64::MAX);
     let mut maker = Maker::new(alloc);
     let x = maker.var(0, most)?;
     let y = maker.var(0, most)?;
@@ -207,17 +207,25 @@ pub fn parity(alloc: Global, bits: u64) -> Result<System> {
     Ok(maker.system())
 }
 
-/// The next number of a generator, below 7.
+/// The next number of a generator, from -3 to 3.
 fn draw(state: &mut u64) -> i64 {
     *state = state
         .wrapping_mul(6364136223846793005)
         .wrapping_add(1442695040888963407);
-    ((*state >> 33) % 7) as i64
+    match (*state >> 33) % 7 {
+        0 => -3,
+        1 => -2,
+        2 => -1,
+        3 => 0,
+        4 => 1,
+        5 => 2,
+        _ => 3,
+    }
 }
 
 /// Eight atoms over four variables of 64 bits, with coefficients from -3 to 3.
-pub fn dense(alloc: Global, seed: u64) -> Result<System> {
-    let mut state = seed;
+pub fn dense(alloc: Global, seed: u32) -> Result<System> {
+    let mut state = u64::from(seed);
     let mut maker = Maker::new(alloc);
     for _ in 0..4 {
         let _var = maker.wide()?;
@@ -225,13 +233,12 @@ pub fn dense(alloc: Global, seed: u64) -> Result<System> {
     for _ in 0..8 {
         let mut terms = Vec::new(alloc);
         for var in 0..4u64 {
-            let coefficient = draw(&mut state) - 3;
+            let coefficient = draw(&mut state);
             if coefficient != 0 {
                 terms.push((var, coefficient))?;
             }
         }
-        let constant = draw(&mut state) * 7 + draw(&mut state);
-        maker.at_most_zero(&terms, constant)?;
+        maker.at_most_zero(&terms, draw(&mut state).wrapping_mul(9))?;
     }
     Ok(maker.system())
 }

@@ -23,7 +23,7 @@ fn entries_of(r: &Refutation) -> usize {
 }
 
 /// The system of this size in the family.
-fn system(alloc: Global, family: &str, size: u64) -> Result<System> {
+fn system(alloc: Global, family: &str, size: u32) -> Result<System> {
     match family {
         "chain" => families::chain(alloc, size, false),
         "cycle" => families::chain(alloc, size, true),
@@ -52,7 +52,7 @@ fn decided(alloc: Global, system: &System) -> Result<Decision> {
 
 fn run(rt: &HostRuntime, family: &str, size: u32) -> Result<()> {
     let alloc = rt.alloc();
-    let system = system(alloc, family, u64::from(size))?;
+    let system = system(alloc, family, size)?;
     match decided(alloc, &system)? {
         Decision::Solution(_) => println!(rt; "{family} {size} solved")?,
         Decision::Refuted(r) => {

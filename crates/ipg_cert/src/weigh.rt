@@ -149,11 +149,7 @@ pub fn combine(
 }
 
 /// Whether the Combine of these entries refutes the facts.
-pub fn combines(
-    alloc: Global,
-    entries: &[(u64, u64)],
-    known: &[Known],
-) -> Result<bool, AllocError>
+pub fn combines(alloc: Global, entries: &[(u64, u64)], known: &[Known]) -> Result<bool, AllocError>
     ensures { IfOk result (λ yes. yes ≡ combines entries.now (all_seen known.now)) }
 {
     let mut totals = Vec::new(alloc);

@@ -2,10 +2,12 @@
 //! played no part.
 use crate::end::End;
 use crate::gone::Gone;
-use crate::marks::Reason;
+use crate::marks::Limit;
 use crate::parting::Parting;
 use crate::seeker::{Branching, Cases, Seeker};
-use ipg_cert::Known;
+use crate::steps::Place;
+use ipg_cert::{Known, Step};
+use ipg_lin::Formula;
 use ipg_num::item_at;
 use std::alloc::AllocError;
 
@@ -20,7 +22,7 @@ pub enum Next {
 /// What a case adds to the facts.
 #[derive(Clone, Copy)]
 enum Added<'a> {
-    Member(&'a ipg_lin::Formula),
+    Member(&'a Formula),
     Below(Parting),
     Above(Parting),
 }
@@ -52,7 +54,10 @@ impl<'a> Seeker<'a> {
         let (fact, members) = (what.fact, what.members);
         let step = self.steps.here();
         self.name(fact);
-        self.steps.either(fact, members.len())?;
+        self.steps.push(&Step::Either {
+            fact: fact as u64,
+            parts: members.len() as u64,
+        })?;
         self.open(Cases::Members(members, choice), step, 0)
     }
 
@@ -60,7 +65,10 @@ impl<'a> Seeker<'a> {
     pub fn open_parts(&mut self, parting: Parting) -> Result<Next, AllocError> {
         let cuts = self.cuts().saturating_add(1);
         let step = self.steps.here();
-        self.steps.split(parting)?;
+        self.steps.push(&Step::Split {
+            var: parting.var as u64,
+            at: parting.at,
+        })?;
         self.open(Cases::Parts(parting), step, cuts)
     }
 
@@ -72,7 +80,7 @@ impl<'a> Seeker<'a> {
         }
     }
 
-    fn open(&mut self, cases: Cases<'a>, step: crate::steps::Place, cuts: usize) -> Result<Next, AllocError> {
+    fn open(&mut self, cases: Cases<'a>, step: Place, cuts: usize) -> Result<Next, AllocError> {
         let case = self.steps.here();
         self.branchings.push(Branching {
             cases,
@@ -110,7 +118,11 @@ impl<'a> Seeker<'a> {
 
     /// Leaves a branching whose cases are refuted. Where the steps of its last case name none of the case's
     /// own facts, they refute what was there before, and nothing else of the branching is kept.
-    fn close_branching(&mut self, branching: Branching<'a>, is_named: bool) -> Result<(), AllocError> {
+    fn close_branching(
+        &mut self,
+        branching: Branching<'a>,
+        is_named: bool,
+    ) -> Result<(), AllocError> {
         let _last = self.branchings.pop();
         if let Cases::Members(_, choice) = branching.cases {
             if let Some(what) = self.facts.choices.get_mut(choice) {
@@ -120,7 +132,7 @@ impl<'a> Seeker<'a> {
         if is_named {
             return Ok(());
         }
-        for fact in self.steps.named(self.alloc, branching.step, branching.case)? {
+        for fact in self.steps.named(branching.step, branching.case)? {
             if (fact as usize) < branching.facts {
                 self.unname(fact as usize);
             }
@@ -132,8 +144,7 @@ impl<'a> Seeker<'a> {
                 kept: branching.facts,
                 count: branching.own,
             },
-        );
-        Ok(())
+        )
     }
 
     /// Brings a case to hand.
@@ -165,7 +176,7 @@ impl<'a> Seeker<'a> {
     }
 
     fn bound(&mut self, end: End, at: i64, fact: usize) -> Result<(), AllocError> {
-        let _is_tighter = self.marks.tighten(end, at, Reason::Limit(fact))?;
+        self.marks.take_limit(end, Limit { fact, at })?;
         self.facts.wake(end.var)
     }
 }

@@ -131,7 +131,8 @@ fn is_touched(f: &Formula, marks: &Marks, since: usize) -> bool {
     match f {
         Formula::Atom(form) => form.terms().iter().any(|term| {
             let var = term.0 as usize;
-            is_newer(marks.head(End::low(var)), since) || is_newer(marks.head(End::high(var)), since)
+            is_newer(marks.head(End::low(var)), since)
+                || is_newer(marks.head(End::high(var)), since)
         }),
         Formula::All(members) => is_any_touched(members.as_slice(), marks, since),
         Formula::Any(members) => is_any_touched(members.as_slice(), marks, since),

@@ -104,8 +104,8 @@ impl<'a> Seeker<'a> {
         let mut most = 0i128;
         let mut cut = None;
         for var in 0..self.vars {
-            let low = i128::from(self.marks.limit(End::low(var))?.at);
-            let high = i128::from(self.marks.limit(End::high(var))?.at);
+            let low = i128::from(self.marks.latest(End::low(var))?.limit.at);
+            let high = i128::from(self.marks.latest(End::high(var))?.limit.at);
             let width = high.wrapping_sub(low);
             if most < width {
                 most = width;

@@ -1,11 +1,14 @@
 use crate::end::{End, Side};
 use crate::facts::Facts;
-use crate::marks::{Marks, Reason};
+use crate::marks::Marks;
 use crate::row::{Row, cancelled};
 use std::alloc::{AllocError, Global};
 
-/// How many rows more there may be than at the start, and how many pairs of rows for one variable.
+/// How many rows more there may be than at the start.
 const MORE_ROWS: usize = 300;
+
+/// How many pairs of rows may be added up for one variable.
+const MOST_PAIRS: usize = 1 << 13;
 
 /// How many rows are looked at in all.
 const MOST_WORK: usize = 1 << 22;
@@ -50,7 +53,12 @@ struct Next {
 
 impl Rows {
     /// The atoms, and the limits of the variables that they take.
-    fn of_facts(alloc: Global, facts: &Facts, marks: &Marks, vars: usize) -> Result<Rows, AllocError> {
+    fn of_facts(
+        alloc: Global,
+        facts: &Facts,
+        marks: &Marks,
+        vars: usize,
+    ) -> Result<Rows, AllocError> {
         let mut rows = Rows {
             rows: Vec::new(alloc),
         };
@@ -76,12 +84,10 @@ impl Rows {
 
     /// Puts the limit of an end, unless it is an end of 64 bits.
     fn put_limit(&mut self, alloc: Global, marks: &Marks, end: End) -> Result<(), AllocError> {
-        let Some(limit) = marks.limit(end) else {
+        let Some(mark) = marks.latest(end) else {
             return Ok(());
         };
-        let Reason::Limit(fact) = limit.reason else {
-            return Ok(());
-        };
+        let limit = mark.limit;
         if limit.at == i64::MIN || limit.at == i64::MAX {
             return Ok(());
         }
@@ -91,7 +97,7 @@ impl Rows {
             Side::High => (1, at.wrapping_neg()),
         };
         let terms = [(end.var as u64, sign)];
-        self.put(Row::of_fact(alloc, &terms, constant, fact)?)
+        self.put(Row::of_fact(alloc, &terms, constant, limit.fact)?)
     }
 
     fn put(&mut self, row: Row) -> Result<(), AllocError> {
@@ -162,10 +168,10 @@ impl Rows {
                 let (Some(up), Some(down)) = (above.get(up), below.get(down)) else {
                     return Ok(left);
                 };
-                left.put_sums(alloc, &above, std::slice::from_ref(down), var, usize::MAX)?;
-                left.put_sums(alloc, std::slice::from_ref(up), &below, var, usize::MAX)?;
+                left.put_sums(alloc, &above, std::slice::from_ref(down), var, None)?;
+                left.put_sums(alloc, std::slice::from_ref(up), &below, var, None)?;
             }
-            None => left.put_sums(alloc, &above, &below, var, most)?,
+            None => left.put_sums(alloc, &above, &below, var, Some(most))?,
         }
         Ok(left)
     }
@@ -176,12 +182,12 @@ impl Rows {
         above: &[Row],
         below: &[Row],
         var: u64,
-        most: usize,
+        most: Option<usize>,
     ) -> Result<(), AllocError> {
         for up in above {
             for down in below {
                 if let Some(row) = cancelled(alloc, up, down, var)? {
-                    if row.weights.len() <= most {
+                    if most.is_none_or(|most| row.weights.len() <= most) {
                         self.put(row)?;
                     }
                 }
@@ -217,7 +223,7 @@ pub fn eliminate(
     let mut rows = Rows::of_facts(alloc, facts, marks, vars)?;
     let most = rows.rows.len().saturating_add(MORE_ROWS);
     let mut work = 0usize;
-    for gone in 0..vars {
+    for gone in 0..=vars {
         if let Some(row) = rows.rows.iter().find(|row| row.is_absurd()) {
             return Ok(Some(row.entries(alloc)?));
         }
@@ -225,7 +231,7 @@ pub fn eliminate(
             return Ok(None);
         };
         work = work.saturating_add(rows.rows.len());
-        if most < next.pairs || most < rows.rows.len() || MOST_WORK < work {
+        if MOST_PAIRS < next.pairs || most < rows.rows.len() || MOST_WORK < work {
             return Ok(None);
         }
         rows = rows.eliminate(alloc, next.var, gone.saturating_add(2))?;

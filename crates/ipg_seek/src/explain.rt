@@ -143,8 +143,8 @@ fn is_var(but: Option<usize>, var: usize) -> bool {
 fn parting_at(marks: &Marks, mark: Option<Mark>) -> Option<Parting> {
     let mark = mark?;
     let var = mark.end.var;
-    let low = marks.limit(End::low(var))?.at;
-    let high = marks.limit(End::high(var))?.at;
+    let low = marks.latest(End::low(var))?.limit.at;
+    let high = marks.latest(End::high(var))?.limit.at;
     let at = match mark.end.side {
         Side::Low => mark.at.checked_sub(1)?,
         Side::High => mark.at,
@@ -168,6 +168,37 @@ pub fn explain(
     sum.put(1, fact)?;
     sum.add_atom(marks, form, 1, marks.len(), [None, None])?;
     sum.finish(known, marks)
+}
+
+/// The least value of a form within the limits alone.
+fn least_within_limits(marks: &Marks, form: &Linear) -> Option<i128> {
+    let mut least = i128::from(form.constant());
+    for term in form.terms() {
+        let at = marks.latest(End::least(*term))?.limit.at;
+        least = least.wrapping_add(i128::from(term.1).wrapping_mul(i128::from(at)));
+    }
+    Some(least)
+}
+
+/// The Combine of an atom that the limits alone rule out, if they do.
+pub fn explain_by_limits(
+    alloc: Global,
+    marks: &Marks,
+    fact: usize,
+    form: &Linear,
+) -> Result<Option<Vec<(u64, u64)>>, AllocError> {
+    match least_within_limits(marks, form) {
+        Some(least) if 0 < least => {}
+        _ => return Ok(None),
+    }
+    let mut entries = Vec::new(alloc);
+    entries.push((1, fact as u64))?;
+    for term in form.terms() {
+        if let Some(mark) = marks.latest(End::least(*term)) {
+            entries.push((term.1.unsigned_abs(), mark.limit.fact as u64))?;
+        }
+    }
+    Ok(Some(entries))
 }
 
 /// The mark that the mark at `place` rests on: the latest among the ends of its atom's other variables.

@@ -1,15 +1,14 @@
+use crate::waiting::Waiting;
 use ipg_cert::{Known, add_formula};
 use ipg_lin::{Formula, Linear};
 use ipg_num::item_at;
 use std::alloc::{AllocError, Global};
-use std::collections::VecDeque;
 
 /// An atom among the facts.
 #[derive(Clone, Copy)]
 pub struct Atom<'a> {
     pub fact: usize,
     pub form: &'a Linear,
-    is_waiting: bool,
 }
 
 /// How many members of an Any were left when it was last looked at, and how many marks there were.
@@ -41,7 +40,7 @@ pub struct Facts<'a> {
     /// Of each variable, the places of the atoms that take it.
     takers: Vec<Vec<usize>>,
     /// The places of the atoms by which to tighten.
-    waiting: VecDeque<usize>,
+    waiting: Waiting,
     pub choices: Vec<Choice<'a>>,
 }
 
@@ -57,7 +56,7 @@ impl<'a> Facts<'a> {
             atoms: Vec::new(alloc),
             sums: Vec::new(alloc),
             takers,
-            waiting: VecDeque::new(alloc),
+            waiting: Waiting::new(alloc),
             choices: Vec::new(alloc),
         };
         facts.enlist(0)?;
@@ -125,13 +124,8 @@ impl<'a> Facts<'a> {
         if is_sum(form) {
             self.sums.push(place)?;
         }
-        self.atoms.push(Atom {
-            fact,
-            form,
-            is_waiting: true,
-        })?;
-        self.waiting.push_back(place)?;
-        Ok(())
+        self.atoms.push(Atom { fact, form })?;
+        self.waiting.put(place)
     }
 
     /// Takes back all facts but the first `kept`.
@@ -165,23 +159,19 @@ impl<'a> Facts<'a> {
     pub fn wake(&mut self, var: usize) -> Result<(), AllocError> {
         if let Some(takers) = self.takers.get(var) {
             for place in takers.iter() {
-                if let Some(atom) = self.atoms.get_mut(*place) {
-                    if !atom.is_waiting {
-                        atom.is_waiting = true;
-                        self.waiting.push_back(*place)?;
-                    }
-                }
+                self.waiting.put(*place)?;
             }
         }
         Ok(())
     }
 
-    /// The atom that has waited longest.
+    /// The next atom that waits.
     pub fn next_waiting(&mut self) -> Option<Atom<'a>> {
-        let place = self.waiting.pop_front()?;
-        let atom = self.atoms.get_mut(place)?;
-        atom.is_waiting = false;
-        Some(*atom)
+        let place = self.waiting.take()?;
+        match item_at(&self.atoms, place) {
+            Some(atom) => Some(*atom),
+            None => None,
+        }
     }
 
     pub fn has_waiting(&self) -> bool {
@@ -190,9 +180,7 @@ impl<'a> Facts<'a> {
 
     /// Has no atom wait.
     pub fn settle(&mut self) {
-        for _ in 0..self.waiting.len() {
-            let _atom = self.next_waiting();
-        }
+        self.waiting.clear();
     }
 }
 

@@ -12,11 +12,13 @@ mod explain;
 mod facts;
 mod gone;
 mod marks;
+mod packed;
 mod parting;
 mod row;
 mod search;
 mod seeker;
 mod steps;
 mod tighten;
+mod waiting;
 
 pub use search::{Found, seek};

@@ -20,9 +20,16 @@ pub struct Mark {
     pub end: End,
     pub at: i64,
     pub reason: Reason,
+    /// The latest limit of this end among the facts.
+    pub limit: Limit,
     before: Option<usize>,
-    /// The latest mark of this end that a limit gave.
-    limit: Option<usize>,
+}
+
+/// A limit among the facts.
+#[derive(Clone, Copy)]
+pub struct Limit {
+    pub fact: usize,
+    pub at: i64,
 }
 
 /// The latest mark of each end of a variable.
@@ -78,8 +85,8 @@ impl Marks {
             end,
             at,
             reason: Reason::Limit(place),
+            limit: Limit { fact: place, at },
             before: None,
-            limit: Some(place),
         })?;
         Ok(place)
     }
@@ -104,18 +111,14 @@ impl Marks {
         })
     }
 
-    fn latest(&self, end: End) -> Option<Mark> {
+    /// The latest mark of an end.
+    pub fn latest(&self, end: End) -> Option<Mark> {
         self.mark(self.head(end)?)
     }
 
     /// Where the end lies.
     pub fn at(&self, end: End) -> Option<i64> {
         Some(self.latest(end)?.at)
-    }
-
-    /// The latest mark of the end that a limit gave.
-    pub fn limit(&self, end: End) -> Option<Mark> {
-        self.mark(self.latest(end)?.limit?)
     }
 
     /// The place of the end's mark before the mark `place` was made.
@@ -141,33 +144,47 @@ impl Marks {
 
     /// Tightens a bound, if this one is tighter.
     pub fn tighten(&mut self, end: End, at: i64, reason: Reason) -> Result<bool, AllocError> {
-        let Some(before) = self.head(end) else {
-            return Ok(false);
-        };
-        let Some(old) = self.mark(before) else {
+        let Some(old) = self.latest(end) else {
             return Ok(false);
         };
         let is_tighter = match end.side {
             Side::Low => old.at < at,
             Side::High => at < old.at,
         };
-        if !is_tighter {
-            return Ok(false);
+        if is_tighter {
+            self.push(end, at, reason, old.limit)?;
         }
-        let place = self.marks.len();
-        let limit = match reason {
-            Reason::Limit(_) => Some(place),
-            _ => old.limit,
+        Ok(is_tighter)
+    }
+
+    /// Takes a limit for an end; where the end was bounded more tightly, it still is.
+    pub fn take_limit(&mut self, end: End, limit: Limit) -> Result<(), AllocError> {
+        let Some(old) = self.latest(end) else {
+            return Ok(());
         };
+        let is_looser = match end.side {
+            Side::Low => limit.at < old.at,
+            Side::High => old.at < limit.at,
+        };
+        if is_looser {
+            self.push(end, old.at, old.reason, limit)
+        } else {
+            self.push(end, limit.at, Reason::Limit(limit.fact), limit)
+        }
+    }
+
+    fn push(&mut self, end: End, at: i64, reason: Reason, limit: Limit) -> Result<(), AllocError> {
+        let before = self.head(end);
+        let place = self.marks.len();
         self.marks.push(Mark {
             end,
             at,
             reason,
-            before: Some(before),
             limit,
+            before,
         })?;
         self.set_head(end, place);
-        Ok(true)
+        Ok(())
     }
 
     /// Takes back all marks but the first `len`.

@@ -45,11 +45,8 @@ impl Row {
     pub fn is_opposite(&self, other: &Row) -> bool {
         self.constant.wrapping_add(other.constant) == 0
             && self.terms.len() == other.terms.len()
-            && self
-                .terms
-                .iter()
-                .zip(other.terms.iter())
-                .all(|(term, other)| term.0 == other.0 && term.1.wrapping_add(other.1) == 0)
+            && self.terms.iter().zip(other.terms.iter()).all(|(term, other)| term.0 == other.0
+                && term.1.wrapping_add(other.1) == 0)
     }
 
     /// The entries of a Combine.
@@ -141,17 +138,30 @@ fn sum_of(a: i64, times_a: i64, b: i64, times_b: i64) -> Option<i64> {
 }
 
 /// The sum of multiples of two rows in which the variable cancels, where its numbers fit.
-pub fn cancelled(alloc: Global, above: &Row, below: &Row, var: u64) -> Result<Option<Row>, AllocError> {
+pub fn cancelled(
+    alloc: Global,
+    above: &Row,
+    below: &Row,
+    var: u64,
+) -> Result<Option<Row>, AllocError> {
     let a = above.coefficient(var).unsigned_abs();
     let b = below.coefficient(var).unsigned_abs();
     let common = gcd(a, b).max(1);
-    let (Ok(times_above), Ok(times_below)) = (i64::try_from(b / common), i64::try_from(a / common)) else {
+    let (Ok(times_above), Ok(times_below)) = (i64::try_from(b / common), i64::try_from(a / common))
+    else {
         return Ok(None);
     };
     let Some(terms) = added(alloc, &above.terms, times_above, &below.terms, times_below)? else {
         return Ok(None);
     };
-    let Some(weights) = added(alloc, &above.weights, times_above, &below.weights, times_below)? else {
+    let Some(weights) = added(
+        alloc,
+        &above.weights,
+        times_above,
+        &below.weights,
+        times_below,
+    )?
+    else {
         return Ok(None);
     };
     let constant = i128::from(times_above)
@@ -163,7 +173,11 @@ pub fn cancelled(alloc: Global, above: &Row, below: &Row, var: u64) -> Result<Op
         weights,
     };
     row.reduce();
-    if row.weights.iter().all(|weight| weight.1.unsigned_abs() <= LARGEST) {
+    if row
+        .weights
+        .iter()
+        .all(|weight| weight.1.unsigned_abs() <= LARGEST)
+    {
         Ok(Some(row))
     } else {
         Ok(None)

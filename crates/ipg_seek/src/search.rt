@@ -100,7 +100,7 @@ impl<'a> Seeker<'a> {
     /// Closes the case at hand by a sum of its facts, if one is found.
     fn combine(&mut self) -> Result<State, AllocError> {
         match eliminate(self.alloc, &self.facts, &self.marks, self.vars)? {
-            Some(entries) => self.close(&entries),
+            Some(entries) => self.close(entries),
             None => Ok(State::Open),
         }
     }
@@ -116,7 +116,7 @@ pub fn seek(alloc: Global, f: &Formula, b: &Boxed) -> Result<Option<Found>, Allo
             Turn::More => {}
             Turn::Values(values) => return Ok(Some(Found::Values(values))),
             Turn::Refuted => {
-                let r = seeker.steps.into_refutation(alloc)?;
+                let r = seeker.steps.into_refutation()?;
                 return Ok(Some(Found::Refuted(r)));
             }
             Turn::Stuck => return Ok(None),

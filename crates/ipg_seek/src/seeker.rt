@@ -1,9 +1,10 @@
-use crate::facts::Facts;
+use crate::facts::{Facts, Look};
 use crate::marks::Marks;
 use crate::parting::Parting;
 use crate::steps::{Place, Steps};
-use ipg_cert::root_facts;
+use ipg_cert::{Step, root_facts};
 use ipg_lin::{Boxed, Formula};
+use ipg_num::List;
 use std::alloc::{AllocError, Global};
 
 /// The cases that a step opens.
@@ -39,7 +40,7 @@ pub struct Branching<'a> {
 #[derive(Clone, Copy)]
 pub struct Looked {
     pub choice: usize,
-    pub before: Option<crate::facts::Look>,
+    pub before: Option<Look>,
 }
 
 /// A search for a solution or a refutation.
@@ -79,11 +80,11 @@ impl<'a> Seeker<'a> {
     }
 
     /// Closes the case at hand by a Combine.
-    pub fn close(&mut self, entries: &[(u64, u64)]) -> Result<State, AllocError> {
-        for entry in entries {
+    pub fn close(&mut self, entries: Vec<(u64, u64)>) -> Result<State, AllocError> {
+        for entry in entries.iter() {
             self.name(entry.1 as usize);
         }
-        self.steps.combine(entries)?;
+        self.steps.push(&Step::Combine(List::from_vec(entries)))?;
         Ok(State::Closed)
     }
 

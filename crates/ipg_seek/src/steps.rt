@@ -1,154 +1,177 @@
 use crate::gone::Gone;
-use crate::parting::Parting;
+use crate::packed::{Reader, put_number, put_signed};
 use ipg_cert::{Refutation, Step};
-use ipg_num::{List, item_at};
+use ipg_num::List;
 use std::alloc::{AllocError, Global};
 
-/// A step; the entries of all Combines lie one behind the other.
-#[derive(Clone, Copy)]
-enum Made {
-    Combine { entries: usize },
-    Split(Parting),
-    Either { fact: u64, parts: u64 },
-}
-
-/// A place among the steps: so many were made, and so many entries.
+/// A place among the steps.
 #[derive(Clone, Copy)]
 pub struct Place {
-    step: usize,
-    entry: usize,
+    byte: usize,
 }
 
-/// The steps so far, in prefix order.
+/// The steps so far, in prefix order. They are packed, since a refutation may have millions of them: each is
+/// its kind and its numbers.
 #[derive(Drop)]
 pub struct Steps {
-    made: Vec<Made>,
-    entries: Vec<(u64, u64)>,
+    alloc: Global,
+    bytes: Vec<u8>,
 }
+
+const COMBINE: u64 = 0;
+
+const SPLIT: u64 = 1;
+
+const EITHER: u64 = 2;
 
 impl Steps {
     pub fn new(alloc: Global) -> Steps {
         Steps {
-            made: Vec::new(alloc),
-            entries: Vec::new(alloc),
+            alloc,
+            bytes: Vec::new(alloc),
         }
     }
 
     pub fn here(&self) -> Place {
         Place {
-            step: self.made.len(),
-            entry: self.entries.len(),
+            byte: self.bytes.len(),
         }
     }
 
-    pub fn combine(&mut self, entries: &[(u64, u64)]) -> Result<(), AllocError> {
-        self.entries.extend_from_slice(entries)?;
-        self.made.push(Made::Combine {
-            entries: entries.len(),
-        })?;
-        Ok(())
-    }
-
-    pub fn split(&mut self, parting: Parting) -> Result<(), AllocError> {
-        self.made.push(Made::Split(parting))?;
-        Ok(())
-    }
-
-    pub fn either(&mut self, fact: usize, parts: usize) -> Result<(), AllocError> {
-        self.made.push(Made::Either {
-            fact: fact as u64,
-            parts: parts as u64,
-        })?;
-        Ok(())
+    pub fn push(&mut self, step: &Step) -> Result<(), AllocError> {
+        match step {
+            Step::Combine(entries) => {
+                put_number(&mut self.bytes, COMBINE)?;
+                put_number(&mut self.bytes, entries.len() as u64)?;
+                for entry in entries.as_slice() {
+                    put_number(&mut self.bytes, entry.0)?;
+                    put_number(&mut self.bytes, entry.1)?;
+                }
+                Ok(())
+            }
+            Step::Split { var, at } => {
+                put_number(&mut self.bytes, SPLIT)?;
+                put_number(&mut self.bytes, *var)?;
+                put_signed(&mut self.bytes, *at)
+            }
+            Step::Either { fact, parts } => {
+                put_number(&mut self.bytes, EITHER)?;
+                put_number(&mut self.bytes, *fact)?;
+                put_number(&mut self.bytes, *parts)
+            }
+        }
     }
 
     /// The facts that the steps from the one place to the other name.
-    pub fn named(&self, alloc: Global, from: Place, to: Place) -> Result<Vec<u64>, AllocError> {
-        let mut named = Vec::new(alloc);
-        for entry in self.entries.iter().take(to.entry).skip(from.entry) {
-            named.push(entry.1)?;
-        }
-        for made in self.made.iter().take(to.step).skip(from.step) {
-            if let Made::Either { fact, .. } = made {
-                named.push(*fact)?;
+    pub fn named(&self, from: Place, to: Place) -> Result<Vec<u64>, AllocError> {
+        let mut named = Vec::new(self.alloc);
+        let mut reader = Reader {
+            bytes: &self.bytes,
+            at: from.byte,
+        };
+        for _ in from.byte..to.byte {
+            if to.byte <= reader.at {
+                break;
+            }
+            match reader.step(self.alloc)? {
+                Some(Step::Combine(entries)) => {
+                    for entry in entries.as_slice() {
+                        named.push(entry.1)?;
+                    }
+                }
+                Some(Step::Either { fact, .. }) => named.push(fact)?,
+                Some(Step::Split { .. }) => {}
+                None => break,
             }
         }
         Ok(named)
     }
 
-    /// Takes out the steps from the one place to the other; those behind no longer count the facts that are
-    /// gone, of which they name none.
-    pub fn cut_out(&mut self, from: Place, to: Place, gone: Gone) {
-        let mut step = from.step;
-        for place in to.step..self.made.len() {
-            if let Some(made) = item_at(&self.made, place) {
-                let moved = renumbered(*made, gone);
-                if let Some(slot) = self.made.get_mut(step) {
-                    *slot = moved;
-                }
-                step = step.saturating_add(1);
+    /// Takes out the steps from the one place to the other, and the facts that are gone from those behind,
+    /// which name none of them.
+    pub fn cut_out(&mut self, from: Place, to: Place, gone: Gone) -> Result<(), AllocError> {
+        let Some(behind) = self.bytes.get(to.byte..) else {
+            return Ok(());
+        };
+        let behind = Vec::from_slice(self.alloc, behind)?;
+        self.bytes.truncate(from.byte);
+        let mut reader = Reader {
+            bytes: &behind,
+            at: 0,
+        };
+        for _ in 0..behind.len() {
+            match reader.step(self.alloc)? {
+                Some(step) => self.push(&renumbered(step, gone))?,
+                None => break,
             }
         }
-        self.made.truncate(step);
-        let mut next = from.entry;
-        for place in to.entry..self.entries.len() {
-            if let Some(entry) = item_at(&self.entries, place) {
-                let moved = (entry.0, gone.renumbered(entry.1).unwrap_or(entry.1));
-                if let Some(slot) = self.entries.get_mut(next) {
-                    *slot = moved;
-                }
-                next = next.saturating_add(1);
-            }
-        }
-        self.entries.truncate(next);
+        Ok(())
     }
 
-    pub fn into_refutation(self, alloc: Global) -> Result<Refutation, AllocError> {
-        let mut steps = Vec::with_capacity(alloc, self.made.len())?;
-        let mut next = 0usize;
-        for made in self.made.iter() {
-            steps.push(match made {
-                Made::Combine { entries } => {
-                    let end = next.saturating_add(*entries);
-                    let step = combine(alloc, &self.entries, next, end)?;
-                    next = end;
-                    step
-                }
-                Made::Split(parting) => Step::Split {
-                    var: parting.var as u64,
-                    at: parting.at,
-                },
-                Made::Either { fact, parts } => Step::Either {
-                    fact: *fact,
-                    parts: *parts,
-                },
-            })?;
+    pub fn into_refutation(self) -> Result<Refutation, AllocError> {
+        let mut steps = List::new(self.alloc);
+        let mut reader = Reader {
+            bytes: &self.bytes,
+            at: 0,
+        };
+        for _ in 0..self.bytes.len() {
+            match reader.step(self.alloc)? {
+                Some(step) => steps.push(step)?,
+                None => break,
+            }
         }
-        Ok(Refutation {
-            steps: List::from_vec(steps),
-        })
+        Ok(Refutation { steps })
     }
 }
 
-fn renumbered(made: Made, gone: Gone) -> Made {
-    match made {
-        Made::Either { fact, parts } => Made::Either {
+impl<'b> Reader<'b> {
+    fn step(&mut self, alloc: Global) -> Result<Option<Step>, AllocError> {
+        match self.number() {
+            Some(COMBINE) => self.combine(alloc),
+            Some(SPLIT) => Ok(self.split()),
+            Some(EITHER) => Ok(self.either()),
+            _ => Ok(None),
+        }
+    }
+
+    fn combine(&mut self, alloc: Global) -> Result<Option<Step>, AllocError> {
+        let mut entries = List::new(alloc);
+        for _ in 0..self.number().unwrap_or(0) {
+            let (Some(weight), Some(fact)) = (self.number(), self.number()) else {
+                return Ok(None);
+            };
+            entries.push((weight, fact))?;
+        }
+        Ok(Some(Step::Combine(entries)))
+    }
+
+    fn split(&mut self) -> Option<Step> {
+        let var = self.number()?;
+        let at = self.signed()?;
+        Some(Step::Split { var, at })
+    }
+
+    fn either(&mut self) -> Option<Step> {
+        let fact = self.number()?;
+        let parts = self.number()?;
+        Some(Step::Either { fact, parts })
+    }
+}
+
+/// The step where facts are gone.
+fn renumbered(step: Step, gone: Gone) -> Step {
+    match step {
+        Step::Combine(entries) => {
+            let mut entries = entries.into_vec();
+            for entry in entries.iter_mut() {
+                entry.1 = gone.renumbered(entry.1).unwrap_or(entry.1);
+            }
+            Step::Combine(List::from_vec(entries))
+        }
+        Step::Either { fact, parts } => Step::Either {
             fact: gone.renumbered(fact).unwrap_or(fact),
             parts,
         },
-        _ => made,
+        Step::Split { var, at } => Step::Split { var, at },
     }
-}
-
-fn combine(
-    alloc: Global,
-    entries: &[(u64, u64)],
-    from: usize,
-    to: usize,
-) -> Result<Step, AllocError> {
-    let part = match entries.get(from..to) {
-        Some(part) => part,
-        None => &[],
-    };
-    Ok(Step::Combine(List::from_vec(Vec::from_slice(alloc, part)?)))
 }

@@ -1,9 +1,11 @@
 //! Bounds of variables are tightened along the atoms: Bellman and Ford's shortest walks, with parents.
-use crate::explain::{Explained, explain, explain_meeting, explain_round};
+use crate::explain::{Explained, explain, explain_by_limits, explain_meeting, explain_round};
 use crate::facts::Atom;
 use crate::marks::{Effect, Reach};
+use crate::parting::Parting;
 use crate::seeker::{Seeker, State};
 use ipg_cert::combines;
+use ipg_num::item_at;
 use std::alloc::AllocError;
 
 /// How many atoms are gone over, for each that there is, before a round of atoms is first looked for.
@@ -81,16 +83,36 @@ impl<'a> Seeker<'a> {
     /// Closes the case by an atom that the bounds rule out.
     fn close_by(&mut self, atom: Atom<'a>) -> Result<State, AllocError> {
         let known = self.facts.known();
-        let met = explain_meeting(self.alloc, known, &self.marks, atom.fact, atom.form, self.vars)?;
+        let met = explain_meeting(
+            self.alloc,
+            known,
+            &self.marks,
+            atom.fact,
+            atom.form,
+            self.vars,
+        )?;
         if let Some(entries) = met {
             if combines(self.alloc, &entries, known)? {
-                return self.close(&entries);
+                return self.close(entries);
             }
         }
         match explain(self.alloc, known, &self.marks, atom.fact, atom.form)? {
-            Explained::Sum(entries) => self.close(&entries),
-            Explained::TooHeavy(parting) => Ok(State::TooHeavy(parting)),
+            Explained::Sum(entries) => self.close(entries),
+            Explained::TooHeavy(parting) => self.close_by_limits(parting),
         }
+    }
+
+    /// Closes the case by an atom that the limits alone rule out, or says where to cut.
+    fn close_by_limits(&mut self, parting: Option<Parting>) -> Result<State, AllocError> {
+        for place in 0..self.facts.atoms.len() {
+            if let Some(atom) = item_at(&self.facts.atoms, place) {
+                let found = explain_by_limits(self.alloc, &self.marks, atom.fact, atom.form)?;
+                if let Some(entries) = found {
+                    return self.close(entries);
+                }
+            }
+        }
+        Ok(State::TooHeavy(parting))
     }
 
     fn close_by_round(&mut self) -> Result<State, AllocError> {
@@ -101,7 +123,7 @@ impl<'a> Seeker<'a> {
         match explain_round(self.alloc, known, &self.marks, last, self.vars)? {
             Some(Explained::Sum(entries)) => {
                 if combines(self.alloc, &entries, known)? {
-                    self.close(&entries)
+                    self.close(entries)
                 } else {
                     Ok(State::Open)
                 }

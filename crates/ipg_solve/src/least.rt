@@ -30,10 +30,7 @@ fn least_term(term: &(u64, i64), spans: &[Span]) -> i128
     ensures size { unsigned_abs result ≤ 2 ^ 103 }
 {
     let term = *term;
-    times(
-        term.1,
-        i128::from(end_of(span_of(spans, term.0), term.1)),
-    )
+    times(term.1, i128::from(end_of(span_of(spans, term.0), term.1)))
 }
 
 /// The least value of the terms, of which there are at most 64.

@@ -9,9 +9,9 @@ ghost use Rattle.ipg_cert.specs.declared.refutation.Step.TheVariants.{Combine};
 use crate::decision::Decision;
 use crate::edges::edges_of;
 use ipg_cert::{Refutation, Step};
+use ipg_levels::{Settled, settle};
 use ipg_lin::{Boxed, Formula};
 use ipg_num::List;
-use ipg_levels::{Settled, settle};
 use std::alloc::{AllocError, Global};
 
 /// The difference, which lies within the bounds.

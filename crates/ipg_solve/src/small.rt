@@ -42,8 +42,7 @@ fn around_zero(state: &mut u64, most: u64) -> i64
     draw(state, 2 * most + 1) as i64 - most as i64
 }
 
-fn form(alloc: Global, state: &mut u64) -> Result<Linear, Fail>
-{
+fn form(alloc: Global, state: &mut u64) -> Result<Linear, Fail> {
     let constant = around_zero(state, 12);
     let a = coefficient(state);
     let b = coefficient(state);
@@ -60,8 +59,7 @@ fn form(alloc: Global, state: &mut u64) -> Result<Linear, Fail>
 }
 
 /// An atom, or at a level above 0 an All or an Any of up to three formulas of the level below.
-fn formula(alloc: Global, state: &mut u64, level: u64) -> Result<Formula, Fail>
-{
+fn formula(alloc: Global, state: &mut u64, level: u64) -> Result<Formula, Fail> {
     if level == 0 {
         return Ok(Formula::Atom(form(alloc, state)?));
     }
@@ -88,8 +86,7 @@ fn span(state: &mut u64) -> (i64, i64) {
 }
 
 /// Whether the formula holds at some point of the box, by trying each.
-fn is_solvable(f: &Formula, bounds: &[(i64, i64); 4]) -> bool
-{
+fn is_solvable(f: &Formula, bounds: &[(i64, i64); 4]) -> bool {
     for a in bounds[0].0..=bounds[0].1 {
         for b in bounds[1].0..=bounds[1].1 {
             for c in bounds[2].0..=bounds[2].1 {
@@ -105,8 +102,7 @@ fn is_solvable(f: &Formula, bounds: &[(i64, i64); 4]) -> bool
 }
 
 /// Whether the decision is right, and stands.
-fn is_right(alloc: Global, f: &Formula, bounds: &[(i64, i64); 4]) -> Result<bool, Fail>
-{
+fn is_right(alloc: Global, f: &Formula, bounds: &[(i64, i64); 4]) -> Result<bool, Fail> {
     let b = Boxed {
         bounds: List::from_vec(Vec::from_slice(alloc, bounds)?),
     };
@@ -132,8 +128,7 @@ fn small_systems_are_decided_as_trying_every_point_does(rt: HostRuntime) -> Resu
 }
 
 /// A difference of two of four variables, or a bound of one.
-fn difference_form(alloc: Global, state: &mut u64) -> Result<Linear, Fail>
-{
+fn difference_form(alloc: Global, state: &mut u64) -> Result<Linear, Fail> {
     let constant = around_zero(state, 9);
     let a = if draw(state, 2) == 0 { 1 } else { -1 };
     match draw(state, 8) {
@@ -148,13 +143,11 @@ fn difference_form(alloc: Global, state: &mut u64) -> Result<Linear, Fail>
     }
 }
 
-fn difference(alloc: Global, state: &mut u64) -> Result<Formula, Fail>
-{
+fn difference(alloc: Global, state: &mut u64) -> Result<Formula, Fail> {
     Ok(Formula::Atom(difference_form(alloc, state)?))
 }
 
-fn differences(alloc: Global, state: &mut u64) -> Result<Formula, Fail>
-{
+fn differences(alloc: Global, state: &mut u64) -> Result<Formula, Fail> {
     let mut members = List::new(alloc);
     let count = draw(state, 9);
     for _member in 0..count {
@@ -191,8 +184,7 @@ fn differences_are_refuted_by_one_short_combine(rt: HostRuntime) -> Result<(), F
 }
 
 /// Whether the levels alone decide the formula of differences, rightly and shortly.
-fn is_right_by_levels(alloc: Global, f: &Formula, bounds: &[(i64, i64); 4]) -> Result<bool, Fail>
-{
+fn is_right_by_levels(alloc: Global, f: &Formula, bounds: &[(i64, i64); 4]) -> Result<bool, Fail> {
     let b = Boxed {
         bounds: List::from_vec(Vec::from_slice(alloc, bounds)?),
     };

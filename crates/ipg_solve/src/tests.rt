@@ -20,27 +20,23 @@ fn box_of(alloc: Global, bounds: &[(i64, i64)]) -> Result<Boxed, Fail>
 }
 
 /// `coefficient * x + constant <= 0`.
-fn one(alloc: Global, coefficient: i64, constant: i64) -> Result<Formula, Fail>
-{
+fn one(alloc: Global, coefficient: i64, constant: i64) -> Result<Formula, Fail> {
     Ok(Formula::Atom(Linear::new(alloc, &[(0, coefficient)], constant)?))
 }
 
 /// `a * x + b * y + constant <= 0`.
-fn two(alloc: Global, a: i64, b: i64, constant: i64) -> Result<Formula, Fail>
-{
+fn two(alloc: Global, a: i64, b: i64, constant: i64) -> Result<Formula, Fail> {
     Ok(Formula::Atom(Linear::new(alloc, &[(0, a), (1, b)], constant)?))
 }
 
-fn both(alloc: Global, f: Formula, g: Formula) -> Result<Formula, Fail>
-{
+fn both(alloc: Global, f: Formula, g: Formula) -> Result<Formula, Fail> {
     let mut members = List::new(alloc);
     members.push(f)?;
     members.push(g)?;
     Ok(Formula::All(members))
 }
 
-fn either(alloc: Global, f: Formula, g: Formula) -> Result<Formula, Fail>
-{
+fn either(alloc: Global, f: Formula, g: Formula) -> Result<Formula, Fail> {
     let mut members = List::new(alloc);
     members.push(f)?;
     members.push(g)?;
@@ -70,8 +66,7 @@ fn decided(alloc: Global, f: &Formula, b: &Boxed) -> Result<Decision, Fail> {
 }
 
 /// The words of the refutation of this formula, which checks.
-fn words(alloc: Global, f: &Formula, b: &Boxed) -> Result<Vec<u8>, Fail>
-{
+fn words(alloc: Global, f: &Formula, b: &Boxed) -> Result<Vec<u8>, Fail> {
     let r = refutation(decided(alloc, f, b)?)?;
     if !check(alloc, f, b, &r)? {
         return Err("unchecked")?;
@@ -98,13 +93,11 @@ fn three_and_a_half_is_refuted(rt: HostRuntime) -> Result<(), Fail> {
     Ok(())
 }
 
-fn empty_all(alloc: Global) -> Formula
-{
+fn empty_all(alloc: Global) -> Formula {
     Formula::All(List::new(alloc))
 }
 
-fn empty_any(alloc: Global) -> Formula
-{
+fn empty_any(alloc: Global) -> Formula {
     Formula::Any(List::new(alloc))
 }
 
@@ -157,14 +150,12 @@ fn ends_of_64_bits_are_reached(rt: HostRuntime) -> Result<(), Fail> {
     Ok(())
 }
 
-fn three(alloc: Global, sign: i64, constant: i64) -> Result<Formula, Fail>
-{
+fn three(alloc: Global, sign: i64, constant: i64) -> Result<Formula, Fail> {
     let terms = [(0, sign), (1, sign), (2, sign)];
     Ok(Formula::Atom(Linear::new(alloc, &terms, constant)?))
 }
 
-fn difference(alloc: Global, x: u64, y: u64, constant: i64) -> Result<Formula, Fail>
-{
+fn difference(alloc: Global, x: u64, y: u64, constant: i64) -> Result<Formula, Fail> {
     Ok(Formula::Atom(Linear::new(alloc, &[(x, 1), (y, -1)], constant)?))
 }
 
@@ -202,8 +193,7 @@ fn a_round_of_differences_is_one_combine(rt: HostRuntime) -> Result<(), Fail> {
     Ok(())
 }
 
-fn constant(alloc: Global, constant: i64) -> Result<Formula, Fail>
-{
+fn constant(alloc: Global, constant: i64) -> Result<Formula, Fail> {
     Ok(Formula::Atom(Linear::new(alloc, &[], constant)?))
 }
 
