@@ -207,6 +207,20 @@ pub fn parity(alloc: Global, bits: u32) -> Result<System> {
     Ok(maker.system())
 }
 
+/// An atom within so many Alls of one member each.
+pub fn deep(alloc: Global, count: u32) -> Result<System> {
+    let mut maker = Maker::new(alloc);
+    let x = maker.var(0, 1)?;
+    let mut formula = at_most_zero(alloc, &[(x, 1)], 0)?;
+    for _ in 0..count {
+        let mut members = List::new(alloc);
+        members.push(formula)?;
+        formula = Formula::All(members);
+    }
+    maker.put(formula)?;
+    Ok(maker.system())
+}
+
 /// The next number of a generator, from -3 to 3.
 fn draw(state: &mut u64) -> i64 {
     *state = state

@@ -3,6 +3,8 @@
 
 mod families;
 mod maker;
+#[cfg(test)]
+mod tests;
 
 use anyhow::{Result, bail, ensure};
 use ipg_cert::{Refutation, Step};
@@ -37,6 +39,7 @@ fn system(alloc: Global, family: &str, size: u32) -> Result<System> {
         "joint" => families::joint(alloc, size),
         "heavy" => families::heavy(alloc, size),
         "dense" => families::dense(alloc, size),
+        "deep" => families::deep(alloc, size),
         "parity" => families::parity(alloc, size),
         _ => bail!("no such family"),
     }

@@ -87,24 +87,28 @@ impl Steps {
         Ok(named)
     }
 
-    /// Takes out the steps from the one place to the other, and the facts that are gone from those behind,
-    /// which name none of them.
+    /// Takes out the steps from the one place to the other, and the facts that are gone, if the steps behind
+    /// name none of them.
     pub fn cut_out(&mut self, from: Place, to: Place, gone: Gone) -> Result<(), AllocError> {
         let Some(behind) = self.bytes.get(to.byte..) else {
             return Ok(());
         };
-        let behind = Vec::from_slice(self.alloc, behind)?;
-        self.bytes.truncate(from.byte);
+        let mut moved = Steps::new(self.alloc);
         let mut reader = Reader {
-            bytes: &behind,
+            bytes: behind,
             at: 0,
         };
         for _ in 0..behind.len() {
-            match reader.step(self.alloc)? {
-                Some(step) => self.push(&renumbered(step, gone))?,
-                None => break,
+            let Some(step) = reader.step(self.alloc)? else {
+                break;
+            };
+            match gone.step_without(self.alloc, &step)? {
+                Some(step) => moved.push(&step)?,
+                None => return Ok(()),
             }
         }
+        self.bytes.truncate(from.byte);
+        self.bytes.extend_from_slice(&moved.bytes)?;
         Ok(())
     }
 
@@ -155,23 +159,5 @@ impl<'b> Reader<'b> {
         let fact = self.number()?;
         let parts = self.number()?;
         Some(Step::Either { fact, parts })
-    }
-}
-
-/// The step where facts are gone.
-fn renumbered(step: Step, gone: Gone) -> Step {
-    match step {
-        Step::Combine(entries) => {
-            let mut entries = entries.into_vec();
-            for entry in entries.iter_mut() {
-                entry.1 = gone.renumbered(entry.1).unwrap_or(entry.1);
-            }
-            Step::Combine(List::from_vec(entries))
-        }
-        Step::Either { fact, parts } => Step::Either {
-            fact: gone.renumbered(fact).unwrap_or(fact),
-            parts,
-        },
-        Step::Split { var, at } => Step::Split { var, at },
     }
 }

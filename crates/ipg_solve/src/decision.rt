@@ -1,4 +1,4 @@
-ghost use Rattle.std.specs.Prelude.{◌≡◌, ◌+◌, ◌^◌, ◌<◌, ◌≤◌, [], ◌∷◌, length, int_lt, MatchOption, IfOk};
+ghost use Rattle.std.specs.Prelude.{◌≡◌, ◌+◌, ◌^◌, ◌<◌, ◌≤◌, [], ◌∷◌, length, int_lt, MatchOption, IfOk, IfSome};
 ghost use Rattle.ipg_lin.specs.Formula.{width};
 ghost use Rattle.ipg_cert.specs.declared.refutation.Step.TheVariants.{Combine};
 ghost use Rattle.ipg_solve.specs.Decides.{Decides, IsExact};
@@ -79,11 +79,21 @@ fn decided(alloc: Global, f: &Formula, b: &Boxed) -> Result<Decision, AllocError
     if let Some(x) = crossed(b.bounds.as_slice()) {
         return Ok(Decision::Refuted(crossing(alloc, x)?));
     }
-    let found = checked(alloc, f, b, seek(alloc, f, b)?)?;
+    let found = searched(alloc, f, b)?;
     if let Some(decision) = short_enough(f, b, found) {
         return Ok(decision);
     }
     surely(alloc, f, b)
+}
+
+/// What the search finds, if it stands. Where memory is wanting inside the search, that is the answer:
+/// halving would take more.
+fn searched(alloc: Global, f: &Formula, b: &Boxed) -> Result<Option<Decision>, AllocError>
+    requires { width f.now ≤ length b.now.bounds }
+    ensures { IfOk result (λ kept. IfSome kept (Decides f.now b.now)) }
+{
+    let found = seek(alloc, f, b)?;
+    checked(alloc, f, b, found)
 }
 
 /// Decides the formula with no search.
