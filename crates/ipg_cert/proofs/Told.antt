@@ -1,5 +1,5 @@
 -- Where a formula holds, its facts hold.
-use Rattle.std.proofs.Common.{◌≡◌, Bool, true, ◌&&◌, List, [], ◌∷◌, ◌++◌, map, refl, sym, ◌∙◌, ap, subst}
+use Rattle.std.proofs.Common.{◌≡◌, Bool, true, ◌&&◌, List, [], ◌∷◌, ◌++◌, map, refl, sym, ◌∙◌, ap}
 use Rattle.std.specs.List.{flat_map, AllByRecursion}
 use Rattle.ipg_lin.specs.Form.{Form, Assignment}
 use Rattle.ipg_lin.specs.Formula.{holds_at, holds_step, every, some}
