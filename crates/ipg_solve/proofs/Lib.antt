@@ -11,3 +11,4 @@ pub mod Narrow
 pub mod Graph
 pub mod Circling
 pub mod Leveled
+pub mod Widened

@@ -16,5 +16,6 @@ mod small;
 mod span;
 #[cfg(test)]
 mod tests;
+mod width;
 
 pub use decision::{Decision, decide};

@@ -3,11 +3,14 @@
 ghost use Rattle.std.specs.Prelude.{◌≡◌, ◌+◌, ◌*◌, ◌<◌, ◌≤◌, pos, negsuc, ◌≤ℤ◌, IfOk};
 
 use super::*;
+use crate::candidate::solves;
+use crate::decision::crossed;
 use crate::difference::wants_short;
 use crate::levels::decide_differences;
 use ipg_cert::{Refutation, Step, check};
 use ipg_lin::{Boxed, Formula, Linear, holds, is_over};
 use ipg_num::List;
+use ipg_seek::{Found, seek};
 use std::alloc::Global;
 use std::test::Fail;
 
@@ -127,6 +130,33 @@ fn small_systems_are_decided_as_trying_every_point_does(rt: HostRuntime) -> Resu
     Ok(())
 }
 
+/// Whether the search finds an answer, and it stands.
+fn is_found(alloc: Global, f: &Formula, bounds: &[(i64, i64); 4]) -> Result<bool, Fail> {
+    let b = Boxed {
+        bounds: List::from_vec(Vec::from_slice(alloc, bounds)?),
+    };
+    if !is_over(f, b.bounds.len()) {
+        return Ok(false);
+    }
+    match seek(alloc, f, &b)? {
+        Some(Found::Values(values)) => Ok(solves(f, &b, values.as_slice())),
+        Some(Found::Refuted(r)) => Ok(check(alloc, f, &b, &r)?),
+        None => Ok(false),
+    }
+}
+
+#[test]
+fn what_the_search_finds_stands(rt: HostRuntime) -> Result<(), Fail> {
+    let alloc = rt.alloc();
+    let mut state = 11;
+    for _ in 0..2000 {
+        let f = formula(alloc, &mut state, 3)?;
+        let bounds = bounds(&mut state);
+        assert!(rt; is_found(alloc, &f, &bounds)?);
+    }
+    Ok(())
+}
+
 /// A difference of two of four variables, or a bound of one.
 fn difference_form(alloc: Global, state: &mut u64) -> Result<Linear, Fail> {
     let constant = around_zero(state, 9);
@@ -188,12 +218,15 @@ fn is_right_by_levels(alloc: Global, f: &Formula, bounds: &[(i64, i64); 4]) -> R
     let b = Boxed {
         bounds: List::from_vec(Vec::from_slice(alloc, bounds)?),
     };
-    if !is_over(f, 4) || !wants_short(f, &b) {
+    if !is_over(f, 4) || !wants_short(f) {
         return Ok(false);
     }
-    match decide_differences(alloc, f, &b)? {
-        Decision::Solution(_) => Ok(is_solvable(f, bounds)),
-        Decision::Refuted(r) => Ok(is_short(&r, 4) && check(alloc, f, &b, &r)?),
+    match crossed(b.bounds.as_slice()) {
+        Some(_) => Ok(false),
+        None => match decide_differences(alloc, f, &b)? {
+            Decision::Solution(_) => Ok(is_solvable(f, bounds)),
+            Decision::Refuted(r) => Ok(is_short(&r, 4) && check(alloc, f, &b, &r)?),
+        },
     }
 }
 
