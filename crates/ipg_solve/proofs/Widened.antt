@@ -9,7 +9,7 @@ use Rattle.std.proofs.lemmas.Int.{ints}
 use Rattle.std.proofs.lemmas.List.{length-map, length-take-le, append-nil}
 use Rattle.std.proofs.lemmas.Option.{slice_get-map, slice_get_within}
 use borrow.Author.Tests.{ltb-true, ltb-false}
-use Rattle.ipg_lin.specs.Form.{Form, Assignment, sum_at, value_at, terms_width}
+use Rattle.ipg_lin.specs.Form.{Form, Assignment, sum_at, terms_width}
 use Rattle.ipg_lin.specs.Formula.{holds_at, holds_step, every, some, greatest, width, width_step}
 use Rattle.ipg_lin.specs.declared.formula.Formula.{Formula}
 use Rattle.ipg_lin.specs.declared.formula.Formula.TheVariants as formula

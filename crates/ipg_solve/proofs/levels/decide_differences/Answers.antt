@@ -1,11 +1,10 @@
-use Rattle.std.proofs.Common.{◌≡◌, ℕ, ◌+◌, ◌-◌, ◌≤◌, true, [], ◌∷◌, List, map, take, length, ap, sym, subst, ◌∙◌, arith}
+use Rattle.std.proofs.Common.{◌≡◌, ℕ, [], ◌∷◌, map, take, ap, sym, subst, ◌∙◌, arith}
 use Rattle.ipg_lin.specs.Formula.{width}
-use Rattle.ipg_cert.specs.Checks.{combines, root_facts}
 use Rattle.ipg_cert.specs.declared.refutation.Step.TheVariants.{Combine}
 use Rattle.ipg_solve.specs.Decides.{Solves}
 use Rattle.ipg_solve.specs.Edges.{entries_of}
 use Rattle.ipg_solve.specs.Widened.{Levels, moved, with_lows}
-use Rattle.ipg_solve.proofs.Widened.{widened_solves, widened_checks, widened_short}
+use Rattle.ipg_solve.proofs.Widened.{widened_solves, widened_checks}
 use Rattle.ipg_solve.proofs.levels.decide_differences.Goals as goal
 
 pub returns-in-Values-clause-decided : goal.returns-in-Values-clause-decided
