@@ -53,6 +53,7 @@ fn decided(alloc: Global, system: &System) -> Result<Decision> {
     Ok(decide(alloc, &system.formula, &system.bounds)?)
 }
 
+/// Decides one system, and counts the steps of its refutation.
 fn run(rt: &HostRuntime, family: &str, size: u32) -> Result<()> {
     let alloc = rt.alloc();
     let system = system(alloc, family, size)?;
@@ -67,15 +68,26 @@ fn run(rt: &HostRuntime, family: &str, size: u32) -> Result<()> {
     Ok(())
 }
 
+/// Decides one system of a small size.
+fn show(rt: &HostRuntime, family: &str) -> Result<()> {
+    let alloc = rt.alloc();
+    let system = system(alloc, family, 10)?;
+    match decided(alloc, &system)? {
+        Decision::Solution(_) => println!(rt; "{family} 10 solved")?,
+        Decision::Refuted(_) => println!(rt; "{family} 10 refuted")?,
+    }
+    Ok(())
+}
+
 fn main(rt: HostRuntime) -> Result<()> {
     let args: Vec<String> = env::args(&rt)?.collect(rt.alloc())?;
     match args.as_slice() {
         [_, family, size] => run(&rt, family, size.parse::<u32>()?),
         _ => {
-            run(&rt, "chain", 10)?;
-            run(&rt, "cycle", 10)?;
-            run(&rt, "open", 10)?;
-            run(&rt, "closed", 10)
+            show(&rt, "chain")?;
+            show(&rt, "cycle")?;
+            show(&rt, "open")?;
+            show(&rt, "closed")
         }
     }
 }
