@@ -1,14 +1,15 @@
 #!/usr/bin/env bash
-# Times `decide`: chains of differences and rounds without a solution over 100, 1,000 and 10,000
-# variables, three atoms a variable, and chains of slots that may touch or not, with and without a
-# solution; and each test of `ipg_solve`, its process counted in. Run `rt run bench_solve` and
-# `rt test ipg_solve` once before, which build them.
+# Times `decide` on families of systems, each at two sizes or more (`crates/bench_solve/src/families.rt`
+# says what they are), and prints how many steps a refutation has; and each test of `ipg_solve`, its process
+# counted in. Run `rt run bench_solve` and `rt test ipg_solve` once before, which build them.
 set -eu
 cd "$(dirname "$0")/.."
 . bench/least.sh
 
-for size in "chain 100" "chain 1000" "chain 10000" "cycle 100" "cycle 1000" "cycle 10000" \
-  "open 50" "open 100" "open 250" "closed 50" "closed 100" "closed 250"; do
+for size in "chain 1000" "chain 10000" "cycle 1000" "cycle 10000" "open 50" "open 250" "closed 50" "closed 250" \
+  "header 38" "header 100" "total 10" "total 100" "rounded 15" "rounded 100" "beside 15" "beside 100" \
+  "rounds 3072" "rounds 98304" "joint 100" "joint 1000" "dense 2" "dense 3" "heavy 2" "heavy 8" \
+  "parity 12" "parity 14"; do
   # shellcheck disable=SC2086
   least crates/bench_solve/out/bench_solve $size
 done

@@ -1,9 +1,6 @@
 //! Checks refutations of a stated size: `bench_cert combine|splits COUNT`.
 #![tactic(auto)]
 
-ghost use Rattle.std.specs.Prelude.{◌≡◌, ◌≤◌, IfOk};
-ghost use Rattle.ipg_lin.specs.Formula.{depth};
-
 use anyhow::{Result, bail};
 use ipg_cert::{Refutation, Step, check};
 use ipg_lin::{Boxed, Formula, LinFault, Linear};
@@ -12,9 +9,7 @@ use std::alloc::{AllocError, Global};
 use std::env;
 
 /// `1 <= 0`, a fact that no assignment makes hold.
-fn never(alloc: Global) -> std::result::Result<Formula, LinFault>
-    ensures { IfOk result (λ f. depth f ≤ 1) }
-{
+fn never(alloc: Global) -> std::result::Result<Formula, LinFault> {
     Ok(Formula::Atom(Linear::new(alloc, &[], 1)?))
 }
 

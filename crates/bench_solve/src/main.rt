@@ -1,102 +1,93 @@
-//! Decides systems of a stated size: `bench_solve chain|cycle|open|closed COUNT`.
+//! Decides a system of a family: `bench_solve FAMILY SIZE`.
 #![tactic(auto)]
 
-mod systems;
+mod families;
+mod maker;
+#[cfg(test)]
+mod tests;
 
-ghost use Rattle.std.specs.Prelude.{◌≡◌, ◌≤◌, length, IfOk};
-ghost use Rattle.ipg_lin.specs.Formula.{width, depth};
-
-use anyhow::{Result, bail};
+use anyhow::{Result, bail, ensure};
 use ipg_cert::{Refutation, Step};
-use ipg_lin::{Boxed, Formula};
-use ipg_num::List;
+use ipg_lin::is_over;
 use ipg_solve::{Decision, decide};
-use std::alloc::{AllocError, Global};
+use maker::System;
+use std::alloc::Global;
 use std::env;
-use systems::{chain, cycle, slots};
 
 fn entries_of(r: &Refutation) -> usize {
     let mut count = 0usize;
     for step in r.steps.as_slice() {
         if let Step::Combine(entries) = step {
-            count = count.wrapping_add(entries.len());
+            count = count.saturating_add(entries.len());
         }
     }
     count
 }
 
-/// Bounds of 64 bits for each variable but the first, which is a length.
-fn wide_box(alloc: Global, vars: u64) -> std::result::Result<Boxed, AllocError>
-    ensures { IfOk result (λ b. length b.bounds ≡ vars) }
-{
-    let mut bounds = vec![in alloc; (i64::MIN, i64::MAX); vars as usize]?;
-    if 0 < bounds.len() {
-        bounds[0] = (0, 1 << 30);
+/// The system of this size in the family.
+fn system(alloc: Global, family: &str, size: u32) -> Result<System> {
+    match family {
+        "chain" => families::chain(alloc, size, false),
+        "cycle" => families::chain(alloc, size, true),
+        "open" => families::slots(alloc, size, false),
+        "closed" => families::slots(alloc, size, true),
+        "header" => families::header(alloc, size),
+        "total" => families::total(alloc, size),
+        "rounded" => families::rounded(alloc, size),
+        "beside" => families::beside(alloc, size),
+        "rounds" => families::rounds(alloc, size),
+        "joint" => families::joint(alloc, size),
+        "heavy" => families::heavy(alloc, size),
+        "dense" => families::dense(alloc, size),
+        "deep" => families::deep(alloc, size),
+        "parity" => families::parity(alloc, size),
+        _ => bail!("no such family"),
     }
-    Ok(Boxed {
-        bounds: List::from_vec(bounds),
-    })
 }
 
-fn report(rt: &HostRuntime, what: &str, f: &Formula, vars: u64) -> Result<()>
-    requires width { width f.now ≤ vars }
-    requires depth { depth f.now ≤ 4096 }
-{
+fn decided(alloc: Global, system: &System) -> Result<Decision> {
+    ensure!(
+        is_over(&system.formula, system.bounds.bounds.len()),
+        "a variable without bounds"
+    );
+    Ok(decide(alloc, &system.formula, &system.bounds)?)
+}
+
+/// Decides one system, and counts the steps of its refutation.
+fn run(rt: &HostRuntime, family: &str, size: u32) -> Result<()> {
     let alloc = rt.alloc();
-    let b = wide_box(alloc, vars)?;
-    match decide(alloc, f, &b)? {
-        Decision::Solution(_) => println!(rt; "{what} {vars} solved")?,
+    let system = system(alloc, family, size)?;
+    match decided(alloc, &system)? {
+        Decision::Solution(_) => println!(rt; "{family} {size} solved")?,
         Decision::Refuted(r) => {
             let steps = r.steps.len();
             let entries = entries_of(&r);
-            println!(rt; "{what} {vars} refuted")?;
-            eprintln!(rt; "{steps} steps, {entries} entries")?;
+            println!(rt; "{family} {size} refuted: {steps} steps, {entries} entries")?;
         }
     }
     Ok(())
 }
 
-fn run(rt: &HostRuntime, what: &str, count: u32) -> Result<()> {
+/// Decides one system of a small size.
+fn show(rt: &HostRuntime, family: &str) -> Result<()> {
     let alloc = rt.alloc();
-    let count = u64::from(count);
-    match what {
-        "chain" => {
-            let Ok(f) = chain(alloc, count) else {
-                bail!("no memory");
-            };
-            report(rt, what, &f, count + 2)
-        }
-        "cycle" => {
-            let Ok(f) = cycle(alloc, count) else {
-                bail!("no memory");
-            };
-            report(rt, what, &f, count + 2)
-        }
-        "open" => {
-            let Ok(f) = slots(alloc, count, false) else {
-                bail!("no memory");
-            };
-            report(rt, what, &f, 3 * count + 5)
-        }
-        "closed" => {
-            let Ok(f) = slots(alloc, count, true) else {
-                bail!("no memory");
-            };
-            report(rt, what, &f, 3 * count + 5)
-        }
-        _ => bail!("chain, cycle, open or closed"),
+    let system = system(alloc, family, 10)?;
+    match decided(alloc, &system)? {
+        Decision::Solution(_) => println!(rt; "{family} 10 solved")?,
+        Decision::Refuted(_) => println!(rt; "{family} 10 refuted")?,
     }
+    Ok(())
 }
 
 fn main(rt: HostRuntime) -> Result<()> {
     let args: Vec<String> = env::args(&rt)?.collect(rt.alloc())?;
     match args.as_slice() {
-        [_, what, count] => run(&rt, what, count.parse::<u32>()?),
+        [_, family, size] => run(&rt, family, size.parse::<u32>()?),
         _ => {
-            run(&rt, "chain", 10)?;
-            run(&rt, "cycle", 10)?;
-            run(&rt, "open", 10)?;
-            run(&rt, "closed", 10)
+            show(&rt, "chain")?;
+            show(&rt, "cycle")?;
+            show(&rt, "open")?;
+            show(&rt, "closed")
         }
     }
 }

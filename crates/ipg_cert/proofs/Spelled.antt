@@ -2,7 +2,7 @@
 use Rattle.std.proofs.Common.{◌≡◌, ℕ, zero, suc, ◌+◌, ◌-◌, ◌*◌, ◌/◌, ◌%◌, ◌^◌, ◌<◌, ◌≤◌, ◌⊎◌, Bool, true, false, not, ◌&&◌, ◌||◌, nat_le, ◌==◌, List, [], ◌∷◌, ◌++◌, length, replicate, Option, Some, None, refl, ap, ◌∙◌, sym, subst, arith, inl, inr, pos_of_ne-zero, append_assoc, append-nil, length-append, decimal, flat_map, true≢false, if◌then◌else◌}
 use Rattle.std.specs.Fmt.{signed_decimal}
 use Rattle.std.specs.List.{AllByRecursion}
-use Rattle.std.proofs.lemmas.Bool.{eqb-true, eqb-false, leb-true}
+use Rattle.std.proofs.lemmas.Bool.{cond_both, eqb-true, eqb-false, leb-true}
 use Rattle.std.proofs.lemmas.Bool.Decides.{nat_tests}
 use Rattle.std.proofs.lemmas.Fmt.{decimal_digit, decimal_step}
 use Rattle.ipg_cert.specs.declared.pos.Need.{Need}
@@ -16,6 +16,7 @@ use Rattle.ipg_cert.specs.declared.refutation.Step.{Step}
 use Rattle.ipg_cert.specs.declared.refutation.Step.TheVariants.{Combine, Split, Either}
 use Rattle.ipg_cert.specs.Words.{entry_words, step_words, spaced, words_of}
 use Rattle.ipg_cert.specs.Texts.{parts_of, AreTrees, IsWord, IsSignedWord, IsEntry, IsInRange, IsTextOf}
+use Rattle.ipg_cert.proofs.Sums.{both_true}
 use Rattle.ipg_cert.specs.Reader.{limit, may_be_zero, may_be_negative, is_digit, digit_value, signed, begun, grown, turn_at, State, spaced_to, parted, with_entry, entered, finished, taken, step, has_ended}
 
 -- ---- words
@@ -147,14 +148,6 @@ all_leaves (suc n) = subst (λ k. AreTrees k (replicate n leaf)) (let e : n ≡ 
 
 -- ---- one byte more
 
-choose : {A : Type 0} (P : A → Type 0) (c : Bool) (x y : A) → (c ≡ true → P x) → (c ≡ false → P y) → P (if c then x else y)
-choose P c x y f g =
-    (elim c as (λ v. (v ≡ true → P x) → (v ≡ false → P y) → P (if v then x else y)) [ true ↦ λ h k. h refl | false ↦ λ h k. k refl ]) f g
-
-both : (a b : Bool) → (a && b) ≡ true → (a ≡ true) × (b ≡ true)
-both true b e = (refl, e)
-both false b e = absurd (true≢false (sym e))
-
 all_push : {A : Type 0} (P : A → Type 0) (xs : List A) (x : A) → AllByRecursion P xs → P x → AllByRecursion P (xs ++ x ∷ [])
 all_push P [] x all here = (here, tt)
 all_push P (y ∷ xs) x all here = (all.0, all_push P xs x all.1 here)
@@ -171,7 +164,7 @@ OnStep None words = Unit {0}
 OnStep (Some st) words = After st words
 
 if_some : (c : Bool) (st : State) (words : List ℕ) → (c ≡ true → After st words) → OnStep (if c then Some st else None) words
-if_some c st words f = choose (λ o. OnStep o words) c (Some st) None f (λ e. tt)
+if_some c st words f = cond_both c (Some st) None (λ o. OnStep o words) f (λ e. tt)
 
 limit_nine : (need : Need) (negative : Bool) → 9 ≤ limit need negative
 limit_nine Count negative = omega arith
@@ -251,7 +244,7 @@ module _ (made : List Step) (entries : List (ℕ × ℕ)) (trees : ℕ) (p : Pos
       let left = leaves_push 1 made trees s sound.trees sound.some in
       let all = all_push IsInRange made s sound.ranges range in
       let words_are : words ≡ behind made ++ step_words s = sound.spelled ∙ ap (λ xs. behind made ++ xs) e in
-      choose (λ o. OnStep o (words ++ b ∷ [])) (trees - 1 + parts_of s == 0) _ _
+      cond_both (trees - 1 + parts_of s == 0) _ _ (λ o. OnStep o (words ++ b ∷ []))
       (λ none. if_some (b == 10) _ (words ++ b ∷ []) (λ is. inr (
         refl,
         record {
@@ -320,7 +313,7 @@ module _ (made : List Step) (entries : List (ℕ × ℕ)) (trees : ℕ) (negativ
       let count = more_entries entries (weight, v) left due.0 in
       let spelled : part entries p ≡ 99 ∷ (32 ∷ (decimal (length entries + left) ++ flat_map entry_words (entries ++ (weight, v) ∷ []))) =
       ap (λ ds. before entries (Fact left weight) ++ ds) (not_negative (Fact left weight) negative v number refl) ∙ entry_spelled (length entries + left) entries weight v in
-      choose (λ o. OnStep o (words ++ b ∷ [])) (left == 1) _ _
+      cond_both (left == 1) _ _ (λ o. OnStep o (words ++ b ∷ []))
       (λ one.
       let whole : length entries + left ≡ length (entries ++ (weight, v) ∷ []) = omega (arith, eqb-true left 1 one, length-append entries ((weight, v) ∷ [])) in
       parted_on made entries trees p words sound b (Combine (entries ++ (weight, v) ∷ []))
@@ -413,10 +406,10 @@ module _ (made : List Step) (entries : List (ℕ × ℕ)) (trees : ℕ) (words :
       let p : Pos = Digits n in
       let number = sound.at.1 in
       let value = n.value * 10 + digit_value b in
-      choose (Turned p) (is_digit b) (grown n value) (End n)
-      (λ digit. choose (Turned p) (not (n.value == 0) && nat_le value (limit n.need n.negative)) _ Stuck
+      cond_both (is_digit b) (grown n value) (End n) (Turned p)
+      (λ digit. cond_both (not (n.value == 0) && nat_le value (limit n.need n.negative)) _ Stuck (Turned p)
       (λ fits.
-      let (some, small) = both (not (n.value == 0)) (nat_le value (limit n.need n.negative)) fits in
+      let (some, small) = both_true (not (n.value == 0)) (nat_le value (limit n.need n.negative)) fits in
       let least : 1 ≤ n.value = pos_of_ne-zero (eqb-false n.value 0 (is_not (n.value == 0) some)) in
       let within : value ≤ limit n.need n.negative = leb-true value (limit n.need n.negative) small in
       let word : value < 2 ^ 64 = omega (arith, within, limit_word n.need n.negative) in
@@ -428,34 +421,34 @@ module _ (made : List Step) (entries : List (ℕ × ℕ)) (trees : ℕ) (words :
 
   pub step_sound : (p : Pos) → IsSound (standing p) words → OnStep (step (standing p) b) (words ++ b ∷ [])
   step_sound Letter sound =
-      choose (Turned Letter) (b == 99) (To (Gap Count)) _
+      cond_both (b == 99) (To (Gap Count)) _ (Turned Letter)
       (λ e. moved made entries trees Letter words sound b entries (Gap Count) refl sound.entries (tt, sound.at) (ap (λ x. x ∷ []) (eqb-true b 99 e)))
-      (λ e. choose (Turned Letter) (b == 115) (To (Gap Var)) _
+      (λ e. cond_both (b == 115) (To (Gap Var)) _ (Turned Letter)
       (λ e. moved made entries trees Letter words sound b entries (Gap Var) refl sound.entries (tt, sound.at) (ap (λ x. x ∷ []) (eqb-true b 115 e)))
-      (λ e. choose (Turned Letter) (b == 101) (To (Gap Choice)) Stuck
+      (λ e. cond_both (b == 101) (To (Gap Choice)) Stuck (Turned Letter)
       (λ e. moved made entries trees Letter words sound b entries (Gap Choice) refl sound.entries (tt, sound.at) (ap (λ x. x ∷ []) (eqb-true b 101 e)))
       (λ e. tt)))
   step_sound (Gap need) sound =
-      choose (Turned (Gap need)) (b == 32) (To (First need)) Stuck
+      cond_both (b == 32) (To (First need)) Stuck (Turned (Gap need))
       (λ e. moved made entries trees (Gap need) words sound b entries (First need) refl sound.entries (first_due need entries sound.at.0 sound.at.1)
       (ap (λ x. letter need ∷ x ∷ []) (eqb-true b 32 e) ∙ gap_spelled need entries sound.at.0))
       (λ e. tt)
   step_sound (First need) sound =
-      choose (Turned (First need)) (is_digit b && (may_be_zero need || not (b == 48))) (begun need false b) _
+      cond_both (is_digit b && (may_be_zero need || not (b == 48))) (begun need false b) _ (Turned (First need))
       (λ e.
-      let (digit, some) = both (is_digit b) (may_be_zero need || not (b == 48)) e in
+      let (digit, some) = both_true (is_digit b) (may_be_zero need || not (b == 48)) e in
       moved made entries trees (First need) words sound b entries (Digits (record { need = need; negative = false; value = digit_value b })) refl sound.entries
       (sound.at, begins_number need false b digit (or_not (may_be_zero need) (b == 48) some) (λ f. absurd (true≢false (sym f))))
       (ap (λ xs. before entries need ++ xs) (one_digit b digit)))
-      (λ e. choose (Turned (First need)) (may_be_negative need && b == 45) (To (Minus need)) Stuck
+      (λ e. cond_both (may_be_negative need && b == 45) (To (Minus need)) Stuck (Turned (First need))
       (λ e.
-      let (may, minus) = both (may_be_negative need) (b == 45) e in
+      let (may, minus) = both_true (may_be_negative need) (b == 45) e in
       moved made entries trees (First need) words sound b entries (Minus need) refl sound.entries (sound.at, may) (ap (λ x. before entries need ++ x ∷ []) (eqb-true b 45 minus)))
       (λ e. tt))
   step_sound (Minus need) sound =
-      choose (Turned (Minus need)) (is_digit b && not (b == 48)) (begun need true b) Stuck
+      cond_both (is_digit b && not (b == 48)) (begun need true b) Stuck (Turned (Minus need))
       (λ e.
-      let (digit, some) = both (is_digit b) (not (b == 48)) e in
+      let (digit, some) = both_true (is_digit b) (not (b == 48)) e in
       let least = is_not (b == 48) some in
       moved made entries trees (Minus need) words sound b entries (Digits (record { need = need; negative = true; value = digit_value b })) refl sound.entries
       (sound.at.0, begins_number need true b digit (λ f. least) (λ f. (least, sound.at.1)))

@@ -3,9 +3,9 @@ pub mod Facts
 pub mod Checks
 pub mod Words
 pub mod Texts
--- What functions inside the crate promise each other.
 pub mod Totals
 pub mod Seen
+-- What functions inside the crate promise each other.
 pub mod Goals
 pub mod Reader
 pub mod Reading

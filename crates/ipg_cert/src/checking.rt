@@ -1,6 +1,6 @@
 ghost use Rattle.std.specs.Prelude.{◌≡◌, ℕ, ◌+◌, ◌≤◌, ◌<◌, ◌++◌, [], ◌∷◌, List, Bool, true, length, reverse, slice_get, IfOk, OnOk, IsTrue};
 ghost use Rattle.std.specs.Option.{option_map};
-ghost use Rattle.ipg_lin.specs.Formula.{Solvable, depth};
+ghost use Rattle.ipg_lin.specs.Formula.{Solvable};
 ghost use Rattle.ipg_cert.specs.Checks.{refutes, checks, combines};
 ghost use Rattle.ipg_cert.specs.Seen.{all_seen, AreZero};
 ghost use Rattle.ipg_cert.specs.Goals.{open_goals, AreOpen, Steps, choice_in, OpensEach, Nexts};
@@ -164,10 +164,9 @@ fn is_checked(alloc: Global, f: &Formula, b: &Boxed, r: &Refutation) -> Result<b
     )
 }
 
-/// Whether the refutation checks: then no assignment in the box makes the formula hold. It goes as deep
-/// as members stand in one another, so formulas that nest deeper than 4096 are not asked.
+/// Whether the refutation checks: then no assignment in the box makes the formula hold. It recurses as
+/// deep as members stand in one another, as dropping the formula does.
 pub fn check(alloc: Global, f: &Formula, b: &Boxed, r: &Refutation) -> Result<bool, AllocError>
-    requires shallow { depth f.now ≤ 4096 }
     ensures exact { IfOk result (λ on. on ≡ checks f.now b.now r.now) }
     ensures sound { IfOk result (λ on. IsTrue on → Solvable f.now b.now → ⊥) }
 {

@@ -1,17 +1,18 @@
-ghost use Rattle.std.specs.Prelude.{◌≡◌, ℕ, ◌+◌, ◌≤◌, length, ◌++◌, [], ◌∷◌, OnOk};
+ghost use Rattle.std.specs.Prelude.{◌≡◌, ℕ, ◌+◌, ◌≤◌, length, ◌++◌, [], ◌∷◌, OnOk, IfOk};
 ghost use Rattle.std.specs.List.{flat_map};
 ghost use Rattle.ipg_cert.specs.Facts.{facts_of, bound_facts, at_least, at_most};
+ghost use Rattle.ipg_cert.specs.Checks.{root_facts};
 ghost use Rattle.ipg_cert.specs.Seen.{Appends, all_seen};
 ghost use Rattle.ipg_cert.specs.Goals.{Enters};
 
 use crate::goal::{Added, Goal};
 use crate::known::{Bound, Known};
-use ipg_lin::Formula;
-use std::alloc::AllocError;
+use ipg_lin::{Boxed, Formula};
+use std::alloc::{AllocError, Global};
 
 /// Puts the facts that a formula is behind the others.
 #[cycle(members)]
-fn add_formula<'a>(known: &mut Vec<Known<'a>>, f: &'a Formula) -> Result<(), AllocError>
+pub fn add_formula<'a>(known: &mut Vec<Known<'a>>, f: &'a Formula) -> Result<(), AllocError>
     ensures { OnOk result (Appends known.old.items known.new.items (facts_of f.now)) }
 {
     match f {
@@ -70,4 +71,19 @@ fn push_bounds<'a>(
     known.push(Known::Limit(Bound::at_least(var, i128::from(bound.0))))?;
     known.push(Known::Limit(Bound::at_most(var, i128::from(bound.1))))?;
     Ok(())
+}
+
+/// The facts at the root: the bounds of each variable, its lower and then its upper one, and behind them the
+/// facts that the formula is.
+pub fn root_facts<'a>(
+    alloc: Global,
+    f: &'a Formula,
+    b: &Boxed,
+) -> Result<Vec<Known<'a>>, AllocError>
+    ensures { IfOk result (λ known. all_seen known.items ≡ root_facts f.now b.now) }
+{
+    let mut known = Vec::new(alloc);
+    add_bounds(&mut known, b.bounds.as_slice())?;
+    add_formula(&mut known, f)?;
+    Ok(known)
 }

@@ -15,6 +15,9 @@ mod weigh;
 mod words;
 
 pub use checking::check;
+pub use facts::{add_formula, root_facts};
+pub use known::{Bound, Known};
 pub use refutation::{Refutation, Step};
 pub use text::refutation_text;
+pub use weigh::{MOST_ENTRIES, combines};
 pub use words::{WordFault, refutation_read};

@@ -1,36 +1,19 @@
-ghost use Rattle.std.specs.Prelude.{◌≡◌, ℕ, ℤ, pos, ◌+◌, ◌*◌, ◌^◌, ◌<◌, ◌≤◌, ◌+ℤ◌, ◌*ℤ◌, length, IsTrue, OnOk};
+ghost use Rattle.std.specs.Prelude.{◌≡◌, ℕ, ℤ, pos, ◌+◌, ◌*◌, ◌^◌, ◌<◌, ◌≤◌, ◌*ℤ◌, length, IsTrue, OnOk};
 ghost use Rattle.std.specs.Int.RustNames.{unsigned_abs};
 ghost use Rattle.ipg_lin.specs.Form.{is_coefficient, are_coefficients};
 ghost use Rattle.ipg_cert.specs.Totals.{total_at, AddsAt, AddsTerms, AreWithin};
 
+use ipg_lin::sum::{plus, times};
 use std::alloc::AllocError;
 
-/// The product of a weight and a coefficient.
-fn times(weight: u64, coefficient: i64) -> i128
+/// The product of a weight, and a coefficient or a constant.
+pub fn weighted(weight: u64, value: i128) -> i128
     requires weight { weight ≤ 2 ^ 40 }
-    requires coefficient { unsigned_abs coefficient ≤ 2 ^ 40 }
-    ensures value { result ≡ pos weight *ℤ coefficient }
-    ensures size { unsigned_abs result ≤ 2 ^ 80 }
-{
-    i128::from(weight) * i128::from(coefficient)
-}
-
-/// The product of a weight and a constant.
-pub fn times_constant(weight: u64, constant: i128) -> i128
-    requires weight { weight ≤ 2 ^ 40 }
-    requires constant { unsigned_abs constant ≤ 2 ^ 63 }
-    ensures value { result ≡ pos weight *ℤ constant }
+    requires value { unsigned_abs value ≤ 2 ^ 63 }
+    ensures value { result ≡ pos weight *ℤ value }
     ensures size { unsigned_abs result ≤ 2 ^ 103 }
 {
-    i128::from(weight) * constant
-}
-
-pub fn plus(x: i128, y: i128) -> i128
-    requires { unsigned_abs x + unsigned_abs y < 2 ^ 127 }
-    ensures value { result ≡ x +ℤ y }
-    ensures size { unsigned_abs result ≤ unsigned_abs x + unsigned_abs y }
-{
-    x + y
+    times(weight as i64, value)
 }
 
 /// Makes room for a total of this variable.
@@ -74,7 +57,7 @@ fn add_term(totals: &mut Vec<i128>, weight: u64, term: &(u64, i64)) -> Result<()
     requires size { unsigned_abs (total_at totals.old.items term.now.0) ≤ 2 ^ 126 }
     ensures { OnOk result (AddsAt totals.old.items totals.new.items term.now.0 (pos weight *ℤ term.now.1)) }
 {
-    add_at(totals, term.0, times(weight, term.1))
+    add_at(totals, term.0, weighted(weight, i128::from(term.1)))
 }
 
 /// Adds `weight` times the terms, of which there are at most 64.

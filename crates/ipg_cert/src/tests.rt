@@ -1,15 +1,10 @@
-ghost use Rattle.std.specs.Prelude.{◌≡◌, ◌≤◌, IfOk};
-ghost use Rattle.ipg_lin.specs.Formula.{depth};
-
 use super::*;
 use ipg_lin::{Boxed, Formula, Linear};
 use ipg_num::List;
 use std::alloc::{AllocError, Global};
 use std::test::Fail;
 
-fn atom(alloc: Global, coefficient: i64, constant: i64) -> Result<Formula, Fail>
-    ensures { IfOk result (λ f. depth f ≡ 0) }
-{
+fn atom(alloc: Global, coefficient: i64, constant: i64) -> Result<Formula, Fail> {
     Ok(Formula::Atom(Linear::new(alloc, &[(0, coefficient)], constant)?))
 }
 
@@ -24,9 +19,7 @@ fn combine(alloc: Global, entries: &[(u64, u64)]) -> Result<Step, AllocError> {
 }
 
 /// `2x - 7 <= 0` and `7 - 2x <= 0`.
-fn three_and_a_half(alloc: Global) -> Result<Formula, Fail>
-    ensures { IfOk result (λ f. depth f ≡ 1) }
-{
+fn three_and_a_half(alloc: Global) -> Result<Formula, Fail> {
     let mut members = List::new(alloc);
     members.push(atom(alloc, 2, -7)?)?;
     members.push(atom(alloc, -2, 7)?)?;
@@ -34,9 +27,7 @@ fn three_and_a_half(alloc: Global) -> Result<Formula, Fail>
 }
 
 /// One of `x - 4 <= 0` and `10 - x <= 0`.
-fn below_or_above(alloc: Global) -> Result<Formula, Fail>
-    ensures { IfOk result (λ f. depth f ≤ 2) }
-{
+fn below_or_above(alloc: Global) -> Result<Formula, Fail> {
     let mut members = List::new(alloc);
     members.push(atom(alloc, 1, -4)?)?;
     members.push(atom(alloc, -1, 10)?)?;

@@ -8,14 +8,14 @@ ghost use Rattle.ipg_cert.specs.Totals.{total_at, AddsTerms, AreWithin};
 ghost use Rattle.ipg_cert.specs.Seen.{form_of, seen, all_seen, Weighs, AreZero, Sums};
 
 use crate::known::{Bound, Known};
-use crate::sum::{add_at, add_terms, plus, times_constant};
+use crate::sum::{add_terms, weighted};
 use ipg_lin::Linear;
+use ipg_lin::sum::{LARGEST, plus};
 use ipg_num::item_at;
-use std::alloc::AllocError;
+use std::alloc::{AllocError, Global};
 
-const HEAVIEST: u64 = 1 << 40;
-
-const MOST: usize = 1 << 21;
+/// The most entries of a Combine.
+pub const MOST_ENTRIES: usize = 1 << 21;
 
 impl Bound {
     /// The variable is at least `low`.
@@ -51,7 +51,7 @@ fn add_bound(totals: &mut Vec<i128>, weight: u64, bound: &Bound) -> Result<i128,
 {
     let bound = *bound;
     add_terms(totals, weight, &[(bound.var, bound.sign)])?;
-    Ok(times_constant(weight, bound.constant))
+    Ok(weighted(weight, bound.constant))
 }
 
 /// Adds `weight` times the form of a fact, and gives `weight` times its constant, if the fact is an atom.
@@ -74,7 +74,7 @@ fn add_form(totals: &mut Vec<i128>, weight: u64, form: &Linear) -> Result<i128, 
     ensures { IfOk result (λ constant. Weighs weight totals.old.items totals.new.items (Some constant) (Some form.now)) }
 {
     add_terms(totals, weight, form.terms())?;
-    Ok(times_constant(weight, i128::from(form.constant())))
+    Ok(weighted(weight, i128::from(form.constant())))
 }
 
 /// Adds what an entry names, and gives its weighted constant, if the weight is in range and the fact an atom.
@@ -86,7 +86,7 @@ fn add_entry(
     requires { AreWithin (2 ^ 120) totals.old.items }
     ensures { IfOk result (λ found. Weighs entry.now.0 totals.old.items totals.new.items found (form_of_entry (all_seen known.now) entry.now)) }
 {
-    if entry.0 == 0 || HEAVIEST < entry.0 {
+    if entry.0 == 0 || LARGEST < entry.0 {
         return Ok(None);
     }
     match item_at(known, entry.1 as usize) {
@@ -139,11 +139,19 @@ pub fn combine(
     ensures combines { IfOk result (λ yes. yes ≡ combines entries.now (all_seen known.now)) }
     ensures zero { IfOk result (λ yes. IsTrue yes → AreZero totals.new.items) }
 {
-    if entries.is_empty() || MOST < entries.len() {
+    if entries.is_empty() || MOST_ENTRIES < entries.len() {
         return Ok(false);
     }
     match weigh(entries, known, totals)? {
         Some(constant) => Ok(is_absurd(totals, constant)),
         None => Ok(false),
     }
+}
+
+/// Whether the Combine of these entries refutes the facts.
+pub fn combines(alloc: Global, entries: &[(u64, u64)], known: &[Known]) -> Result<bool, AllocError>
+    ensures { IfOk result (λ yes. yes ≡ combines entries.now (all_seen known.now)) }
+{
+    let mut totals = Vec::new(alloc);
+    combine(entries, known, &mut totals)
 }

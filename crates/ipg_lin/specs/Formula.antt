@@ -1,5 +1,5 @@
 -- When a formula holds, and when a box has an assignment that makes it hold.
-use Rattle.std.specs.Prelude.{ℕ, ◌+◌, max, Bool, true, false, ◌&&◌, ◌||◌, IsTrue, ℤ, pos, ◌≤ℤ◌, int_le, List, [], ◌∷◌, slice_get, unwrap_or, Some, ◌≡◌}
+use Rattle.std.specs.Prelude.{ℕ, max, Bool, true, false, ◌&&◌, ◌||◌, IsTrue, ℤ, pos, ◌≤ℤ◌, int_le, List, [], ◌∷◌, slice_get, unwrap_or, Some, ◌≡◌}
 use Rattle.ipg_lin.specs.Form.{Assignment, value_at, terms_width}
 use Rattle.ipg_lin.specs.declared.formula.Formula.{Formula}
 use Rattle.ipg_lin.specs.declared.formula.Formula.TheOpen.{Formula-F}
@@ -36,15 +36,6 @@ width_step (Any members) = greatest members
 
 abbrev pub width : Formula → ℕ
 width = fold-Formula ℕ width_step
-
--- how deep members stand in one another
-abbrev pub depth_step : Formula-F ℕ → ℕ
-depth_step (Atom form) = 0
-depth_step (All members) = greatest members + 1
-depth_step (Any members) = greatest members + 1
-
-abbrev pub depth : Formula → ℕ
-depth = fold-Formula ℕ depth_step
 
 -- variable x has the value that stands at x, and 0 behind the last
 abbrev pub assigned : List ℤ → Assignment

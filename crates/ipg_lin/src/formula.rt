@@ -1,5 +1,6 @@
-ghost use Rattle.std.specs.Prelude.{◌≡◌, ◌≤◌, map, length};
-ghost use Rattle.ipg_lin.specs.Formula.{holds_at, every, some, width, greatest, depth, assigned};
+ghost use Rattle.std.specs.Prelude.{◌≡◌, ◌≤◌, nat_le, map, length};
+ghost use Rattle.ipg_lin.specs.Form.{terms_width};
+ghost use Rattle.ipg_lin.specs.Formula.{holds_at, every, some, width, greatest, assigned};
 
 use crate::linear::{Linear, value};
 use ipg_num::List;
@@ -18,18 +19,10 @@ pub struct Boxed {
     pub bounds: List<(i64, i64)>,
 }
 
-/// Whether the formula holds where each variable x is `values[x]`. It goes as deep as members stand in
-/// one another, so formulas that nest deeper than 4096 are not asked.
-pub fn holds(f: &Formula, values: &[i64]) -> bool
-    requires valued { width f.now ≤ length values.now }
-    requires shallow { depth f.now ≤ 4096 }
-    ensures { result ≡ holds_at (assigned values.now) f.now }
-{
-    holds_in(f, values)
-}
-
+/// Whether the formula holds where each variable x is `values[x]`. It recurses as deep as members stand
+/// in one another, as dropping the formula does.
 #[cycle(members)]
-fn holds_in(f: &Formula, values: &[i64]) -> bool
+pub fn holds(f: &Formula, values: &[i64]) -> bool
     requires { width f.now ≤ length values.now }
     ensures { result ≡ holds_at (assigned values.now) f.now }
 {
@@ -46,7 +39,7 @@ fn every(members: &[Formula], values: &[i64]) -> bool
     ensures { result ≡ every (map (holds_at (assigned values.now)) members.now) }
 {
     for member in members {
-        if !holds_in(member, values) {
+        if !holds(member, values) {
             return false;
         }
     }
@@ -59,9 +52,44 @@ fn some(members: &[Formula], values: &[i64]) -> bool
     ensures { result ≡ some (map (holds_at (assigned values.now)) members.now) }
 {
     for member in members {
-        if holds_in(member, values) {
+        if holds(member, values) {
             return true;
         }
     }
     false
+}
+
+/// Whether each variable of the formula is one of the first `vars`.
+#[cycle(over)]
+pub fn is_over(f: &Formula, vars: usize) -> bool
+    ensures { result ≡ nat_le (width f.now) vars }
+{
+    match f {
+        Formula::Atom(form) => are_over(form.terms(), vars),
+        Formula::All(members) => all_over(members.as_slice(), vars),
+        Formula::Any(members) => all_over(members.as_slice(), vars),
+    }
+}
+
+#[cycle(over)]
+fn all_over(members: &[Formula], vars: usize) -> bool
+    ensures { result ≡ nat_le (greatest (map width members.now)) vars }
+{
+    for member in members {
+        if !is_over(member, vars) {
+            return false;
+        }
+    }
+    true
+}
+
+fn are_over(terms: &[(u64, i64)], vars: usize) -> bool
+    ensures { result ≡ nat_le (terms_width terms.now) vars }
+{
+    for term in terms {
+        if vars as u64 <= term.0 {
+            return false;
+        }
+    }
+    true
 }

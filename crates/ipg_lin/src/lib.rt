@@ -3,8 +3,9 @@
 
 mod formula;
 mod linear;
+pub mod sum;
 #[cfg(test)]
 mod tests;
 
-pub use formula::{Boxed, Formula, holds};
+pub use formula::{Boxed, Formula, holds, is_over};
 pub use linear::{LinFault, Linear};

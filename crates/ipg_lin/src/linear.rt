@@ -1,9 +1,10 @@
-ghost use Rattle.std.specs.Prelude.{◌≡◌, ℕ, ℤ, ◌+◌, ◌*◌, ◌^◌, ◌<◌, ◌≤◌, ◌*ℤ◌, ◌+ℤ◌, ◌↔◌, Bool, false, nat_le, length, IsTrue, IfOk, IsErrOf};
+ghost use Rattle.std.specs.Prelude.{◌≡◌, ◌*◌, ◌^◌, ◌<◌, ◌≤◌, ◌*ℤ◌, ◌+ℤ◌, ◌↔◌, Bool, false, nat_le, length, IsTrue, IfOk, IsErrOf};
 ghost use Rattle.std.specs.Int.RustNames.{unsigned_abs};
 ghost use Rattle.ipg_lin.specs.Form.{is_coefficient, are_coefficients, rises, in_rule, sum_at, value_at, terms_width};
 ghost use Rattle.ipg_lin.specs.Formula.{assigned};
 ghost use Rattle.ipg_lin.specs.declared.linear.LinFault.TheVariants.{Limit};
 
+use crate::sum::{LARGEST, plus, times};
 use ipg_num::List;
 use std::alloc::{AllocError, Global};
 use std::marker::Model;
@@ -34,8 +35,6 @@ pub enum LinFault {
     Limit,
     Memory,
 }
-
-const LARGEST: u64 = 1 << 40;
 
 fn is_coefficient(z: i64) -> bool
     ensures { result ≡ is_coefficient z }
@@ -69,28 +68,21 @@ fn rises(terms: &[(u64, i64)]) -> bool
     true
 }
 
-/// The product of a coefficient and a value.
-fn times(coefficient: i64, value: i64) -> i128
-    requires { IsTrue (is_coefficient coefficient) }
-    ensures value { result ≡ coefficient *ℤ value }
-    ensures size { unsigned_abs result ≤ 2 ^ 103 }
-{
-    i128::from(coefficient) * i128::from(value)
-}
-
-fn plus(x: i128, y: i128) -> i128
-    requires { unsigned_abs x + unsigned_abs y < 2 ^ 127 }
-    ensures value { result ≡ x +ℤ y }
-    ensures size { unsigned_abs result ≤ unsigned_abs x + unsigned_abs y }
-{
-    x + y
-}
-
 fn value_of(values: &[i64], var: u64) -> i64
     requires { var < length values.now }
     ensures { result ≡ assigned values.now var }
 {
     values[var as usize]
+}
+
+fn value_of_term(term: &(u64, i64), values: &[i64]) -> i128
+    requires coefficient { IsTrue (is_coefficient term.now.1) }
+    requires valued { term.now.0 < length values.now }
+    ensures value { result ≡ term.now.1 *ℤ assigned values.now term.now.0 }
+    ensures size { unsigned_abs result ≤ 2 ^ 103 }
+{
+    let term = *term;
+    times(term.1, i128::from(value_of(values, term.0)))
 }
 
 /// The value of the terms, of which there are at most 64.
@@ -103,10 +95,7 @@ fn sum(terms: &[(u64, i64)], values: &[i64]) -> i128
 {
     match terms {
         [] => 0,
-        [first, rest @ ..] => {
-            let first = times(first.1, value_of(values, first.0));
-            plus(first, sum(rest, values))
-        }
+        [first, rest @ ..] => plus(value_of_term(first, values), sum(rest, values)),
     }
 }
 

@@ -1,5 +1,5 @@
 ghost use Rattle.std.specs.Prelude.{◌≡◌, IfOk};
-ghost use Rattle.ipg_lin.specs.Formula.{width, depth};
+ghost use Rattle.ipg_lin.specs.Formula.{width};
 
 use super::*;
 use ipg_num::List;
@@ -8,8 +8,7 @@ use std::test::Fail;
 
 /// `2x - 8 <= 0` and `8 - 2x <= 0`.
 fn four(alloc: Global) -> Result<Formula, Fail>
-    ensures width { IfOk result (λ f. width f ≡ 1) }
-    ensures depth { IfOk result (λ f. depth f ≡ 1) }
+    ensures { IfOk result (λ f. width f ≡ 1) }
 {
     let below = Linear::new(alloc, &[(0, 2)], -8)?;
     let above = Linear::new(alloc, &[(0, -2)], 8)?;

@@ -1,5 +1,5 @@
 -- The box with a variable that can have no value.
-use Rattle.std.proofs.Common.{◌≡◌, ℕ, ◌+◌, ◌<◌, true, false, ◌&&◌, ℤ, pos, negsuc, ◌+ℤ◌, ◌*ℤ◌, List, [], ◌∷◌, length, get_or, refl, sym, ◌∙◌, ap, subst, arith}
+use Rattle.std.proofs.Common.{◌≡◌, ℕ, ◌+◌, ◌<◌, max, true, false, ◌&&◌, ℤ, pos, negsuc, ◌+ℤ◌, ◌*ℤ◌, List, [], ◌∷◌, length, get_or, refl, sym, ◌∙◌, ap, subst, arith}
 use Rattle.std.specs.Prelude.{Some, int_lt, ◌≤ℤ◌, ◌<ℤ◌}
 use Rattle.std.proofs.lemmas.Int.{ints}
 use Rattle.std.proofs.lemmas.Option.{slice_get-get_or, slice_get_within}
@@ -61,8 +61,8 @@ crossed_combines f box x c =
 pub crossed_checks : (f : Formula) (box : Boxed) (x : ℕ) (r : Refutation) → IsCrossed box.bounds x → r ≡ record { steps = Combine ((1, x + x) ∷ (1, x + x + 1) ∷ []) ∷ [] } → checks f box r ≡ true
 crossed_checks f box x r c is = ap (checks f box) is ∙ ap (λ b. b && true) (crossed_combines f box x c)
 
-pub crossed_short : (bounds : List (ℤ × ℤ)) (x : ℕ) (r : Refutation) → IsCrossed bounds x → r ≡ record { steps = Combine ((1, x + x) ∷ (1, x + x + 1) ∷ []) ∷ [] } → IsShort (length bounds) (Refuted r)
-crossed_short bounds x r c is = ((1, x + x) ∷ (1, x + x + 1) ∷ [], ap (λ (s : Refutation). s.steps) is, omega (arith, slice_get_within bounds x (c.0, c.1) c.2))
+pub crossed_short : (vars x : ℕ) (r : Refutation) → r ≡ record { steps = Combine ((1, x + x) ∷ (1, x + x + 1) ∷ []) ∷ [] } → IsShort (max 1 vars) (Refuted r)
+crossed_short vars x r is = ((1, x + x) ∷ (1, x + x + 1) ∷ [], ap (λ (s : Refutation). s.steps) is, omega arith)
 
 pub is_exact : (f : Formula) (box : Boxed) (decision : Decision) → Decides f box decision → IsExact f box decision
 is_exact f box (Solution values) d = (λ _. (assigned values, d.1, d.2), λ _. refl)

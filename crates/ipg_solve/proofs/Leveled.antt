@@ -1,5 +1,5 @@
 -- What the levels or the circle of the graph say of the formula.
-use Rattle.std.proofs.Common.{◌≡◌, ℕ, suc, ◌+◌, ◌^◌, ◌<◌, inl, inr, true, ◌&&◌, ℤ, pos, negsuc, neg_ℤ, ◌+ℤ◌, ◌-ℤ◌, List, [], ◌∷◌, ◌++◌, length, get_or, refl, sym, ◌∙◌, ap, subst, arith}
+use Rattle.std.proofs.Common.{◌≡◌, ℕ, suc, ◌+◌, ◌^◌, ◌<◌, ◌≤◌, inl, inr, true, ◌&&◌, ℤ, pos, negsuc, neg_ℤ, ◌+ℤ◌, ◌-ℤ◌, List, [], ◌∷◌, ◌++◌, length, get_or, refl, sym, ◌∙◌, ap, subst, arith}
 use Rattle.std.specs.Prelude.{Some, slice_get, int_le, ◌≤ℤ◌}
 use Rattle.std.specs.List.{AllByRecursion}
 use Rattle.std.proofs.lemmas.Int.{ints}
@@ -11,15 +11,13 @@ use Rattle.ipg_lin.specs.Formula.{assigned}
 use Rattle.ipg_lin.specs.declared.formula.Formula.{Formula}
 use Rattle.ipg_lin.specs.declared.formula.Boxed.{Boxed}
 use Rattle.ipg_cert.specs.Facts.{Fact, AtMost, Choice, bound_facts, facts_of}
-use Rattle.ipg_cert.specs.Checks.{root_facts, checks}
-use Rattle.ipg_cert.specs.declared.refutation.Refutation.{Refutation}
-use Rattle.ipg_cert.specs.declared.refutation.Step.TheVariants.{Combine}
+use Rattle.ipg_cert.specs.Checks.{root_facts, combines}
 use Rattle.ipg_cert.proofs.Told.{all_hold}
 use Rattle.ipg_cert.proofs.Sound.{le_test}
-use Rattle.ipg_walk.specs.declared.edge.Edge.{Edge}
-use Rattle.ipg_walk.specs.declared.settling.Settled.{Settled}
-use Rattle.ipg_walk.specs.declared.settling.Settled.TheVariants.{Levels, Circle}
-use Rattle.ipg_walk.specs.Falls.{level_at, Falls, AllFall, Settles}
+use Rattle.ipg_levels.specs.declared.edge.Edge.{Edge}
+use Rattle.ipg_levels.specs.declared.settling.Settled.{Settled}
+use Rattle.ipg_levels.specs.declared.settling.Settled.TheVariants.{Levels, Circle}
+use Rattle.ipg_levels.specs.Falls.{level_at, Falls, AllFall, Settles}
 use Rattle.ipg_solve.specs.Decides.{Solves}
 use Rattle.ipg_solve.specs.Differences.{are_differences}
 use Rattle.ipg_solve.specs.Edges.{edge_of, edges_in, entries_of, IsSized, AreBetween, AreHeights}
@@ -89,9 +87,8 @@ pub levels_fall : (nodes : ℕ) (facts : List Fact) (edges lent : List Edge) (se
 levels_fall nodes facts edges lent settled levels seen settles is lent_is edges_are seen_are =
     subst (λ ls. (length ls ≡ nodes) × AllFall ls (edges_in facts)) (sym seen_are) (subst (λ es. Settles nodes es (Levels levels)) (lent_is ∙ edges_are) (subst (Settles nodes lent) is settles))
 
-pub circle_checks : (f : Formula) (box : Boxed) (edges lent : List Edge) (settled : Settled) (circle seen : List ℕ) (r : Refutation) → AllByRecursion (IsNarrow (length box.bounds)) (root_facts f box) → AllByRecursion IsSized (root_facts f box) → length box.bounds < 2 ^ 21
-    → Settles (length box.bounds + 1) lent settled → settled ≡ Circle circle → lent ≡ edges → edges ≡ edges_in (root_facts f box) → seen ≡ circle → r ≡ record { steps = Combine (entries_of seen) ∷ [] } → checks f box r ≡ true
-circle_checks f box edges lent settled circle seen r narrow sized few settles is lent_is edges_are seen_is made =
+pub circle_refutes : (f : Formula) (box : Boxed) (edges lent : List Edge) (settled : Settled) (circle : List ℕ) → AllByRecursion (IsNarrow (length box.bounds)) (root_facts f box) → AllByRecursion IsSized (root_facts f box) → length box.bounds < 2 ^ 21
+    → Settles (length box.bounds + 1) lent settled → settled ≡ Circle circle → lent ≡ edges → edges ≡ edges_in (root_facts f box) → (combines (entries_of circle) (root_facts f box) ≡ true) × (length circle ≤ length box.bounds + 1)
+circle_refutes f box edges lent settled circle narrow sized few settles is lent_is edges_are =
     let here : Settles (length box.bounds + 1) (edges_in (root_facts f box)) (Circle circle) = subst (λ es. Settles (length box.bounds + 1) es (Circle circle)) (lent_is ∙ edges_are) (subst (Settles (length box.bounds + 1) lent) is settles) in
-    ap (checks f box) (made ∙ ap (λ ns. record { steps = Combine (entries_of ns) ∷ [] }) seen_is)
-    ∙ ap (λ b. b && true) (circle_combines (length box.bounds) (root_facts f box) circle narrow sized here.0 (omega (arith, here.1)))
+    (circle_combines (length box.bounds) (root_facts f box) circle narrow sized here.0 (omega (arith, here.1)), here.1)

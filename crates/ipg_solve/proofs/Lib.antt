@@ -6,9 +6,9 @@ pub mod Parts
 pub mod Turning
 pub mod Solved
 pub mod Crossing
-pub mod Greatest
 pub mod Shapes
 pub mod Narrow
 pub mod Graph
 pub mod Circling
 pub mod Leveled
+pub mod Widened

@@ -3,11 +3,9 @@ use Rattle.std.proofs.Common.{◌≡◌, ℕ, ◌+◌, ◌≤◌, Bool, true, fa
 use Rattle.std.specs.List.{flat_map, AllByRecursion}
 use Rattle.ipg_lin.specs.Form.{Form, Assignment, terms_width}
 use Rattle.ipg_lin.specs.Formula.{holds_at, holds_step, every, greatest, width, width_step}
-use Rattle.ipg_lin.specs.declared.formula.Formula.{Formula, roll-Formula, map-Formula}
+use Rattle.ipg_lin.specs.declared.formula.Formula.{Formula}
 use Rattle.ipg_lin.specs.declared.formula.Formula.TheVariants as formula
-use Rattle.ipg_lin.specs.declared.formula.Formula.TheOpen.{Formula-F}
-use Rattle.ipg_lin.specs.declared.formula.Formula.TheOpen.Formula-F.{Atom, All, Any}
-use Rattle.ipg_lin.specs.declared.formula.Formula.TheFolds.{fold-roll-Formula, ind-Formula}
+use Rattle.ipg_lin.specs.Members.{by_members, folds-Atom, folds-All, folds-Any}
 use Rattle.ipg_cert.specs.Facts.{Fact, AtMost, Choice, facts_of, bound_facts, holds_fact}
 use Rattle.ipg_cert.proofs.Sums.{both_true}
 use Rattle.ipg_cert.proofs.Told.{all_hold, facts_of-Atom, facts_of-All}
@@ -37,49 +35,37 @@ abbrev IsSure : Formula → Type 0
 IsSure f =
     are_differences f ≡ true → ((vars : ℕ) → width f ≤ vars → AllByRecursion (IsNarrow vars) (facts_of f)) × ((v : Assignment) → all_hold v (facts_of f) ≡ true → holds_at v f ≡ true)
 
-abbrev Sure : Type 0
-Sure = (f : Formula) × IsSure f
+narrow_each : (fs : List Formula) → AllByRecursion IsSure fs → every (map are_differences fs) ≡ true → (vars : ℕ) → greatest (map width fs) ≤ vars → AllByRecursion (IsNarrow vars) (flat_map facts_of fs)
+narrow_each [] each h vars w = tt
+narrow_each (f ∷ fs) each h vars w =
+    let b = both_true (are_differences f) (every (map are_differences fs)) h in
+    all_append (IsNarrow vars) (facts_of f) (flat_map facts_of fs) ((each.0 b.0).0 vars (omega arith)) (narrow_each fs each.1 b.1 vars (omega arith))
 
-abbrev bare : List Sure → List Formula
-bare ms = map (λ (m : Sure). m.0) ms
+hold_each : (fs : List Formula) → AllByRecursion IsSure fs → every (map are_differences fs) ≡ true → (v : Assignment) → all_hold v (flat_map facts_of fs) ≡ true → every (map (holds_at v) fs) ≡ true
+hold_each [] each h v k = refl
+hold_each (f ∷ fs) each h v k =
+    let b = both_true (are_differences f) (every (map are_differences fs)) h in
+    let parts = all_hold-split v (facts_of f) (flat_map facts_of fs) k in
+    ap (λ a. a && every (map (holds_at v) fs)) ((each.0 b.0).1 v parts.0) ∙ hold_each fs each.1 b.1 v parts.1
 
-narrow_each : (ms : List Sure) → every (map are_differences (bare ms)) ≡ true → (vars : ℕ) → greatest (map width (bare ms)) ≤ vars → AllByRecursion (IsNarrow vars) (flat_map facts_of (bare ms))
-narrow_each [] h vars w = tt
-narrow_each (m ∷ ms) h vars w =
-    let b = both_true (are_differences m.0) (every (map are_differences (bare ms))) h in
-    all_append (IsNarrow vars) (facts_of m.0) (flat_map facts_of (bare ms)) ((m.1 b.0).0 vars (omega arith)) (narrow_each ms b.1 vars (omega arith))
-
-hold_each : (ms : List Sure) → every (map are_differences (bare ms)) ≡ true → (v : Assignment) → all_hold v (flat_map facts_of (bare ms)) ≡ true → every (map (holds_at v) (bare ms)) ≡ true
-hold_each [] h v k = refl
-hold_each (m ∷ ms) h v k =
-    let b = both_true (are_differences m.0) (every (map are_differences (bare ms))) h in
-    let parts = all_hold-split v (facts_of m.0) (flat_map facts_of (bare ms)) k in
-    ap (λ a. a && every (map (holds_at v) (bare ms))) ((m.1 b.0).1 v parts.0) ∙ hold_each ms b.1 v parts.1
-
-on_atom : (form : Form) → IsSure (roll-Formula (Atom form))
+on_atom : (form : Form) → IsSure (formula.Atom form)
 on_atom form h =
-    let is : facts_of (roll-Formula (Atom form)) ≡ AtMost form ∷ [] = ap facts_of (formula.rolls-Atom form) ∙ facts_of-Atom form in
-    let d : is_difference form.terms ≡ true = sym (fold-roll-Formula Bool differences_step (Atom form)) ∙ h in (
-      λ vars w. subst (AllByRecursion (IsNarrow vars)) (sym is) ((d, subst (λ n. n ≤ vars) (fold-roll-Formula ℕ width_step (Atom form)) w), tt),
-      λ v k. fold-roll-Formula Bool (holds_step v) (Atom form) ∙ (both_true (holds_fact v (AtMost form)) true (sym (ap (all_hold v) is) ∙ k)).0,
+    let is : facts_of (formula.Atom form) ≡ AtMost form ∷ [] = facts_of-Atom form in
+    let d : is_difference form.terms ≡ true = sym (folds-Atom Bool differences_step form) ∙ h in (
+      λ vars w. subst (AllByRecursion (IsNarrow vars)) (sym is) ((d, subst (λ n. n ≤ vars) (folds-Atom ℕ width_step form) w), tt),
+      λ v k. folds-Atom Bool (holds_step v) form ∙ (both_true (holds_fact v (AtMost form)) true (sym (ap (all_hold v) is) ∙ k)).0,
     )
 
-on_all : (ms : List Sure) → IsSure (roll-Formula (All (bare ms)))
-on_all ms h =
-    let fs : List Formula = bare ms in
-    let is : facts_of (roll-Formula (All fs)) ≡ flat_map facts_of fs = ap facts_of (formula.rolls-All fs) ∙ facts_of-All fs in
-    let d : every (map are_differences fs) ≡ true = sym (fold-roll-Formula Bool differences_step (All fs)) ∙ h in (
-      λ vars w. subst (AllByRecursion (IsNarrow vars)) (sym is) (narrow_each ms d vars (subst (λ n. n ≤ vars) (fold-roll-Formula ℕ width_step (All fs)) w)),
-      λ v k. fold-roll-Formula Bool (holds_step v) (All fs) ∙ hold_each ms d v (sym (ap (all_hold v) is) ∙ k),
+on_all : (fs : List Formula) → AllByRecursion IsSure fs → IsSure (formula.All fs)
+on_all fs each h =
+    let is : facts_of (formula.All fs) ≡ flat_map facts_of fs = facts_of-All fs in
+    let d : every (map are_differences fs) ≡ true = sym (folds-All Bool differences_step fs) ∙ h in (
+      λ vars w. subst (AllByRecursion (IsNarrow vars)) (sym is) (narrow_each fs each d vars (subst (λ n. n ≤ vars) (folds-All ℕ width_step fs) w)),
+      λ v k. folds-All Bool (holds_step v) fs ∙ hold_each fs each d v (sym (ap (all_hold v) is) ∙ k),
     )
 
-on_any : (ms : List Sure) → IsSure (roll-Formula (Any (bare ms)))
-on_any ms h = let no : false ≡ true = sym (fold-roll-Formula Bool differences_step (Any (bare ms))) ∙ h in absurd (cc)
-
-on_layer : (y : Formula-F Sure) (x : Formula-F Formula) → map-Formula Sure Formula (λ e. e.0) y ≡ x → IsSure (roll-Formula x)
-on_layer (Atom form) x is = subst (λ z. IsSure (roll-Formula z)) is (on_atom form)
-on_layer (All ms) x is = subst (λ z. IsSure (roll-Formula z)) is (on_all ms)
-on_layer (Any ms) x is = subst (λ z. IsSure (roll-Formula z)) is (on_any ms)
+on_any : (fs : List Formula) → AllByRecursion IsSure fs → IsSure (formula.Any fs)
+on_any fs each h = let no : false ≡ true = sym (folds-Any Bool differences_step fs) ∙ h in absurd (cc)
 
 pub sure : (f : Formula) → IsSure f
-sure = ind-Formula IsSure (λ x y is. on_layer y x is)
+sure = by_members IsSure on_atom on_all on_any

@@ -130,7 +130,7 @@ pub start_length : (x : ℕ) (bounds : List (ℤ × ℤ)) → length (start_span
 start_length x [] = refl
 start_length x (b ∷ bounds) = ap suc (start_length (x + 1) bounds)
 
-bounds_length : (x : ℕ) (bounds : List (ℤ × ℤ)) → length (bound_facts x bounds) ≡ length bounds + length bounds
+pub bounds_length : (x : ℕ) (bounds : List (ℤ × ℤ)) → length (bound_facts x bounds) ≡ length bounds + length bounds
 bounds_length x [] = refl
 bounds_length x (b ∷ bounds) = omega (arith, bounds_length (x + 1) bounds)
 

@@ -6,10 +6,10 @@ use Rattle.std.proofs.lemmas.List.{length-map}
 use Rattle.std.proofs.lemmas.Option.{slice_get_within}
 use Rattle.ipg_lin.specs.Form.{Form, sum_at, value_at, terms_width}
 use Rattle.ipg_lin.specs.Formula.{holds_at, holds_step, every, some, greatest, width, width_step, assigned, LiesIn}
-use Rattle.ipg_lin.specs.declared.formula.Formula.{Formula, roll-Formula, map-Formula}
-use Rattle.ipg_lin.specs.declared.formula.Formula.TheOpen.{Formula-F}
-use Rattle.ipg_lin.specs.declared.formula.Formula.TheOpen.Formula-F.{Atom, All, Any}
-use Rattle.ipg_lin.specs.declared.formula.Formula.TheFolds.{fold-roll-Formula, ind-Formula}
+use Rattle.ipg_lin.specs.declared.formula.Formula.{Formula}
+use Rattle.ipg_lin.specs.declared.formula.Formula.TheVariants as formula
+use Rattle.ipg_lin.specs.Members.{by_members, folds-Atom, folds-All, folds-Any}
+use Rattle.std.specs.List.{AllByRecursion}
 use Rattle.ipg_lin.specs.declared.formula.Boxed.{Boxed}
 use Rattle.ipg_cert.specs.declared.refutation.Step.{Step}
 use Rattle.ipg_solve.specs.declared.span.Span.{Span}
@@ -50,59 +50,43 @@ not_above z =
 abbrev IsJudged : List Span → Formula → Type 0
 IsJudged spans f = width f ≤ length spans → rules_out spans f ≡ not (holds_at (assigned (lows spans)) f)
 
-abbrev Judged : List Span → Type 0
-Judged spans = (f : Formula) × IsJudged spans f
-
-judged_some : (spans : List Span) (ms : List (Judged spans)) → greatest (map width (map (λ (m : Judged spans). m.0) ms)) ≤ length spans
-    → some (map (rules_out spans) (map (λ (m : Judged spans). m.0) ms)) ≡ not (every (map (holds_at (assigned (lows spans))) (map (λ (m : Judged spans). m.0) ms)))
-judged_some spans [] h = refl
-judged_some spans (m ∷ ms) h =
+judged_some : (spans : List Span) (fs : List Formula) → AllByRecursion (IsJudged spans) fs → greatest (map width fs) ≤ length spans → some (map (rules_out spans) fs) ≡ not (every (map (holds_at (assigned (lows spans))) fs))
+judged_some spans [] each h = refl
+judged_some spans (f ∷ fs) each h =
     let v = assigned (lows spans) in
-    let fs = map (λ (e : Judged spans). e.0) ms in
-    ap (λ b. b || some (map (rules_out spans) fs)) (m.1 (omega arith))
-    ∙ ap (λ b. not (holds_at v m.0) || b) (judged_some spans ms (omega arith))
-    ∙ elim (holds_at v m.0) as (λ b. (not b || not (every (map (holds_at v) fs))) ≡ not (b && every (map (holds_at v) fs))) [ true ↦ refl | false ↦ refl ]
+    ap (λ b. b || some (map (rules_out spans) fs)) (each.0 (omega arith))
+    ∙ ap (λ b. not (holds_at v f) || b) (judged_some spans fs each.1 (omega arith))
+    ∙ elim (holds_at v f) as (λ b. (not b || not (every (map (holds_at v) fs))) ≡ not (b && every (map (holds_at v) fs))) [ true ↦ refl | false ↦ refl ]
 
-judged_every : (spans : List Span) (ms : List (Judged spans)) → greatest (map width (map (λ (m : Judged spans). m.0) ms)) ≤ length spans
-    → every (map (rules_out spans) (map (λ (m : Judged spans). m.0) ms)) ≡ not (some (map (holds_at (assigned (lows spans))) (map (λ (m : Judged spans). m.0) ms)))
-judged_every spans [] h = refl
-judged_every spans (m ∷ ms) h =
+judged_every : (spans : List Span) (fs : List Formula) → AllByRecursion (IsJudged spans) fs → greatest (map width fs) ≤ length spans → every (map (rules_out spans) fs) ≡ not (some (map (holds_at (assigned (lows spans))) fs))
+judged_every spans [] each h = refl
+judged_every spans (f ∷ fs) each h =
     let v = assigned (lows spans) in
-    let fs = map (λ (e : Judged spans). e.0) ms in
-    ap (λ b. b && every (map (rules_out spans) fs)) (m.1 (omega arith))
-    ∙ ap (λ b. not (holds_at v m.0) && b) (judged_every spans ms (omega arith))
-    ∙ elim (holds_at v m.0) as (λ b. (not b && not (some (map (holds_at v) fs))) ≡ not (b || some (map (holds_at v) fs))) [ true ↦ refl | false ↦ refl ]
+    ap (λ b. b && every (map (rules_out spans) fs)) (each.0 (omega arith))
+    ∙ ap (λ b. not (holds_at v f) && b) (judged_every spans fs each.1 (omega arith))
+    ∙ elim (holds_at v f) as (λ b. (not b && not (some (map (holds_at v) fs))) ≡ not (b || some (map (holds_at v) fs))) [ true ↦ refl | false ↦ refl ]
 
-on_atom : (spans : List Span) → ArePoints spans → (form : Form) → IsJudged spans (roll-Formula (Atom form))
+on_atom : (spans : List Span) → ArePoints spans → (form : Form) → IsJudged spans (formula.Atom form)
 on_atom spans points form h =
     let v = assigned (lows spans) in
-    let within : terms_width form.terms ≤ length spans = subst (λ n. n ≤ length spans) (fold-roll-Formula ℕ width_step (Atom form)) h in
-    fold-roll-Formula Bool (rules_out_step spans) (Atom form)
+    let within : terms_width form.terms ≤ length spans = subst (λ n. n ≤ length spans) (folds-Atom ℕ width_step form) h in
+    folds-Atom Bool (rules_out_step spans) form
     ∙ ap (λ z. int_lt (pos 0) (z +ℤ form.constant)) (point_least spans form.terms points within)
     ∙ not_above (value_at v form)
-    ∙ ap not (sym (fold-roll-Formula Bool (holds_step v) (Atom form)))
+    ∙ ap not (sym (folds-Atom Bool (holds_step v) form))
 
-on_all : (spans : List Span) (ms : List (Judged spans)) → IsJudged spans (roll-Formula (All (map (λ (m : Judged spans). m.0) ms)))
-on_all spans ms h =
-    let v = assigned (lows spans) in
-    let fs : List Formula = map (λ (e : Judged spans). e.0) ms in
-    let within : greatest (map width fs) ≤ length spans = subst (λ n. n ≤ length spans) (fold-roll-Formula ℕ width_step (All fs)) h in
-    fold-roll-Formula Bool (rules_out_step spans) (All fs) ∙ judged_some spans ms within ∙ ap not (sym (fold-roll-Formula Bool (holds_step v) (All fs)))
+on_all : (spans : List Span) (fs : List Formula) → AllByRecursion (IsJudged spans) fs → IsJudged spans (formula.All fs)
+on_all spans fs each h =
+    let within : greatest (map width fs) ≤ length spans = subst (λ n. n ≤ length spans) (folds-All ℕ width_step fs) h in
+    folds-All Bool (rules_out_step spans) fs ∙ judged_some spans fs each within ∙ ap not (sym (folds-All Bool (holds_step (assigned (lows spans))) fs))
 
-on_any : (spans : List Span) (ms : List (Judged spans)) → IsJudged spans (roll-Formula (Any (map (λ (m : Judged spans). m.0) ms)))
-on_any spans ms h =
-    let v = assigned (lows spans) in
-    let fs : List Formula = map (λ (e : Judged spans). e.0) ms in
-    let within : greatest (map width fs) ≤ length spans = subst (λ n. n ≤ length spans) (fold-roll-Formula ℕ width_step (Any fs)) h in
-    fold-roll-Formula Bool (rules_out_step spans) (Any fs) ∙ judged_every spans ms within ∙ ap not (sym (fold-roll-Formula Bool (holds_step v) (Any fs)))
-
-on_layer : (spans : List Span) → ArePoints spans → (y : Formula-F (Judged spans)) (x : Formula-F Formula) → map-Formula (Judged spans) Formula (λ e. e.0) y ≡ x → IsJudged spans (roll-Formula x)
-on_layer spans points (Atom form) x is = subst (λ z. IsJudged spans (roll-Formula z)) is (on_atom spans points form)
-on_layer spans points (All ms) x is = subst (λ z. IsJudged spans (roll-Formula z)) is (on_all spans ms)
-on_layer spans points (Any ms) x is = subst (λ z. IsJudged spans (roll-Formula z)) is (on_any spans ms)
+on_any : (spans : List Span) (fs : List Formula) → AllByRecursion (IsJudged spans) fs → IsJudged spans (formula.Any fs)
+on_any spans fs each h =
+    let within : greatest (map width fs) ≤ length spans = subst (λ n. n ≤ length spans) (folds-Any ℕ width_step fs) h in
+    folds-Any Bool (rules_out_step spans) fs ∙ judged_every spans fs each within ∙ ap not (sym (folds-Any Bool (holds_step (assigned (lows spans))) fs))
 
 judged : (spans : List Span) → ArePoints spans → (f : Formula) → IsJudged spans f
-judged spans points = ind-Formula (IsJudged spans) (λ x y is. on_layer spans points y x is)
+judged spans points = by_members (IsJudged spans) (on_atom spans points) (on_all spans) (on_any spans)
 
 not_false : (a b : Bool) → a ≡ not b → a ≡ false → b ≡ true
 not_false a true e h = refl

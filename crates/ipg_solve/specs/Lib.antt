@@ -8,3 +8,4 @@ pub mod Cuts
 pub mod Crossed
 pub mod Within
 pub mod Edges
+pub mod Widened

@@ -1,5 +1,5 @@
 ghost use Rattle.std.specs.Prelude.{◌≡◌, ◌≤◌, length, int_le, ◌&&◌, IsTrue, IfOk, IfSome};
-ghost use Rattle.ipg_lin.specs.Formula.{width, depth};
+ghost use Rattle.ipg_lin.specs.Formula.{width};
 ghost use Rattle.ipg_solve.specs.Decides.{Solves, Decides};
 ghost use Rattle.ipg_solve.specs.Within.{AreWithin};
 
@@ -7,6 +7,7 @@ use crate::decision::Decision;
 use ipg_cert::{Refutation, check};
 use ipg_lin::{Boxed, Formula, holds};
 use ipg_num::List;
+use ipg_seek::Found;
 use std::alloc::{AllocError, Global};
 
 fn is_within(value: i64, bound: &(i64, i64)) -> bool
@@ -30,8 +31,7 @@ fn are_within(values: &[i64], bounds: &[(i64, i64)]) -> bool
 
 /// Whether the values solve the formula.
 pub fn solves(f: &Formula, b: &Boxed, values: &[i64]) -> bool
-    requires valued { width f.now ≤ length b.now.bounds }
-    requires shallow { depth f.now ≤ 4096 }
+    requires { width f.now ≤ length b.now.bounds }
     ensures { IsTrue result → Solves f.now b.now values.now }
 {
     if values.len() != b.bounds.len() {
@@ -40,27 +40,25 @@ pub fn solves(f: &Formula, b: &Boxed, values: &[i64]) -> bool
     are_within(values, b.bounds.as_slice()) && holds(f, values)
 }
 
-/// The decision that was found, if it stands.
+/// What was found as a decision, if it stands.
 pub fn checked(
     alloc: Global,
     f: &Formula,
     b: &Boxed,
-    found: Option<Decision>,
+    found: Option<Found>,
 ) -> Result<Option<Decision>, AllocError>
-    requires valued { width f.now ≤ length b.now.bounds }
-    requires shallow { depth f.now ≤ 4096 }
+    requires { width f.now ≤ length b.now.bounds }
     ensures { IfOk result (λ kept. IfSome kept (Decides f.now b.now)) }
 {
     match found {
-        Some(Decision::Solution(values)) => Ok(solution(f, b, values)),
-        Some(Decision::Refuted(r)) => refutation(alloc, f, b, r),
+        Some(Found::Values(values)) => Ok(solution(f, b, values)),
+        Some(Found::Refuted(r)) => refutation(alloc, f, b, r),
         None => Ok(None),
     }
 }
 
 fn solution(f: &Formula, b: &Boxed, values: List<i64>) -> Option<Decision>
-    requires valued { width f.now ≤ length b.now.bounds }
-    requires shallow { depth f.now ≤ 4096 }
+    requires { width f.now ≤ length b.now.bounds }
     ensures { IfSome result (Decides f.now b.now) }
 {
     if solves(f, b, values.as_slice()) {
@@ -76,7 +74,6 @@ fn refutation(
     b: &Boxed,
     r: Refutation,
 ) -> Result<Option<Decision>, AllocError>
-    requires { depth f.now ≤ 4096 }
     ensures { IfOk result (λ kept. IfSome kept (Decides f.now b.now)) }
 {
     if check(alloc, f, b, &r)? {

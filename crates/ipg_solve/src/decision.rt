@@ -1,5 +1,5 @@
-ghost use Rattle.std.specs.Prelude.{◌≡◌, ◌+◌, ◌^◌, ◌<◌, ◌≤◌, [], ◌∷◌, length, int_lt, MatchOption, IfOk};
-ghost use Rattle.ipg_lin.specs.Formula.{width, depth};
+ghost use Rattle.std.specs.Prelude.{◌≡◌, ◌+◌, ◌^◌, ◌<◌, ◌≤◌, [], ◌∷◌, length, max, int_lt, MatchOption, IfOk, IfSome};
+ghost use Rattle.ipg_lin.specs.Formula.{width};
 ghost use Rattle.ipg_cert.specs.declared.refutation.Step.TheVariants.{Combine};
 ghost use Rattle.ipg_solve.specs.Decides.{Decides, IsExact};
 ghost use Rattle.ipg_solve.specs.Differences.{IsDifference, IsShort};
@@ -12,10 +12,10 @@ use crate::counting::counted;
 use crate::difference::{short_enough, wants_short};
 use crate::halving::halve;
 use crate::levels::decide_differences;
-use crate::seeking::seek;
 use ipg_cert::{Refutation, Step};
 use ipg_lin::{Boxed, Formula};
 use ipg_num::List;
+use ipg_seek::seek;
 use std::alloc::{AllocError, Global};
 
 /// Whether a formula can hold in a box.
@@ -33,7 +33,7 @@ fn is_crossed(bound: &(i64, i64)) -> bool
 }
 
 /// A variable whose least value is above its greatest.
-fn crossed(bounds: &[(i64, i64)]) -> Option<usize>
+pub fn crossed(bounds: &[(i64, i64)]) -> Option<usize>
     ensures { MatchOption result (AreFull (start_spans 0 bounds.now)) (λ x. IsCrossed bounds.now x) }
 {
     for (x, bound) in bounds.iter().enumerate() {
@@ -58,34 +58,42 @@ fn crossing(alloc: Global, x: usize) -> Result<Refutation, AllocError>
 
 /// A solution of the formula in the box, exactly where there is one, and otherwise a refutation that
 /// checks. Where the formula is differences alone, `x - y + c <= 0`, `x + c <= 0`, `-x + c <= 0` or
-/// `c <= 0`, the refutation is one Combine of at most one fact more than there are variables, of which
-/// there are fewer than 2^21. It goes as deep as members stand in one another, so formulas that nest
-/// deeper than 4096 are not asked.
+/// `c <= 0`, the refutation is one Combine of at most one fact more than it has variables, and two at least,
+/// if it has fewer than 2^21. It recurses as deep as members stand in one another, as dropping the
+/// formula does.
 pub fn decide(alloc: Global, f: &Formula, b: &Boxed) -> Result<Decision, AllocError>
-    requires valued { width f.now ≤ length b.now.bounds }
-    requires shallow { depth f.now ≤ 4096 }
+    requires { width f.now ≤ length b.now.bounds }
     ensures decided { IfOk result (λ decision. Decides f.now b.now decision) }
     ensures exact { IfOk result (λ decision. IsExact f.now b.now decision) }
-    ensures short { IfOk result (λ decision. IsDifference f.now → length b.now.bounds < 2 ^ 21 → IsShort (length b.now.bounds) decision) }
+    ensures short { IfOk result (λ decision. IsDifference f.now → width f.now < 2 ^ 21 → IsShort (max 1 (width f.now)) decision) }
 {
     let decision = decided(alloc, f, b)?;
     Ok(decision)
 }
 
 fn decided(alloc: Global, f: &Formula, b: &Boxed) -> Result<Decision, AllocError>
-    requires valued { width f.now ≤ length b.now.bounds }
-    requires shallow { depth f.now ≤ 4096 }
+    requires { width f.now ≤ length b.now.bounds }
     ensures decided { IfOk result (λ decision. Decides f.now b.now decision) }
-    ensures short { IfOk result (λ decision. IsDifference f.now → length b.now.bounds < 2 ^ 21 → IsShort (length b.now.bounds) decision) }
+    ensures short { IfOk result (λ decision. IsDifference f.now → width f.now < 2 ^ 21 → IsShort (max 1 (width f.now)) decision) }
 {
     if let Some(x) = crossed(b.bounds.as_slice()) {
         return Ok(Decision::Refuted(crossing(alloc, x)?));
     }
-    let found = checked(alloc, f, b, seek(alloc, f, b)?)?;
+    let found = searched(alloc, f, b)?;
     if let Some(decision) = short_enough(f, b, found) {
         return Ok(decision);
     }
     surely(alloc, f, b)
+}
+
+/// What the search finds, if it stands. Where memory is wanting inside the search, that is the answer:
+/// halving would take more.
+fn searched(alloc: Global, f: &Formula, b: &Boxed) -> Result<Option<Decision>, AllocError>
+    requires { width f.now ≤ length b.now.bounds }
+    ensures { IfOk result (λ kept. IfSome kept (Decides f.now b.now)) }
+{
+    let found = seek(alloc, f, b)?;
+    checked(alloc, f, b, found)
 }
 
 /// Decides the formula with no search.
@@ -93,9 +101,9 @@ fn surely(alloc: Global, f: &Formula, b: &Boxed) -> Result<Decision, AllocError>
     requires valued { width f.now ≤ length b.now.bounds }
     requires full { AreFull (start_spans 0 b.now.bounds) }
     ensures decided { IfOk result (λ decision. Decides f.now b.now decision) }
-    ensures short { IfOk result (λ decision. IsDifference f.now → length b.now.bounds < 2 ^ 21 → IsShort (length b.now.bounds) decision) }
+    ensures short { IfOk result (λ decision. IsDifference f.now → width f.now < 2 ^ 21 → IsShort (max 1 (width f.now)) decision) }
 {
-    if wants_short(f, b) {
+    if wants_short(f) {
         return decide_differences(alloc, f, b);
     }
     let halved = halve(alloc, f, b)?;

@@ -1,10 +1,11 @@
-ghost use Rattle.std.specs.Prelude.{◌≡◌, ◌^◌, ◌<◌, ◌≤◌, ◌&&◌, ◌||◌, false, length, map, IsTrue, IfSome};
-ghost use Rattle.ipg_lin.specs.Formula.{every};
+ghost use Rattle.std.specs.Prelude.{◌≡◌, ◌^◌, ◌<◌, ◌≤◌, max, ◌&&◌, ◌||◌, false, length, map, IsTrue, IfSome};
+ghost use Rattle.ipg_lin.specs.Formula.{every, width};
 ghost use Rattle.ipg_solve.specs.Decides.{Decides};
 ghost use Rattle.ipg_solve.specs.declared.decision.Decision.TheVariants.{Refuted};
 ghost use Rattle.ipg_solve.specs.Differences.{is_one, is_minus_one, is_difference, are_differences, IsDifference, IsShort};
 
 use crate::decision::Decision;
+use crate::width::width_of;
 use ipg_cert::{Refutation, Step};
 use ipg_lin::{Boxed, Formula};
 
@@ -57,16 +58,17 @@ fn all_differences(members: &[Formula]) -> bool
     true
 }
 
-fn is_short_refutation(r: &Refutation, vars: usize) -> bool
+/// Whether it is one Combine of at most one fact more than so many variables.
+fn is_short_refutation(r: &Refutation, vars: u128) -> bool
     ensures { IsTrue result → IsShort vars (Refuted r.now) }
 {
     match r.steps.as_slice() {
-        [Step::Combine(entries)] => entries.len() as u128 <= vars as u128 + 1,
+        [Step::Combine(entries)] => entries.len() as u128 <= vars.saturating_add(1),
         _ => false,
     }
 }
 
-fn is_short(decision: &Decision, vars: usize) -> bool
+fn is_short(decision: &Decision, vars: u128) -> bool
     ensures { IsTrue result → IsShort vars decision.now }
 {
     match decision {
@@ -76,21 +78,21 @@ fn is_short(decision: &Decision, vars: usize) -> bool
 }
 
 /// Whether the formula speaks of differences alone, and of so few variables that one Combine refutes it.
-pub fn wants_short(f: &Formula, b: &Boxed) -> bool
-    ensures short { IsTrue result → IsDifference f.now × (length b.now.bounds < 2 ^ 21) }
-    ensures long { result ≡ false → IsDifference f.now → 2 ^ 21 ≤ length b.now.bounds }
+pub fn wants_short(f: &Formula) -> bool
+    ensures short { IsTrue result → IsDifference f.now × (width f.now < 2 ^ 21) }
+    ensures long { result ≡ false → IsDifference f.now → 2 ^ 21 ≤ width f.now }
 {
-    b.bounds.len() < 1 << 21 && are_differences(f)
+    width_of(f) < 1 << 21 && are_differences(f)
 }
 
 /// The decision that was found, unless it has to be short and is long.
 pub fn short_enough(f: &Formula, b: &Boxed, found: Option<Decision>) -> Option<Decision>
     requires { IfSome found (Decides f.now b.now) }
     ensures decided { IfSome result (Decides f.now b.now) }
-    ensures short { IfSome result (λ decision. IsDifference f.now → length b.now.bounds < 2 ^ 21 → IsShort (length b.now.bounds) decision) }
+    ensures short { IfSome result (λ decision. IsDifference f.now → width f.now < 2 ^ 21 → IsShort (max 1 (width f.now)) decision) }
 {
     let decision = found?;
-    if is_short(&decision, b.bounds.len()) || !wants_short(f, b) {
+    if is_short(&decision, width_of(f).max(1)) || !wants_short(f) {
         Some(decision)
     } else {
         None

@@ -18,6 +18,9 @@ use ipg_lin::{Boxed, Formula};
 use ipg_num::List;
 use std::alloc::{AllocError, Global};
 
+/// The most steps of a refutation by halving.
+const MOST_STEPS: usize = 1 << 24;
+
 /// What a turn of the halving comes to.
 #[derive(Clone, Copy)]
 enum Turn {
@@ -90,7 +93,8 @@ fn above(cut: Cut) -> Cut
     }
 }
 
-/// Cuts the part at hand in the middle of a variable's span, and takes the lower side.
+/// Cuts the part at hand in the middle of a variable's span, and takes the lower side. Where there are too
+/// many steps, memory is said to be wanting before it is.
 fn cut_at(
     first: u64,
     x: usize,
@@ -102,6 +106,9 @@ fn cut_at(
     requires wide { (span_at spans.old.items x).low <ℤ (span_at spans.old.items x).high }
     ensures { OnOk result (IsCut first x spans.old.items spans.new.items cuts.old.items cuts.new.items steps.old.items steps.new.items) }
 {
+    if MOST_STEPS <= steps.len() {
+        return Err(AllocError);
+    }
     let old = spans[x];
     let cut = Cut {
         var: x,

@@ -1,10 +1,11 @@
-ghost use Rattle.std.specs.Prelude.{◌≡◌, ℤ, pos, ◌+◌, ◌*◌, ◌^◌, ◌<◌, ◌≤◌, ◌+ℤ◌, ◌*ℤ◌, int_lt, length, map, IsTrue};
+ghost use Rattle.std.specs.Prelude.{◌≡◌, pos, ◌*◌, ◌^◌, ◌<◌, ◌≤◌, ◌*ℤ◌, int_lt, length, map, IsTrue};
 ghost use Rattle.std.specs.Int.RustNames.{unsigned_abs};
 ghost use Rattle.ipg_lin.specs.Form.{is_coefficient, are_coefficients, terms_width};
 ghost use Rattle.ipg_lin.specs.Formula.{every, some, width, greatest};
 ghost use Rattle.ipg_solve.specs.Spans.{span_at, end_of, least, least_of, rules_out};
 
 use crate::span::Span;
+use ipg_lin::sum::{plus, times};
 use ipg_lin::{Formula, Linear};
 
 /// The end of the span at which a multiple of the variable is least.
@@ -12,22 +13,6 @@ fn end_of(span: Span, coefficient: i64) -> i64
     ensures { result ≡ end_of span coefficient }
 {
     if coefficient < 0 { span.high } else { span.low }
-}
-
-fn times(coefficient: i64, value: i64) -> i128
-    requires { IsTrue (is_coefficient coefficient) }
-    ensures value { result ≡ coefficient *ℤ value }
-    ensures size { unsigned_abs result ≤ 2 ^ 103 }
-{
-    i128::from(coefficient) * i128::from(value)
-}
-
-fn plus(x: i128, y: i128) -> i128
-    requires { unsigned_abs x + unsigned_abs y < 2 ^ 127 }
-    ensures value { result ≡ x +ℤ y }
-    ensures size { unsigned_abs result ≤ unsigned_abs x + unsigned_abs y }
-{
-    x + y
 }
 
 pub fn span_of(spans: &[Span], var: u64) -> Span
@@ -45,7 +30,7 @@ fn least_term(term: &(u64, i64), spans: &[Span]) -> i128
     ensures size { unsigned_abs result ≤ 2 ^ 103 }
 {
     let term = *term;
-    times(term.1, end_of(span_of(spans, term.0), term.1))
+    times(term.1, i128::from(end_of(span_of(spans, term.0), term.1)))
 }
 
 /// The least value of the terms, of which there are at most 64.

@@ -8,18 +8,14 @@ mod cut;
 mod decision;
 mod difference;
 mod edges;
-mod eliminate;
-mod explain;
 mod halving;
-mod known;
 mod least;
 mod levels;
-mod marks;
-mod seeking;
 #[cfg(test)]
 mod small;
 mod span;
 #[cfg(test)]
 mod tests;
+mod width;
 
 pub use decision::{Decision, decide};

@@ -1,15 +1,16 @@
 //! Random small systems, decided and tried at every point.
 
 ghost use Rattle.std.specs.Prelude.{◌≡◌, ◌+◌, ◌*◌, ◌<◌, ◌≤◌, pos, negsuc, ◌≤ℤ◌, IfOk};
-ghost use Rattle.ipg_lin.specs.Form.{terms_width};
-ghost use Rattle.ipg_lin.specs.Formula.{width, depth};
 
 use super::*;
+use crate::candidate::solves;
+use crate::decision::crossed;
 use crate::difference::wants_short;
 use crate::levels::decide_differences;
 use ipg_cert::{Refutation, Step, check};
-use ipg_lin::{Boxed, Formula, Linear, holds};
+use ipg_lin::{Boxed, Formula, Linear, holds, is_over};
 use ipg_num::List;
+use ipg_seek::{Found, seek};
 use std::alloc::Global;
 use std::test::Fail;
 
@@ -44,9 +45,7 @@ fn around_zero(state: &mut u64, most: u64) -> i64
     draw(state, 2 * most + 1) as i64 - most as i64
 }
 
-fn form(alloc: Global, state: &mut u64) -> Result<Linear, Fail>
-    ensures { IfOk result (λ form. terms_width form.terms ≤ 4) }
-{
+fn form(alloc: Global, state: &mut u64) -> Result<Linear, Fail> {
     let constant = around_zero(state, 12);
     let a = coefficient(state);
     let b = coefficient(state);
@@ -63,11 +62,7 @@ fn form(alloc: Global, state: &mut u64) -> Result<Linear, Fail>
 }
 
 /// An atom, or at a level above 0 an All or an Any of up to three formulas of the level below.
-fn formula(alloc: Global, state: &mut u64, level: u64) -> Result<Formula, Fail>
-    requires { level ≤ 3 }
-    ensures width { IfOk result (λ f. width f ≤ 4) }
-    ensures depth { IfOk result (λ f. depth f ≤ level) }
-{
+fn formula(alloc: Global, state: &mut u64, level: u64) -> Result<Formula, Fail> {
     if level == 0 {
         return Ok(Formula::Atom(form(alloc, state)?));
     }
@@ -94,15 +89,12 @@ fn span(state: &mut u64) -> (i64, i64) {
 }
 
 /// Whether the formula holds at some point of the box, by trying each.
-fn is_solvable(f: &Formula, bounds: &[(i64, i64); 4]) -> bool
-    requires width { width f.now ≤ 4 }
-    requires depth { depth f.now ≤ 4096 }
-{
+fn is_solvable(f: &Formula, bounds: &[(i64, i64); 4]) -> bool {
     for a in bounds[0].0..=bounds[0].1 {
         for b in bounds[1].0..=bounds[1].1 {
             for c in bounds[2].0..=bounds[2].1 {
                 for d in bounds[3].0..=bounds[3].1 {
-                    if holds(f, &[a, b, c, d]) {
+                    if is_over(f, 4) && holds(f, &[a, b, c, d]) {
                         return true;
                     }
                 }
@@ -113,13 +105,13 @@ fn is_solvable(f: &Formula, bounds: &[(i64, i64); 4]) -> bool
 }
 
 /// Whether the decision is right, and stands.
-fn is_right(alloc: Global, f: &Formula, bounds: &[(i64, i64); 4]) -> Result<bool, Fail>
-    requires width { width f.now ≤ 4 }
-    requires depth { depth f.now ≤ 4096 }
-{
+fn is_right(alloc: Global, f: &Formula, bounds: &[(i64, i64); 4]) -> Result<bool, Fail> {
     let b = Boxed {
         bounds: List::from_vec(Vec::from_slice(alloc, bounds)?),
     };
+    if !is_over(f, 4) {
+        return Ok(false);
+    }
     match decide(alloc, f, &b)? {
         Decision::Solution(_) => Ok(is_solvable(f, bounds)),
         Decision::Refuted(r) => Ok(!is_solvable(f, bounds) && check(alloc, f, &b, &r)?),
@@ -138,10 +130,35 @@ fn small_systems_are_decided_as_trying_every_point_does(rt: HostRuntime) -> Resu
     Ok(())
 }
 
+/// Whether the search finds an answer, and it stands.
+fn is_found(alloc: Global, f: &Formula, bounds: &[(i64, i64); 4]) -> Result<bool, Fail> {
+    let b = Boxed {
+        bounds: List::from_vec(Vec::from_slice(alloc, bounds)?),
+    };
+    if !is_over(f, b.bounds.len()) {
+        return Ok(false);
+    }
+    match seek(alloc, f, &b)? {
+        Some(Found::Values(values)) => Ok(solves(f, &b, values.as_slice())),
+        Some(Found::Refuted(r)) => Ok(check(alloc, f, &b, &r)?),
+        None => Ok(false),
+    }
+}
+
+#[test]
+fn what_the_search_finds_stands(rt: HostRuntime) -> Result<(), Fail> {
+    let alloc = rt.alloc();
+    let mut state = 11;
+    for _ in 0..2000 {
+        let f = formula(alloc, &mut state, 3)?;
+        let bounds = bounds(&mut state);
+        assert!(rt; is_found(alloc, &f, &bounds)?);
+    }
+    Ok(())
+}
+
 /// A difference of two of four variables, or a bound of one.
-fn difference_form(alloc: Global, state: &mut u64) -> Result<Linear, Fail>
-    ensures { IfOk result (λ form. terms_width form.terms ≤ 4) }
-{
+fn difference_form(alloc: Global, state: &mut u64) -> Result<Linear, Fail> {
     let constant = around_zero(state, 9);
     let a = if draw(state, 2) == 0 { 1 } else { -1 };
     match draw(state, 8) {
@@ -156,17 +173,11 @@ fn difference_form(alloc: Global, state: &mut u64) -> Result<Linear, Fail>
     }
 }
 
-fn difference(alloc: Global, state: &mut u64) -> Result<Formula, Fail>
-    ensures width { IfOk result (λ f. width f ≤ 4) }
-    ensures depth { IfOk result (λ f. depth f ≡ 0) }
-{
+fn difference(alloc: Global, state: &mut u64) -> Result<Formula, Fail> {
     Ok(Formula::Atom(difference_form(alloc, state)?))
 }
 
-fn differences(alloc: Global, state: &mut u64) -> Result<Formula, Fail>
-    ensures width { IfOk result (λ f. width f ≤ 4) }
-    ensures depth { IfOk result (λ f. depth f ≤ 1) }
-{
+fn differences(alloc: Global, state: &mut u64) -> Result<Formula, Fail> {
     let mut members = List::new(alloc);
     let count = draw(state, 9);
     for _member in 0..count {
@@ -193,6 +204,7 @@ fn differences_are_refuted_by_one_short_combine(rt: HostRuntime) -> Result<(), F
         let b = Boxed {
             bounds: List::from_vec(Vec::from_slice(alloc, &bounds)?),
         };
+        assert!(rt; is_over(&f, 4));
         match decide(alloc, &f, &b)? {
             Decision::Solution(_) => assert!(rt; is_solvable(&f, &bounds)),
             Decision::Refuted(r) => assert!(rt; is_short(&r, 4) && check(alloc, &f, &b, &r)?),
@@ -202,19 +214,19 @@ fn differences_are_refuted_by_one_short_combine(rt: HostRuntime) -> Result<(), F
 }
 
 /// Whether the levels alone decide the formula of differences, rightly and shortly.
-fn is_right_by_levels(alloc: Global, f: &Formula, bounds: &[(i64, i64); 4]) -> Result<bool, Fail>
-    requires width { width f.now ≤ 4 }
-    requires depth { depth f.now ≤ 4096 }
-{
+fn is_right_by_levels(alloc: Global, f: &Formula, bounds: &[(i64, i64); 4]) -> Result<bool, Fail> {
     let b = Boxed {
         bounds: List::from_vec(Vec::from_slice(alloc, bounds)?),
     };
-    if !wants_short(f, &b) {
+    if !is_over(f, 4) || !wants_short(f) {
         return Ok(false);
     }
-    match decide_differences(alloc, f, &b)? {
-        Decision::Solution(_) => Ok(is_solvable(f, bounds)),
-        Decision::Refuted(r) => Ok(is_short(&r, 4) && check(alloc, f, &b, &r)?),
+    match crossed(b.bounds.as_slice()) {
+        Some(_) => Ok(false),
+        None => match decide_differences(alloc, f, &b)? {
+            Decision::Solution(_) => Ok(is_solvable(f, bounds)),
+            Decision::Refuted(r) => Ok(is_short(&r, 4) && check(alloc, f, &b, &r)?),
+        },
     }
 }
 

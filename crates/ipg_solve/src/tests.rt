@@ -1,10 +1,9 @@
 ghost use Rattle.std.specs.Prelude.{◌≡◌, ◌+◌, ◌<◌, ◌≤◌, max, length, IfOk};
-ghost use Rattle.ipg_lin.specs.Formula.{width, depth};
 
 use super::*;
 use crate::difference::are_differences;
 use ipg_cert::{Refutation, Step, check, refutation_text};
-use ipg_lin::{Boxed, Formula, Linear};
+use ipg_lin::{Boxed, Formula, Linear, is_over};
 use ipg_num::List;
 use std::alloc::Global;
 use std::test::Fail;
@@ -21,44 +20,23 @@ fn box_of(alloc: Global, bounds: &[(i64, i64)]) -> Result<Boxed, Fail>
 }
 
 /// `coefficient * x + constant <= 0`.
-fn one(alloc: Global, coefficient: i64, constant: i64) -> Result<Formula, Fail>
-    ensures width { IfOk result (λ f. width f ≤ 1) }
-    ensures depth { IfOk result (λ f. depth f ≡ 0) }
-{
+fn one(alloc: Global, coefficient: i64, constant: i64) -> Result<Formula, Fail> {
     Ok(Formula::Atom(Linear::new(alloc, &[(0, coefficient)], constant)?))
 }
 
 /// `a * x + b * y + constant <= 0`.
-fn two(alloc: Global, a: i64, b: i64, constant: i64) -> Result<Formula, Fail>
-    ensures width { IfOk result (λ f. width f ≤ 2) }
-    ensures depth { IfOk result (λ f. depth f ≡ 0) }
-{
+fn two(alloc: Global, a: i64, b: i64, constant: i64) -> Result<Formula, Fail> {
     Ok(Formula::Atom(Linear::new(alloc, &[(0, a), (1, b)], constant)?))
 }
 
-/// Both of two formulas that nest little.
-fn both(alloc: Global, f: Formula, g: Formula) -> Result<Formula, Fail>
-    requires depth { depth f ≤ 10 }
-    requires other_depth { depth g ≤ 10 }
-    requires width { width f ≤ 3 }
-    requires other_width { width g ≤ 3 }
-    ensures width { IfOk result (λ h. width h ≤ max (width f) (width g)) }
-    ensures depth { IfOk result (λ h. depth h ≤ max (depth f) (depth g) + 1) }
-{
+fn both(alloc: Global, f: Formula, g: Formula) -> Result<Formula, Fail> {
     let mut members = List::new(alloc);
     members.push(f)?;
     members.push(g)?;
     Ok(Formula::All(members))
 }
 
-fn either(alloc: Global, f: Formula, g: Formula) -> Result<Formula, Fail>
-    requires depth { depth f ≤ 10 }
-    requires other_depth { depth g ≤ 10 }
-    requires width { width f ≤ 3 }
-    requires other_width { width g ≤ 3 }
-    ensures width { IfOk result (λ h. width h ≤ max (width f) (width g)) }
-    ensures depth { IfOk result (λ h. depth h ≤ max (depth f) (depth g) + 1) }
-{
+fn either(alloc: Global, f: Formula, g: Formula) -> Result<Formula, Fail> {
     let mut members = List::new(alloc);
     members.push(f)?;
     members.push(g)?;
@@ -79,12 +57,17 @@ fn refutation(decision: Decision) -> Result<Refutation, Fail> {
     }
 }
 
+fn decided(alloc: Global, f: &Formula, b: &Boxed) -> Result<Decision, Fail> {
+    if is_over(f, b.bounds.len()) {
+        Ok(decide(alloc, f, b)?)
+    } else {
+        Err("a variable without bounds")?
+    }
+}
+
 /// The words of the refutation of this formula, which checks.
-fn words(alloc: Global, f: &Formula, b: &Boxed) -> Result<Vec<u8>, Fail>
-    requires valued { width f.now ≤ length b.now.bounds }
-    requires shallow { depth f.now ≤ 4096 }
-{
-    let r = refutation(decide(alloc, f, b)?)?;
+fn words(alloc: Global, f: &Formula, b: &Boxed) -> Result<Vec<u8>, Fail> {
+    let r = refutation(decided(alloc, f, b)?)?;
     if !check(alloc, f, b, &r)? {
         return Err("unchecked")?;
     }
@@ -96,7 +79,7 @@ fn two_bounds_meet_at_four(rt: HostRuntime) -> Result<(), Fail> {
     let alloc = rt.alloc();
     let f = both(alloc, one(alloc, 2, -8)?, one(alloc, -2, 8)?)?;
     let b = box_of(alloc, &[(0, 10), (0, 0)])?;
-    let values = solution(decide(alloc, &f, &b)?)?;
+    let values = solution(decided(alloc, &f, &b)?)?;
     assert!(rt; values.as_slice() == [4, 0].as_slice());
     Ok(())
 }
@@ -110,17 +93,11 @@ fn three_and_a_half_is_refuted(rt: HostRuntime) -> Result<(), Fail> {
     Ok(())
 }
 
-fn empty_all(alloc: Global) -> Formula
-    ensures width { width result ≡ 0 }
-    ensures depth { depth result ≤ 1 }
-{
+fn empty_all(alloc: Global) -> Formula {
     Formula::All(List::new(alloc))
 }
 
-fn empty_any(alloc: Global) -> Formula
-    ensures width { width result ≡ 0 }
-    ensures depth { depth result ≤ 1 }
-{
+fn empty_any(alloc: Global) -> Formula {
     Formula::Any(List::new(alloc))
 }
 
@@ -138,7 +115,7 @@ fn nothing_is_solved_by_nothing(rt: HostRuntime) -> Result<(), Fail> {
     let alloc = rt.alloc();
     let f = empty_all(alloc);
     let b = box_of(alloc, &[])?;
-    assert_eq!(rt; solution(decide(alloc, &f, &b)?)?.len(), 0);
+    assert_eq!(rt; solution(decided(alloc, &f, &b)?)?.len(), 0);
     Ok(())
 }
 
@@ -158,7 +135,7 @@ fn an_any_of_alls_takes_the_member_that_holds(rt: HostRuntime) -> Result<(), Fai
     let high = both(alloc, one(alloc, -1, 3)?, two(alloc, 1, 1, -3)?)?;
     let f = either(alloc, low, high)?;
     let b = box_of(alloc, &[(-2, 5), (0, 1)])?;
-    let values = solution(decide(alloc, &f, &b)?)?;
+    let values = solution(decided(alloc, &f, &b)?)?;
     assert!(rt; values.as_slice() == [3, 0].as_slice());
     Ok(())
 }
@@ -168,25 +145,17 @@ fn ends_of_64_bits_are_reached(rt: HostRuntime) -> Result<(), Fail> {
     let alloc = rt.alloc();
     let f = both(alloc, one(alloc, 1, MOST)?, two(alloc, -1, -1, 0)?)?;
     let b = box_of(alloc, &[(LEAST, MOST), (LEAST, MOST)])?;
-    let values = solution(decide(alloc, &f, &b)?)?;
+    let values = solution(decided(alloc, &f, &b)?)?;
     assert!(rt; values.as_slice() == [-MOST, MOST].as_slice());
     Ok(())
 }
 
-fn three(alloc: Global, sign: i64, constant: i64) -> Result<Formula, Fail>
-    ensures width { IfOk result (λ f. width f ≤ 3) }
-    ensures depth { IfOk result (λ f. depth f ≡ 0) }
-{
+fn three(alloc: Global, sign: i64, constant: i64) -> Result<Formula, Fail> {
     let terms = [(0, sign), (1, sign), (2, sign)];
     Ok(Formula::Atom(Linear::new(alloc, &terms, constant)?))
 }
 
-fn difference(alloc: Global, x: u64, y: u64, constant: i64) -> Result<Formula, Fail>
-    requires order { x < y }
-    requires three { y ≤ 2 }
-    ensures width { IfOk result (λ f. width f ≤ 3) }
-    ensures depth { IfOk result (λ f. depth f ≡ 0) }
-{
+fn difference(alloc: Global, x: u64, y: u64, constant: i64) -> Result<Formula, Fail> {
     Ok(Formula::Atom(Linear::new(alloc, &[(x, 1), (y, -1)], constant)?))
 }
 
@@ -218,16 +187,13 @@ fn a_round_of_differences_is_one_combine(rt: HostRuntime) -> Result<(), Fail> {
     )?;
     let f = both(alloc, steps, back)?;
     let b = box_of(alloc, &[(LEAST, MOST), (LEAST, MOST), (LEAST, MOST)])?;
-    let r = refutation(decide(alloc, &f, &b)?)?;
+    let r = refutation(decided(alloc, &f, &b)?)?;
     assert!(rt; check(alloc, &f, &b, &r)?);
     assert!(rt; facts_of_one(&r)? <= 4);
     Ok(())
 }
 
-fn constant(alloc: Global, constant: i64) -> Result<Formula, Fail>
-    ensures width { IfOk result (λ f. width f ≡ 0) }
-    ensures depth { IfOk result (λ f. depth f ≡ 0) }
-{
+fn constant(alloc: Global, constant: i64) -> Result<Formula, Fail> {
     Ok(Formula::Atom(Linear::new(alloc, &[], constant)?))
 }
 
@@ -263,7 +229,7 @@ fn formulas_of_differences_are_alls(rt: HostRuntime) -> Result<(), Fail> {
 fn a_bare_atom_is_decided(rt: HostRuntime) -> Result<(), Fail> {
     let alloc = rt.alloc();
     let b = box_of(alloc, &[(0, 10)])?;
-    let values = solution(decide(alloc, &one(alloc, -1, 10)?, &b)?)?;
+    let values = solution(decided(alloc, &one(alloc, -1, 10)?, &b)?)?;
     assert!(rt; values.as_slice() == [10].as_slice());
     assert!(rt; words(alloc, &one(alloc, -1, 11)?, &b)?.as_slice() == b"c 2 1 2 1 1".as_slice());
     assert!(rt; words(alloc, &constant(alloc, 1)?, &b)?.as_slice() == b"c 1 1 2".as_slice());
@@ -282,7 +248,7 @@ fn the_largest_coefficients_are_decided(rt: HostRuntime) -> Result<(), Fail> {
         one(alloc, large, -(1 << 60))?,
         one(alloc, -large, 1 << 60)?,
     )?;
-    let values = solution(decide(alloc, &met, &b)?)?;
+    let values = solution(decided(alloc, &met, &b)?)?;
     assert!(rt; values.as_slice() == [1 << 20, LEAST].as_slice());
     Ok(())
 }

@@ -11,7 +11,7 @@ pub returns : goal.returns
 returns c =
     let rule = subst (λ ts. in_rule ts ≡ true) c.terms.ensures.value c.terms.ensures.rule in
     let constant : to_z w128 (of_z w128 c.from.result) ≡ c.args.form.now.constant = omega (arith, ints, c.from.ensures, c.constant.ensures, c.constant.type_inv) in
-    added c.args.weight c.args.totals.now.items c.add_terms.new.totals.items _ c.times_constant.result c.args.form.now c.requires.weight
+    added c.args.weight c.args.totals.now.items c.add_terms.new.totals.items _ c.weighted.result c.args.form.now c.requires.weight
     (rule_few c.args.form.now.terms rule) (rule_small c.args.form.now.terms rule)
     (subst (AddsTerms c.args.totals.now.items c.add_terms.new.totals.items c.args.weight) c.terms.ensures.value c.in_ok-add_terms.ensures)
-    (omega (arith, ints)) (c.times_constant.ensures.value ∙ ap (λ z. pos c.args.weight *ℤ z) constant) c.times_constant.ensures.size
+    (omega (arith, ints)) (c.weighted.ensures.value ∙ ap (λ z. pos c.args.weight *ℤ z) constant) c.weighted.ensures.size

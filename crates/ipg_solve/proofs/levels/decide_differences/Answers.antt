@@ -1,31 +1,28 @@
-use Rattle.std.proofs.Common.{ℕ, ◌+◌, length, sym, subst, ◌∙◌}
-use Rattle.ipg_walk.specs.Falls.{AreEdges, Settles}
-use Rattle.ipg_cert.specs.Checks.{root_facts}
-use Rattle.ipg_solve.specs.Edges.{AreBetween, AreHeights}
-use Rattle.ipg_solve.proofs.Graph.{joined, root_narrow}
-use Rattle.ipg_solve.proofs.Leveled.{between, levels_solve, levels_fall, circle_checks}
+use Rattle.std.proofs.Common.{◌≡◌, ℕ, [], ◌∷◌, map, take, ap, sym, subst, ◌∙◌, arith}
+use Rattle.ipg_lin.specs.Formula.{width}
+use Rattle.ipg_cert.specs.declared.refutation.Step.TheVariants.{Combine}
+use Rattle.ipg_solve.specs.Decides.{Solves}
+use Rattle.ipg_solve.specs.Edges.{entries_of}
+use Rattle.ipg_solve.specs.Widened.{Levels, moved, with_lows}
+use Rattle.ipg_solve.proofs.Widened.{widened_solves, widened_checks}
 use Rattle.ipg_solve.proofs.levels.decide_differences.Goals as goal
 
-pub settle-requires-clause-edges : goal.settle-requires-clause-edges
-settle-requires-clause-edges c =
-    subst (λ (n : ℕ). AreEdges (n + 1) c.deref.result.now) (sym c.len-vars.ensures)
-    (subst (AreEdges (length c.args.b.now.bounds + 1)) (sym (c.deref.ensures.value ∙ c.in_ok-edges.ensures.edges))
-    (joined (length c.args.b.now.bounds) (root_facts c.args.f.now c.args.b.now) (root_narrow c.args.f.now c.args.b.now c.requires.difference c.requires.valued) c.in_ok-edges.ensures.sized))
-
-pub heights-requires-clause-between : goal.heights-requires-clause-between
-heights-requires-clause-between c =
-    subst (AreBetween c.as_slice.result.now) (sym c.as_slice-in-Levels.ensures)
-    (between c.args.f.now c.args.b.now c.as_slice.result.now (root_narrow c.args.f.now c.args.b.now c.requires.difference c.requires.valued)
-    (levels_fall _ (root_facts c.args.f.now c.args.b.now) c.in_ok-edges.edges.items c.deref.result.now c.in_ok-levels.field-0 c.in-Levels.levels c.as_slice.result.now c.in_ok-levels.ensures.settled c.in-Levels.is c.deref.ensures.value c.in_ok-edges.ensures.edges c.as_slice.ensures).1)
-
-pub returns-in-Levels-clause-decided : goal.returns-in-Levels-clause-decided
-returns-in-Levels-clause-decided c =
-    levels_solve c.args.f.now c.args.b.now c.as_slice.result.now c.in_ok-values-in-Levels.values c.requires.difference (root_narrow c.args.f.now c.args.b.now c.requires.difference c.requires.valued)
-    (levels_fall _ (root_facts c.args.f.now c.args.b.now) c.in_ok-edges.edges.items c.deref.result.now c.in_ok-levels.field-0 c.in-Levels.levels c.as_slice.result.now c.in_ok-levels.ensures.settled c.in-Levels.is c.deref.ensures.value c.in_ok-edges.ensures.edges c.as_slice.ensures).1
-    (subst (λ bounds. AreHeights (length bounds) c.as_slice.result.now c.in_ok-values-in-Levels.values) c.as_slice-in-Levels.ensures c.in_ok-values-in-Levels.ensures)
+pub returns-in-Values-clause-decided : goal.returns-in-Values-clause-decided
+returns-in-Values-clause-decided c =
+    let is : c.in_ok-front.front.bounds ≡ take (width c.args.f.now) c.args.b.now.bounds =
+    c.in_ok-front.ensures ∙ ap (λ (n : ℕ). take n c.as_slice.result.now) c.width_of-vars.ensures ∙ ap (take (width c.args.f.now)) c.as_slice.ensures in
+    let all : c.in_ok-values-in-Values.values ≡ with_lows c.args.b.now.bounds c.in-Values.values = c.in_ok-values-in-Values.ensures ∙ ap (λ bs. with_lows bs c.in-Values.values) c.as_slice-in-Values.ensures in
+    subst (Solves c.args.f.now c.args.b.now) (sym all)
+    (widened_solves c.args.f.now c.args.b.now c.in_ok-front.front c.in-Values.values is c.requires.valued c.requires.full (subst (Levels c.args.f.now c.in_ok-front.front) c.in-Values.is c.in_ok-values.ensures))
 
 pub returns-clause-decided : goal.returns-clause-decided
 returns-clause-decided c =
-    circle_checks c.args.f.now c.args.b.now c.in_ok-edges.edges.items c.deref.result.now c.in_ok-levels.field-0 c.in-Circle.circle c.as_slice-in-Circle.result.now c.in_ok-sum_of-in-Circle.field-0
-    (root_narrow c.args.f.now c.args.b.now c.requires.difference c.requires.valued) c.in_ok-edges.ensures.sized c.requires.few
-    (subst (λ (n : ℕ). Settles (n + 1) c.deref.result.now c.in_ok-levels.field-0) c.len-vars.ensures c.in_ok-levels.ensures.settled) c.in-Circle.is c.deref.ensures.value c.in_ok-edges.ensures.edges c.as_slice-in-Circle.ensures c.in_ok-sum_of-in-Circle.ensures
+    let is : c.in_ok-front.front.bounds ≡ take (width c.args.f.now) c.args.b.now.bounds =
+    c.in_ok-front.ensures ∙ ap (λ (n : ℕ). take n c.as_slice.result.now) c.width_of-vars.ensures ∙ ap (take (width c.args.f.now)) c.as_slice.ensures in
+    let kept = c.in_ok-kept-in-Facts.kept in
+    let more = c.in_ok-more-in-Facts.more in
+    widened_checks c.args.f.now c.args.b.now c.in_ok-front.front (width c.args.f.now) kept more c.in-Facts.facts c.in_ok-sum_of-in-Facts.field-0 is c.requires.valued
+    (omega (arith, c.in_ok-kept-in-Facts.ensures, c.width_of-vars.ensures))
+    (omega (arith, c.in_ok-more-in-Facts.ensures, c.width_of-vars.ensures, c.len.ensures))
+    (subst (Levels c.args.f.now c.in_ok-front.front) c.in-Facts.is c.in_ok-values.ensures).0
+    (c.in_ok-sum_of-in-Facts.ensures ∙ ap (λ fs. record { steps = Combine (entries_of (map (moved kept more) fs)) ∷ [] }) c.as_slice-in-Facts.ensures)

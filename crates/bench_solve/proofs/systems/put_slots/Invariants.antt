@@ -1,5 +1,0 @@
-use Rattle.bench_solve.specs.Small.{AreSmall}
-use Rattle.bench_solve.proofs.systems.put_slots.Given as goal
-
-abbrev pub invariant-loop-i : goal.invariant-loop-i
-invariant-loop-i l = AreSmall l.vars 2 l.members

@@ -1,2 +1,0 @@
--- What functions inside the program promise each other.
-pub mod Small

@@ -1,0 +1,2 @@
+-- What functions inside the crate promise each other.
+pub mod Gone

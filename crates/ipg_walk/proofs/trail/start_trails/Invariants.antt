@@ -1,5 +1,0 @@
-use Rattle.ipg_walk.specs.Trails.{AreStarts}
-use Rattle.ipg_walk.proofs.trail.start_trails.Given as goal
-
-abbrev pub invariant-loop-node : goal.invariant-loop-node
-invariant-loop-node l = AreStarts l.node l.trails.items
