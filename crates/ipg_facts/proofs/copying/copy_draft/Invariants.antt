@@ -1,0 +1,7 @@
+use Rattle.std.proofs.Common.{◌≡◌, ◌++◌, ◌+◌, ◌≤◌, length, map, drop, take}
+use Rattle.std.specs.List.{filter, list_all}
+use Rattle.ipg_facts.specs.Form as spec
+use Rattle.ipg_facts.proofs.copying.copy_draft.Given as goal
+
+abbrev pub invariant-loop-term : goal.invariant-loop-term
+invariant-loop-term l = l.terms.items ++ drop l.term-index l.term-items ≡ l.draft.terms
