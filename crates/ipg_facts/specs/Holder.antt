@@ -40,44 +40,44 @@ set_by (Some (Repeat first last item from to)) = None
 set_by (Some (Many item from to)) = None
 set_by (Some (Pick cases other)) = None
 
-abbrev pub is_local : Option (ℕ × ℕ) → Bool
-is_local None = false
-is_local (Some holder) = true
+-- a local rule, of that alternative where one is asked for
+abbrev pub is_held : Option (ℕ × ℕ) → Option (ℕ × ℕ) → Bool
+is_held at None = false
+is_held None (Some holder) = true
+is_held (Some at) (Some holder) = same_place holder at
 
-abbrev pub is_held_at : ℕ × ℕ → Option (ℕ × ℕ) → Bool
-is_held_at at None = false
-is_held_at at (Some holder) = same_place holder at
+-- the symbol is such a local rule, and marked
+abbrev pub calls : Grammar → Option (ℕ × ℕ) → List Bool → Sym → Bool
+calls g at marks (Text bytes) = false
+calls g at marks (Prim prim) = false
+calls g at marks (Rule callee) = is_held at (holder_of (rule_at g callee)) && is_marked marks callee
 
--- the symbol is a local rule that is marked
-abbrev pub calls_marked : Grammar → List Bool → Sym → Bool
-calls_marked g marks (Text bytes) = false
-calls_marked g marks (Prim prim) = false
-calls_marked g marks (Rule callee) = is_local (holder_of (rule_at g callee)) && is_marked marks callee
+unfoldable pub calls_some : Grammar → Option (ℕ × ℕ) → List Bool → CoreTerm → Bool
+calls_some g at marks term = list_any (calls g at marks) (term_syms term)
 
--- a rule mentions the holder's attribute, or calls a local rule that is marked
+-- a term mentions the holder's attribute, or calls a local rule that is marked
+unfoldable pub reads_term : Grammar → ℕ → List Bool → CoreTerm → Bool
+reads_term g attr marks term = mentions_some (Outer attr) term || calls_some g None marks term
+
+-- a rule does
 unfoldable pub reads_next : Grammar → ℕ → List Bool → CoreRule → Bool
 reads_next g attr marks rule =
-    list_any (λ alt. list_any (λ term. mentions_some (Outer attr) term || list_any (calls_marked g marks) (term_syms term)) alt.terms) rule.alts
+    list_any (λ alt. list_any (reads_term g attr marks) alt.terms) rule.alts
 
 -- the rules that read the holder's attribute, through fewer than k calls of local rules
 unfoldable pub readers : Grammar → ℕ → ℕ → List Bool
 readers g attr zero = map (λ rule. false) g.rules
 readers g attr (suc k) = map (reads_next g attr (readers g attr k)) g.rules
 
--- the symbol is a local rule of the alternative at that place, which reads the attribute
-abbrev pub passes : Grammar → ℕ × ℕ → ℕ → Sym → Bool
-passes g at attr (Text bytes) = false
-passes g at attr (Prim prim) = false
-passes g at attr (Rule callee) = is_held_at at (holder_of (rule_at g callee)) && is_marked (readers g attr (length g.rules)) callee
-
-abbrev pub passes_some : Grammar → ℕ × ℕ → Option ℕ → CoreTerm → Bool
-passes_some g at None term = false
-passes_some g at (Some attr) term = list_any (passes g at attr) (term_syms term)
+-- the rules that read the attribute, if it is one
+abbrev pub readers_of : Grammar → Option ℕ → List Bool
+readers_of g None = []
+readers_of g (Some attr) = readers g attr (length g.rules)
 
 -- the term v, which sets that attribute if it sets one, is a provider of the other
 unfoldable pub provides : Grammar → ℕ × ℕ → ℕ → Option ℕ → Option CoreTerm → Bool
 provides g at v sets None = false
-provides g at v sets (Some term) = mentions_some (Needs v sets) term || passes_some g at sets term
+provides g at v sets (Some term) = mentions_some (Needs v sets) term || calls_some g (Some at) (readers_of g sets) term
 
 -- the caller mentions the attribute
 abbrev pub is_wanted : List CoreTerm → Option ℕ → Bool

@@ -8,3 +8,5 @@ mod mention;
 mod put;
 mod key;
 mod scope;
+mod reading;
+mod touching;
