@@ -1,3 +1,4 @@
 pub mod Parts
 pub mod Puts
 pub mod Words
+pub mod Mentions

@@ -47,12 +47,16 @@ alt_of (Some rule) a = slice_get rule.alts a
 abbrev pub alt_at : Grammar → ℕ × ℕ → Option CoreAlt
 alt_at g at = alt_of (rule_at g at.0) at.1
 
--- the holder's part is at least as long, and the terms of the holder that matter have run
+-- the holder's part is at least as long, and these of its terms have run
+unfoldable pub held_facts : Grammar → List Bool → CoreAlt → CoreAlt → List ℕ → List Fact
+held_facts g marks holder caller terms =
+    leq (length_of (opening g marks caller_side caller)) (length_of (opening g marks holder_side holder))
+    ++ terms_members (opening g marks holder_side holder) terms
+
+-- those that matter
 unfoldable pub held : Grammar → List Bool → ℕ × ℕ → Option CoreAlt → CoreAlt → List Fact
 held g marks at None caller = []
-held g marks at (Some holder) caller =
-    leq (length_of (opening g marks caller_side caller)) (length_of (opening g marks holder_side holder))
-    ++ terms_members (opening g marks holder_side holder) (kept g at holder.terms caller.terms holder.order)
+held g marks at (Some holder) caller = held_facts g marks holder caller (kept g at holder.terms caller.terms holder.order)
 
 unfoldable pub holder_facts : Grammar → List Bool → Option (ℕ × ℕ) → CoreAlt → List Fact
 holder_facts g marks None caller = []

@@ -218,5 +218,5 @@ reading scope (CoreExpr-F.Cond c a b) =
 unfoldable pub read : Scope → CoreExpr → Reading
 read scope = fold-CoreExpr Reading (reading scope)
 
-unfoldable pub form : Scope → CoreExpr → Form
+abbrev pub form : Scope → CoreExpr → Form
 form scope e = (read scope e).form

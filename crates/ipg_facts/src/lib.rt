@@ -10,3 +10,5 @@ mod key;
 mod scope;
 mod reading;
 mod touching;
+mod members;
+mod holder;
