@@ -1,12 +1,16 @@
 -- What is asked of mentions that stand one behind another.
-use Rattle.std.proofs.Common.{◌≡◌, refl, ap, ◌∙◌, sym, List, [], ◌∷◌, ◌++◌, Bool, true, false, ◌||◌}
+use Rattle.std.proofs.Common.{◌≡◌, refl, ap, ◌∙◌, sym, List, [], ◌∷◌, ◌++◌, Bool, true, false, ◌||◌, ℕ, Option}
 use Rattle.std.specs.List.{list_any, flat_map}
 use Rattle.ipg_core.specs.declared.grammar.CoreField.{CoreField}
 use Rattle.ipg_core.specs.declared.grammar.CoreField.TheVariants.{Attr, Start, End}
 use Rattle.ipg_core.specs.Mention.{Mention, field_mentions}
 use Rattle.ipg_facts.specs.declared.mention.Ask.{Ask}
 use Rattle.ipg_facts.specs.declared.mention.Ask.TheVariants.{AnyOuter, Outer, Needs}
-use Rattle.ipg_facts.specs.Holder.{answers}
+use Rattle.ipg_core.specs.declared.grammar.CoreExpr.{CoreExpr}
+use Rattle.ipg_core.specs.declared.grammar.CoreSlot.{CoreSlot}
+use Rattle.ipg_core.specs.declared.grammar.Sym.{Sym}
+use Rattle.ipg_core.specs.Grammar.{Grammar}
+use Rattle.ipg_facts.specs.Holder.{answers, calls}
 
 or_assoc : (a b c : Bool) → (a || b) || c ≡ a || (b || c)
 or_assoc true b c = refl
@@ -43,3 +47,7 @@ pub any_cases : {A B : Type 0} (p : B → Bool) (f : A → B) (cases : List A) (
     → list_any p (flat_map (λ c. f c ∷ []) cases ++ other ∷ []) ≡ list_any (λ c. p (f c)) cases || p other
 any_cases p f [] other = or_false (p other)
 any_cases p f (c ∷ cases) other = ap (λ b. p (f c) || b) (any_cases p f cases other) ∙ sym (or_assoc (p (f c)) (list_any (λ c. p (f c)) cases) (p other))
+
+pub any_calls : (g : Grammar) (at : Option (ℕ × ℕ)) (marks : List Bool) (cases : List (CoreExpr × CoreSlot)) (other : Sym)
+    → list_any (calls g at marks) (flat_map (λ c. c.1.sym ∷ []) cases ++ other ∷ []) ≡ list_any (λ c. calls g at marks c.1.sym) cases || calls g at marks other
+any_calls g at marks cases other = any_cases (calls g at marks) (λ c. c.1.sym) cases other

@@ -10,3 +10,8 @@ then old one two xs ys e f = f ∙ ap (λ zs. zs ++ ys) e ∙ append_assoc old x
 pub then_last : {A E : Type 0} (r : Result A E) {B : Type 0} (old one two xs ys : List B) → one ≡ old ++ xs → OnOk r (two ≡ one ++ ys) → OnOk r (two ≡ old ++ (xs ++ ys))
 then_last (Ok a) old one two xs ys e f = then old one two xs ys e f
 then_last (Err a) old one two xs ys e f = tt
+
+-- the last by a call that ensures one fact more
+pub then_first : {A E : Type 0} (r : Result A E) {B : Type 0} (C : Type 0) (old one two xs ys : List B) → one ≡ old ++ xs → OnOk r ((two ≡ one ++ ys) × C) → OnOk r (two ≡ old ++ (xs ++ ys))
+then_first (Ok a) C old one two xs ys e f = then old one two xs ys e f.0
+then_first (Err a) C old one two xs ys e f = tt

@@ -10,3 +10,5 @@ pub mod Keep
 pub mod Numbers
 -- the conditions of several edges at one length
 pub mod Joint
+-- the table in which the code numbers variables
+pub mod Table

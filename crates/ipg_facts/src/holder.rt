@@ -1,6 +1,6 @@
 //! Which terms of a holder matter to a caller.
 
-ghost use Rattle.std.specs.Prelude.{◌≡◌, IfOk, OnOk, slice_get, length, map, Option, ◌<◌};
+ghost use Rattle.std.specs.Prelude.{◌≡◌, IfOk, OnOk, slice_get, length, map, Option, ◌<◌, false, option_copied};
 ghost use Rattle.std.specs.List.{list_any};
 ghost use Rattle.ipg_core.specs.Grammar.{holder_of, rule_at};
 ghost use Rattle.ipg_facts.specs.Holder as spec;
@@ -69,16 +69,11 @@ fn cases_call(
 ) -> bool
     ensures { result ≡ list_any (λ c. spec.calls g.now at marks.now c.1.sym) cases.now }
 {
-    for case in cases {
-        if calls(g, at, marks, &case.1.sym) {
-            return true;
-        }
-    }
-    false
+    cases.iter().any(|case| calls(g, at, marks, &case.1.sym))
 }
 
 /// Whether the term calls a marked local rule, of that alternative where one is asked for.
-#[tactic(auto, unfolding(crate::specs::Holder::calls_some), using(crate::proofs::Mentions::any_one, crate::proofs::Mentions::any_cases))]
+#[tactic(auto, unfolding(crate::specs::Holder::calls_some), using(crate::proofs::Mentions::any_one, crate::proofs::Mentions::any_calls))]
 fn calls_some(g: &Core, at: Option<(u32, u32)>, marks: &[bool], term: &CoreTerm) -> bool
     ensures { result ≡ spec.calls_some g.now at marks.now term.now }
 {
@@ -114,24 +109,14 @@ fn reads_term(g: &Core, attr: u32, marks: &[bool], term: &CoreTerm) -> bool
 fn reads_alt(g: &Core, attr: u32, marks: &[bool], alt: &CoreAlt) -> bool
     ensures { result ≡ list_any (spec.reads_term g.now attr marks.now) alt.now.terms }
 {
-    for term in alt.terms.as_slice() {
-        if reads_term(g, attr, marks, term) {
-            return true;
-        }
-    }
-    false
+    alt.terms.as_slice().iter().any(|term| reads_term(g, attr, marks, term))
 }
 
 #[tactic(auto, unfolding(crate::specs::Holder::reads_next))]
 fn reads_next(g: &Core, attr: u32, marks: &[bool], rule: &CoreRule) -> bool
     ensures { result ≡ spec.reads_next g.now attr marks.now rule.now }
 {
-    for alt in rule.alts.as_slice() {
-        if reads_alt(g, attr, marks, alt) {
-            return true;
-        }
-    }
-    false
+    rule.alts.as_slice().iter().any(|alt| reads_alt(g, attr, marks, alt))
 }
 
 fn next_readers(alloc: Global, g: &Core, attr: u32, marks: &[bool]) -> Result<Vec<bool>, AllocError>
@@ -210,35 +195,20 @@ fn provides_some(
     requires { marks.now ≡ spec.readers_of g.now of.sets }
     ensures { result ≡ list_any (λ w. spec.provides g.now at of.term of.sets (slice_get terms.now w)) behind.now }
 {
-    for term in behind {
-        if provides(g, at, of, marks, item_at(terms, *term as usize)) {
-            return true;
-        }
-    }
-    false
+    behind.iter().any(|term| provides(g, at, of, marks, item_at(terms, *term as usize)))
 }
 
 fn some_read(caller: &[CoreTerm], attr: u32) -> bool
     ensures { result ≡ list_any (spec.mentions_some (Ask.Outer attr)) caller.now }
 {
-    for term in caller {
-        if mentions_some(Ask::Outer(attr), term) {
-            return true;
-        }
-    }
-    false
+    caller.iter().any(|term| mentions_some(Ask::Outer(attr), term))
 }
 
 /// Whether the caller mentions an attribute of its holder.
 pub fn mentions_holder(caller: &[CoreTerm]) -> bool
     ensures { result ≡ list_any (spec.mentions_some Ask.AnyOuter) caller.now }
 {
-    for term in caller {
-        if mentions_some(Ask::AnyOuter, term) {
-            return true;
-        }
-    }
-    false
+    caller.iter().any(|term| mentions_some(Ask::AnyOuter, term))
 }
 
 fn is_wanted(caller: &[CoreTerm], attr: Option<u32>) -> bool

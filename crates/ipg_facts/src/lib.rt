@@ -4,11 +4,17 @@
 mod copying;
 mod fact;
 mod form;
-mod mention;
-mod put;
-mod key;
-mod scope;
-mod reading;
-mod touching;
-mod members;
 mod holder;
+mod joining;
+mod keeping;
+mod key;
+mod members;
+mod mention;
+mod numbers;
+mod put;
+mod reading;
+mod scope;
+mod touching;
+
+pub use joining::joint;
+pub use keeping::keep;

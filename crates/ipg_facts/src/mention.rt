@@ -99,12 +99,7 @@ fn in_case(ask: Ask, case: &(CoreExpr, CoreSlot)) -> bool
 fn in_cases(ask: Ask, cases: &[(CoreExpr, CoreSlot)]) -> bool
     ensures { result ≡ list_any (λ c. list_any (spec.answers ask) (core.case_mentions c)) cases.now }
 {
-    for case in cases {
-        if in_case(ask, case) {
-            return true;
-        }
-    }
-    false
+    cases.iter().any(|case| in_case(ask, case))
 }
 
 /// Whether some mention in the expressions of the term is asked for.

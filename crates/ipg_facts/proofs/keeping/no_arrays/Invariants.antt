@@ -1,0 +1,5 @@
+
+use Rattle.ipg_facts.proofs.keeping.no_arrays.Given as goal
+
+abbrev pub invariant-loop-at : goal.invariant-loop-at
+invariant-loop-at l = l.arrays.items ≡ replicate l.at None

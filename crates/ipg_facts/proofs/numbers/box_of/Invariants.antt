@@ -1,0 +1,5 @@
+
+use Rattle.ipg_facts.proofs.numbers.box_of.Given as goal
+
+abbrev pub invariant-loop-key : goal.invariant-loop-key
+invariant-loop-key l = l.bounds.items ++ map spec.bounds_of (map (λ key. key.now) (drop l.key-index l.key-items)) ≡ map spec.bounds_of (keys_shown l.keys)
