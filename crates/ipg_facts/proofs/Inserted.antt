@@ -3,7 +3,11 @@ use Rattle.std.proofs.Common.{◌≡◌, ℕ, ℤ, zero, suc, ◌+◌, ◌<◌, 
 use Rattle.std.specs.Prelude.{slice_get, if◌then◌else◌}
 use Rattle.std.specs.List.{insert as put_at}
 use Rattle.std.proofs.lemmas.Bool.Decides.{nat_tests}
-use Rattle.ipg_facts.specs.Numbers.{insert}
+use Rattle.std.proofs.Common.{drop, get_or, ◌-◌}
+use Rattle.std.proofs.lemmas.List.{drop_all}
+use Rattle.ipg_facts.specs.Key.{Key}
+use Rattle.ipg_facts.specs.Numbers.{insert, numbered, place}
+use Rattle.ipg_facts.proofs.Parts.{at_item}
 
 -- the first i terms have smaller variables
 abbrev pub Below : ℕ → List (ℕ × ℤ) → ℕ × ℤ → Type 0
@@ -35,3 +39,15 @@ unfolding insert
 last i [] t b h = refl
 last zero (x ∷ xs) t b h = absurd (omega arith)
 last (suc i) (x ∷ xs) t b h = rw b.0 (ap (λ zs. x ∷ zs) (last i xs t b.1 (omega arith)))
+
+pub numbered_none : (keys : List Key) (terms : List (Key × ℤ)) → [] ≡ numbered keys (drop (length terms) terms)
+unfolding numbered
+numbered_none keys terms = sym (ap (numbered keys) (drop_all (length terms) terms (omega arith)))
+
+pub numbered_more : (keys : List Key) (terms : List (Key × ℤ)) (i : ℕ) (t : Key × ℤ) → 0 < i → i ≤ length terms → t ≡ get_or terms (i - 1) t
+    → insert (place keys t.0, t.1) (numbered keys (drop i terms)) ≡ numbered keys (drop (i - 1) terms)
+unfolding numbered
+numbered_more keys terms i t some within is =
+    let next : i - 1 + 1 ≡ i = omega arith in
+    sym (ap (numbered keys) (at_item terms (i - 1) t is (omega arith))
+         ∙ ap (λ n. insert (place keys t.0, t.1) (numbered keys (drop n terms))) next)

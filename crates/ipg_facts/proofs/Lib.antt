@@ -5,3 +5,4 @@ pub mod Mentions
 pub mod Tables
 pub mod Branches
 pub mod Inserted
+pub mod Rounds

@@ -10,7 +10,8 @@ use Rattle.ipg_core.specs.declared.grammar.CoreExpr.{CoreExpr}
 use Rattle.ipg_core.specs.declared.grammar.CoreSlot.{CoreSlot}
 use Rattle.ipg_core.specs.declared.grammar.Sym.{Sym}
 use Rattle.ipg_core.specs.Grammar.{Grammar}
-use Rattle.ipg_facts.specs.Holder.{answers, calls}
+use Rattle.ipg_core.specs.declared.grammar.CoreTerm.TheVariants.{Pick}
+use Rattle.ipg_facts.specs.Holder.{answers, calls, calls_some}
 
 or_assoc : (a b c : Bool) → (a || b) || c ≡ a || (b || c)
 or_assoc true b c = refl
@@ -51,3 +52,8 @@ any_cases p f (c ∷ cases) other = ap (λ b. p (f c) || b) (any_cases p f cases
 pub any_calls : (g : Grammar) (at : Option (ℕ × ℕ)) (marks : List Bool) (cases : List (CoreExpr × CoreSlot)) (other : Sym)
     → list_any (calls g at marks) (flat_map (λ c. c.1.sym ∷ []) cases ++ other ∷ []) ≡ list_any (λ c. calls g at marks c.1.sym) cases || calls g at marks other
 any_calls g at marks cases other = any_cases (calls g at marks) (λ c. c.1.sym) cases other
+
+pub calls_pick : (g : Grammar) (at : Option (ℕ × ℕ)) (marks : List Bool) (cases : List (CoreExpr × CoreSlot)) (other : CoreSlot) (found : Bool)
+    → found ≡ list_any (λ c. calls g at marks c.1.sym) cases → found || calls g at marks other.sym ≡ calls_some g at marks (Pick cases other)
+unfolding calls_some
+calls_pick g at marks cases other found e = ap (λ b. b || calls g at marks other.sym) e ∙ sym (any_calls g at marks cases other.sym)

@@ -2,12 +2,15 @@
 use Rattle.std.proofs.Common.{◌≡◌, ℕ, ◌+◌, ◌||◌, ◌≤◌, Bool, true, false, cond, not, List, [], ◌∷◌, ◌++◌, map, length, None, Some, refl, ap, ◌∙◌, sym, arith, nat_lt}
 use Rattle.std.specs.Prelude.{bytes_eq, if◌then◌else◌, flat_map, get_or, drop, suc, ◌<◌}
 use Rattle.std.proofs.Math.Seq.{drop-cons}
-use Rattle.ipg_facts.specs.declared.fact.Fact.{Fact}
+use Rattle.ipg_facts.specs.declared.fact.Fact.{Fact, fold-roll-Fact}
+use Rattle.ipg_facts.specs.declared.fact.Fact.TheVariants as facts
+use Rattle.ipg_facts.specs.declared.fact.Fact.TheOpen.{Fact-F}
+use Rattle.ipg_facts.specs.Key.{Key}
 use Rattle.std.specs.List.{position, position_or_len, list_any}
 use Rattle.std.proofs.lemmas.List.Sums.{prefix_len-le-length}
 use Rattle.std.proofs.lemmas.Bool.Decides.{nat_tests}
 use denote.Ref.{Bor}
-use Rattle.ipg_facts.specs.Numbers.{with_key, with_keys, place, keys_in}
+use Rattle.ipg_facts.specs.Numbers.{with_key, with_keys, place, keys_in, keys_step}
 
 abbrev pub shown : List (Bor (List ℕ)) → List (List ℕ)
 shown keys = map (λ key. key.now) keys
@@ -74,3 +77,13 @@ pub facts_more : (keys : List (List ℕ)) (facts : List Fact) (i : ℕ) (fact : 
 facts_more keys facts i fact all within is h =
     sym (with_keys_append keys (keys_in fact) (flat_map keys_in (drop (i + 1) facts)))
     ∙ sym (ap (λ fs. with_keys keys (flat_map keys_in fs)) (at_item facts i fact is within)) ∙ h
+
+pub keys_in_all : (members : List Fact) → flat_map keys_in members ≡ keys_in (facts.All members)
+unfolding keys_in
+keys_in_all members =
+    sym (keys_joined members) ∙ sym (ap keys_in (sym (facts.rolls-All members)) ∙ fold-roll-Fact (List Key) keys_step (Fact-F.All members))
+
+pub keys_in_any : (members : List Fact) → flat_map keys_in members ≡ keys_in (facts.Any members)
+unfolding keys_in
+keys_in_any members =
+    sym (keys_joined members) ∙ sym (ap keys_in (sym (facts.rolls-Any members)) ∙ fold-roll-Fact (List Key) keys_step (Fact-F.Any members))

@@ -18,7 +18,7 @@ use Rattle.ipg_facts.specs.declared.mention.Ask.TheVariants.{AnyOuter}
 use Rattle.ipg_facts.specs.Key.{Key, caller_side, holder_side, whole}
 use Rattle.ipg_facts.specs.Form.{leq}
 use Rattle.ipg_facts.specs.Reading.{Scope, length_of}
-use Rattle.ipg_facts.specs.Members.{terms_members, passed_all, own_members}
+use Rattle.ipg_facts.specs.Members.{terms_members, passed_all, own_at}
 use Rattle.ipg_facts.specs.Holder.{mentions_some, kept}
 
 -- an alternative none of whose arrays has run
@@ -66,7 +66,7 @@ holder_facts g marks (Some at) caller = if mentions_holder caller then held g ma
 unfoldable pub caller_facts : Grammar → List Bool → Edge → CoreAlt → List Fact
 caller_facts g marks e caller =
     terms_members (opening g marks caller_side caller) (before e.term caller.order)
-    ++ own_members (passed_all (opening g marks caller_side caller) (before e.term caller.order)) e.branch (slice_get caller.terms e.term)
+    ++ own_at (passed_all (opening g marks caller_side caller) (before e.term caller.order)) e.term e.branch
 
 unfoldable pub rule_facts : Grammar → List Bool → Edge → Option CoreRule → Option CoreAlt → List Fact
 rule_facts g marks e (Some rule) (Some caller) = holder_facts g marks rule.holder caller ++ caller_facts g marks e caller

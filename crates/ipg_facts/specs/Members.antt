@@ -140,3 +140,6 @@ own_members scope branch (Some (Test e)) = []
 own_members scope branch (Some (Repeat first last item from to)) = runs scope first last ++ is_whole scope from to
 own_members scope branch (Some (Many item from to)) = is_whole scope from to
 own_members scope branch (Some (Pick cases other)) = takes scope cases other branch
+
+abbrev pub own_at : Scope → ℕ → ℕ → List Fact
+own_at scope term branch = own_members scope branch (slice_get scope.terms term)

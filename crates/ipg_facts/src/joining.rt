@@ -37,6 +37,7 @@ fn moved_atom(alloc: Global, by: u64, form: &Linear) -> Result<Formula, AllocErr
 }
 
 #[cycle(joining)]
+#[tactic(auto, unfolding(crate::specs::Joint::apart))]
 fn apart(alloc: Global, by: u64, formula: &Formula) -> Result<Formula, AllocError>
     ensures { IfOk result (λ apart. apart ≡ spec.apart by formula.now) }
 {

@@ -339,7 +339,7 @@ pub fn put_own_members(
     term: u32,
     branch: u32,
 ) -> Result<(), AllocError>
-    ensures { OnOk result (out.new.items ≡ out.old.items ++ spec.own_members (scope_of scope.now) branch (slice_get scope.now.terms.now term)) }
+    ensures { OnOk result (out.new.items ≡ out.old.items ++ spec.own_at (scope_of scope.now) term branch) }
 {
     match item_at(scope.terms, term as usize) {
         None => Ok(()),

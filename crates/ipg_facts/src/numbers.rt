@@ -71,6 +71,12 @@ fn place(keys: &Keys<'_>, key: &[u64]) -> u64
     }
 }
 
+fn numbered_term(keys: &Keys<'_>, term: &(Key, i64)) -> (u64, i64)
+    ensures { result ≡ (spec.place (keys_shown keys.now) term.now.0, term.now.1) }
+{
+    (place(keys, term.0.as_slice()), term.1)
+}
+
 /// Puts a term among terms whose variables rise.
 fn insert(terms: &mut Vec<(u64, i64)>, term: (u64, i64)) -> Result<(), AllocError>
     ensures { OnOk result (terms.new.items ≡ spec.insert term terms.old.items) }
@@ -91,8 +97,7 @@ fn numbered(alloc: Global, keys: &Keys<'_>, terms: &[(Key, i64)]) -> Result<Vec<
 {
     let mut numbered = Vec::with_capacity(alloc, terms.len())?;
     for at in (0..terms.len()).rev() {
-        let term = &terms[at];
-        insert(&mut numbered, (place(keys, term.0.as_slice()), term.1))?;
+        insert(&mut numbered, numbered_term(keys, &terms[at]))?;
     }
     Ok(numbered)
 }
@@ -115,6 +120,7 @@ fn numbered_atom(alloc: Global, keys: &Keys<'_>, draft: &Draft) -> Result<Formul
 }
 
 #[cycle(numbering)]
+#[tactic(auto, unfolding(crate::specs::Numbers::formula_of))]
 fn formula_of(alloc: Global, keys: &Keys<'_>, fact: &Fact) -> Result<Formula, AllocError>
     ensures { IfOk result (λ formula. formula ≡ spec.formula_of (keys_shown keys.now) fact.now) }
 {

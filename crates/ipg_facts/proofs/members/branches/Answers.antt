@@ -1,6 +1,7 @@
-use Rattle.std.proofs.Common.{◌≡◌, ap, ◌∙◌, ◌++◌, ◌+◌, ◌≤◌, drop, arith, length}
+use Rattle.std.proofs.Common.{◌≡◌, ap, ◌∙◌, ◌++◌, ◌+◌, ◌≤◌, drop, arith, length, ◌∷◌, []}
 use Rattle.ipg_facts.specs.Reading.{read}
-use Rattle.ipg_facts.specs.Members.{branches}
+use Rattle.ipg_facts.specs.Members.{branches, slot_members}
+use Rattle.ipg_facts.specs.declared.fact.Fact.TheVariants.{All}
 use Rattle.ipg_facts.specs.View.{scope_of}
 use Rattle.ipg_facts.proofs.Branches.{branches_more, branches_all}
 use Rattle.ipg_facts.proofs.members.branches.Goals as goal
@@ -14,6 +15,7 @@ loop-case-preserved c =
     let earlier = c.loop-case.earlier.items in
     ap (λ e. c.put_case.new.out.items ++ branches scope c.args.term e (drop (i + 1) cases) c.args.other.now) c.in_ok-put_fails.ensures
     ∙ ap (λ m. m ++ branches scope c.args.term (earlier ++ (read scope case.0).fails) (drop (i + 1) cases) c.args.other.now) c.in_ok-put_case.ensures
+    ∙ ap (λ e. (c.loop-case.members.items ++ All (e ++ ((read scope case.0).holds ++ slot_members scope c.args.term case.1)) ∷ []) ++ branches scope c.args.term (earlier ++ (read scope case.0).fails) (drop (i + 1) cases) c.args.other.now) c.as_slice.ensures.value
     ∙ branches_more scope c.args.term c.args.other.now cases i case c.loop-case.members.items earlier _ c.loop-case-test.true c.case-item.is c.loop-case.invariant
 
 pub returns : goal.returns
