@@ -20,7 +20,7 @@ use Rattle.ipg_core.specs.Tree.{Kid}
 use Rattle.ipg_core.specs.Environment.{Values}
 use Rattle.ipg_core.specs.Eval.{is_zero, eval}
 use Rattle.ipg_core.specs.Run.{NoTree, Run, finish, stop, some_of, value_of}
-use Rattle.ipg_core.specs.Meaning.{Call, Frame, State, Place, environment, value_in, ask, token_on, number_on, primitive_on, symbol_on, slot_on, items_on, times, item_end, item_on, many_on, turns, pick_on, term_on, terms_on, start, alt_on, alts_on, rule_run, rule_on, den}
+use Rattle.ipg_core.specs.Meaning.{Call, Frame, State, Place, environment, value_in, ask, token_on, number_on, primitive_on, symbol_on, slot_on, items_on, times, item_end, item_on, many_on, turns, repetition_on, pick_on, term_on, terms_on, start, alt_on, alts_on, rule_run, rule_on, den}
 use Rattle.ipg_core.specs.Mention.{EachSym}
 use Rattle.ipg_core.specs.Total.{IsForward, IsLater}
 use Rattle.ipg_core.specs.Laws.{ForwardIsTotal}
@@ -112,6 +112,14 @@ module _ (call : Call) (f : Frame) where
   many_settles p own sym h (suc n) from to items =
       settled_kept _ items _ (item_settles p own from to sym h) (λ end more. many_settles p own sym h n end to more)
 
+  repetition_settles : (p : Place) (state : State) (slot : CoreSlot) → Leads call slot.sym → Settled (repetition_on call f p state slot).answer
+  unfolding repetition_on
+  repetition_settles p state slot h =
+      settled_bind _ _ (value_settles state None slot.from) (λ l _.
+      settled_bind _ _ (value_settles state None slot.to) (λ r _.
+      settled_bind _ _ (settled_some (interval (length f.bytes) l r)) (λ ends _.
+      many_settles p state.own slot.sym h (turns ends.0 ends.1) ends.0 ends.1 [])))
+
   term_settles : (state : State) (u : ℕ) (term : Option CoreTerm) → LeadsSome call term → Settled (term_on call f state u term).answer
   term_settles state u None h = settled_stop
   term_settles state u (Some (Slot slot)) h = settled_bind _ _ (slot_settles _ state None slot h) (λ kid _. settled_finish _)
@@ -122,11 +130,7 @@ module _ (call : Call) (f : Frame) where
       settled_bind _ _ (value_settles state None first) (λ a _.
       settled_bind _ _ (value_settles state None last) (λ b _.
       settled_bind _ _ (items_settle u state (record { sym = sym; from = from; to = to }) (times (b -ℤ a)) a [] h) (λ items _. settled_finish _)))
-  term_settles state u (Some (Many sym from to)) h =
-      settled_bind _ _ (value_settles state None from) (λ l _.
-      settled_bind _ _ (value_settles state None to) (λ r _.
-      settled_bind _ _ (settled_some (interval (length f.bytes) l r)) (λ ends _.
-      settled_bind _ _ (many_settles _ state.own sym h (turns ends.0 ends.1) ends.0 ends.1 []) (λ items _. settled_finish _))))
+  term_settles state u (Some (Many sym from to)) h = settled_bind _ _ (repetition_settles _ state _ h) (λ items _. settled_finish _)
   term_settles state u (Some (Pick cases other)) h =
       settled_bind _ _ (pick_settles _ state cases other h.0 h.1) (λ kid _. settled_finish _)
 

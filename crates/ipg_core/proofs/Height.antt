@@ -15,7 +15,7 @@ use Rattle.ipg_core.specs.Tree.{Kid}
 use Rattle.ipg_core.specs.Environment.{Values}
 use Rattle.ipg_core.specs.Eval.{is_zero}
 use Rattle.ipg_core.specs.Run.{Run, some_of}
-use Rattle.ipg_core.specs.Meaning.{Call, Frame, State, Place, value_in, outer_for, ask, symbol_on, slot_on, items_on, times, item_end, item_on, many_on, turns, pick_on, term_on, terms_on, start, alt_on, alts_on, rule_run, rule_on, den}
+use Rattle.ipg_core.specs.Meaning.{Call, Frame, State, Place, value_in, outer_for, ask, symbol_on, slot_on, items_on, times, item_end, item_on, many_on, turns, repetition_on, pick_on, term_on, terms_on, start, alt_on, alts_on, rule_run, rule_on, den}
 use Rattle.ipg_core.specs.Laws.{HeightsAgree}
 use Rattle.ipg_core.proofs.Settled.{Settled, Agree, agree_refl, agree_bind, agree_else, agree_kept}
 
@@ -69,6 +69,14 @@ module _ (call call' : Call) (calls : CallsAgree call call') (f : Frame) where
   many_agrees p own sym (suc n) from to items =
       agree_kept (item_agrees p own from to sym) items (λ end more. many_agrees p own sym n end to more)
 
+  repetition_agrees : (p : Place) (state : State) (slot : CoreSlot) → Agree (repetition_on call f p state slot) (repetition_on call' f p state slot)
+  unfolding repetition_on
+  repetition_agrees p state slot =
+      agree_bind (agree_refl (value_in f state None slot.from)) (λ l.
+      agree_bind (agree_refl (value_in f state None slot.to)) (λ r.
+      agree_bind (agree_refl (some_of (interval (length f.bytes) l r))) (λ ends.
+      many_agrees p state.own slot.sym (turns ends.0 ends.1) ends.0 ends.1 [])))
+
   term_agrees : (state : State) (u : ℕ) (term : Option CoreTerm) → Agree (term_on call f state u term) (term_on call' f state u term)
   term_agrees state u None = agree_refl _
   term_agrees state u (Some (Slot slot)) = agree_bind (slot_agrees _ state None slot) (λ kid. agree_refl _)
@@ -78,11 +86,7 @@ module _ (call call' : Call) (calls : CallsAgree call call') (f : Frame) where
       agree_bind (agree_refl (value_in f state None first)) (λ a.
       agree_bind (agree_refl (value_in f state None last)) (λ b.
       agree_bind (items_agree u state _ (times (b -ℤ a)) a []) (λ items. agree_refl _)))
-  term_agrees state u (Some (Many sym from to)) =
-      agree_bind (agree_refl (value_in f state None from)) (λ l.
-      agree_bind (agree_refl (value_in f state None to)) (λ r.
-      agree_bind (agree_refl (some_of (interval (length f.bytes) l r))) (λ ends.
-      agree_bind (many_agrees _ state.own sym (turns ends.0 ends.1) ends.0 ends.1 []) (λ items. agree_refl _))))
+  term_agrees state u (Some (Many sym from to)) = agree_bind (repetition_agrees _ state _) (λ items. agree_refl _)
   term_agrees state u (Some (Pick cases other)) = agree_bind (pick_agrees _ state cases other) (λ kid. agree_refl _)
 
   terms_agree : (terms : List CoreTerm) (order : List ℕ) (state : State) → Agree (terms_on call f terms order state) (terms_on call' f terms order state)

@@ -6,3 +6,6 @@ pub mod Orders
 pub mod Yields
 pub mod Within
 pub mod Turns
+pub mod Touching
+pub mod Asks
+pub mod Grows

@@ -22,7 +22,7 @@ use Rattle.ipg_core.specs.Touch.{width, Ends, touches, untouched, moved, first_o
 use Rattle.ipg_core.specs.Environment.{Values, Done}
 use Rattle.ipg_core.specs.Eval.{is_zero}
 use Rattle.ipg_core.specs.Run.{Stop, NoTree, Deep, Run, finish, stop, some_of}
-use Rattle.ipg_core.specs.Meaning.{Call, Frame, State, Place, value_in, outer_for, ask, token_on, number_on, primitive_on, symbol_on, slot_on, items_on, times, item_end, item_on, many_on, turns, pick_on, with_kid, with_value, term_on, terms_on, start, kids_done, node_of, alt_on, alts_on, rule_run, rule_on, den}
+use Rattle.ipg_core.specs.Meaning.{Call, Frame, State, Place, value_in, outer_for, ask, token_on, number_on, primitive_on, symbol_on, slot_on, items_on, times, item_end, item_on, many_on, turns, repetition_on, pick_on, with_kid, with_value, term_on, terms_on, start, kids_done, node_of, alt_on, alts_on, rule_run, rule_on, den}
 use Rattle.ipg_core.specs.Within.{IsInterval, AreEnds, TreeWithin, KidWithin, KidsWithin}
 use Rattle.ipg_core.specs.Laws.{LiesWithin}
 use Rattle.ipg_core.proofs.Yields.{Yields, yields_err, yields_finish, yields_stop, yields_some, yields_then, yields_bind, yields_else, yields_chosen, yields_kept}
@@ -175,7 +175,7 @@ number_end : (n from end to w : ℕ) (b : Bool) → nat_le (from + w) to ≡ b �
 number_end n from end to w true t i e = same_end n from (from + w) end to i (omega arith) (leb-true _ _ t) e
 number_end n from end to w false t i e = absurd (cc)
 
-item_interval : {n : ℕ} (from end to : ℕ) (sym : Sym) → IsInterval n from to → item_end from to sym ≡ Some end → IsInterval n from end × (end ≤ to)
+pub item_interval : {n : ℕ} (from end to : ℕ) (sym : Sym) → IsInterval n from to → item_end from to sym ≡ Some end → IsInterval n from end × (end ≤ to)
 item_interval {n} from end to (Text token) i e = same_end n from to end to i i.valid (omega arith) e
 item_interval {n} from end to (Rule callee) i e = same_end n from to end to i i.valid (omega arith) e
 item_interval {n} from end to (Prim Bytes) i e = same_end n from to end to i i.valid (omega arith) e
@@ -254,6 +254,13 @@ module _ (call : Call) (calls : WithinCalls call) (f : Frame) where
   unfolding with_value
   value_done state attr z h = h
 
+  repetition_yields : (p : Place) (state : State) (slot : CoreSlot) → Yields (AllByRecursion (KidWithin size)) (repetition_on call f p state slot).answer
+  unfolding repetition_on
+  repetition_yields p state slot =
+      yields_then _ _ (λ l _. yields_then _ _ (λ r _.
+      yields_bind _ _ (yields_some (interval size l r)) (λ ends e.
+      many_yields p state.own slot.sym (turns ends.0 ends.1) ends.0 ends.1 [] (valid size l r ends.0 ends.1 e) tt)))
+
   term_yields : (state : State) (u : ℕ) (term : Option CoreTerm) → StateWithin state → Yields StateWithin (term_on call f state u term).answer
   term_yields state u None h = yields_stop NoTree
   term_yields state u (Some (Slot slot)) h = yields_bind _ _ (slot_yields _ state None slot) (λ k w. yields_finish _ (kid_done state u false k h w))
@@ -264,10 +271,8 @@ module _ (call : Call) (calls : WithinCalls call) (f : Frame) where
       yields_bind _ _ (items_yield u state (record { sym = sym; from = from; to = to }) (times (b -ℤ a)) a [] tt)
       (λ items w. yields_finish _ (kid_done state u false (Array sym (kids_of items)) h (all_within size items w)))))
   term_yields state u (Some (Many sym from to)) h =
-      yields_then _ _ (λ l _. yields_then _ _ (λ r _.
-      yields_bind _ _ (yields_some (interval size l r)) (λ ends e.
-      yields_bind _ _ (many_yields _ state.own sym (turns ends.0 ends.1) ends.0 ends.1 [] (valid size l r ends.0 ends.1 e) tt)
-      (λ items w. yields_finish _ (kid_done state u false (Repetition sym (kids_of items)) h (all_within size items w))))))
+      yields_bind _ _ (repetition_yields _ state _)
+      (λ items w. yields_finish _ (kid_done state u false (Repetition sym (kids_of items)) h (all_within size items w)))
   term_yields state u (Some (Pick cases other)) h = yields_bind _ _ (pick_yields _ state cases other) (λ k w. yields_finish _ (kid_done state u true k h w))
 
   terms_yield : (terms : List CoreTerm) (order : List ℕ) (state : State) → StateWithin state → Yields StateWithin (terms_on call f terms order state).answer

@@ -1,5 +1,5 @@
 -- The rules that must touch a byte: found in rounds, and their limit. Raw bytes, arrays and repetitions never count.
-use Rattle.std.specs.Prelude.{◌≡◌, ℕ, zero, suc, List, [], ◌∷◌, Bool, true, false, ◌&&◌, ◌||◌, map, length, nat_lt, slice_get, Option, Some, None}
+use Rattle.std.specs.Prelude.{◌≡◌, ℕ, zero, suc, List, [], ◌∷◌, Bool, true, false, ◌&&◌, ◌||◌, map, length, nat_lt, slice_get, Option, Some, None, ◌↔◌}
 use Rattle.ipg_core.specs.declared.grammar.Sym.{Sym}
 use Rattle.ipg_core.specs.declared.grammar.Sym.TheVariants.{Text, Prim, Rule}
 use Rattle.ipg_core.specs.declared.grammar.CoreExpr.{CoreExpr}
@@ -64,3 +64,8 @@ round g (suc k) = next_round g (round g k)
 pub record MustTouch (g : Grammar) (r : ℕ) : Type 0 where
   pub rounds : ℕ
   pub marked : is_marked (round g rounds) r ≡ true
+
+-- the marks of the limit: whether each rule must touch
+pub record AreLimit (g : Grammar) (marks : Marks) : Type 0 where
+  pub size : length marks ≡ length g.rules
+  pub exact : (r : ℕ) → (is_marked marks r ≡ true) ↔ MustTouch g r
