@@ -59,7 +59,7 @@ at_nat xs i within =
     let next : suc i ≡ i + 1 = omega arith in
     drop-cons xs i 0 within ∙ ap (λ j. get_or xs i 0 ∷ drop j xs) next
 
-pub terms_more : (scope : Scope) (order : List ℕ) (i : ℕ) (made all : List Fact) → i < length order 
+pub terms_more : (scope : Scope) (order : List ℕ) (i : ℕ) (made all : List Fact) → i < length order
     → made ++ terms_members scope (drop i order) ≡ all → (made ++ members scope (get_or order i 0) (slice_get scope.terms (get_or order i 0))) ++ terms_members (passed scope (get_or order i 0)) (drop (i + 1) order) ≡ all
 unfolding terms_members
 terms_more scope order i made all within h =

@@ -50,4 +50,4 @@ unfolding numbered
 numbered_more keys terms i t some within is =
     let next : i - 1 + 1 ≡ i = omega arith in
     sym (ap (numbered keys) (at_item terms (i - 1) t is (omega arith))
-         ∙ ap (λ n. insert (place keys t.0, t.1) (numbered keys (drop n terms))) next)
+    ∙ ap (λ n. insert (place keys t.0, t.1) (numbered keys (drop n terms))) next)

@@ -23,7 +23,7 @@ stays g attr k (suc d) e =
 pub settled : (g : Grammar) (attr k n : ℕ) (marks next : List Bool) → k ≤ n → marks ≡ readers g attr k → next ≡ map (reads_next g attr marks) g.rules → next ≡ marks → marks ≡ readers g attr n
 settled g attr k n marks next le e f same =
     let last : readers g attr (suc k) ≡ readers g attr k =
-      ap (readers g attr) (let h : suc k ≡ k + 1 = omega arith in h) ∙ sym (round_more g attr k marks next e f) ∙ same ∙ e in
+    ap (readers g attr) (let h : suc k ≡ k + 1 = omega arith in h) ∙ sym (round_more g attr k marks next e f) ∙ same ∙ e in
     e ∙ sym (stays g attr k (n - k) last) ∙ ap (readers g attr) (let h : k + (n - k) ≡ n = omega arith in h)
 
 bools : (a b : Bool) → Decides (beq a b) (a ≡ b)

@@ -37,6 +37,7 @@ shared_bounds [] = []
 shared_bounds (part ∷ parts) = take 1 part.1.bounds
 
 unfoldable pub joint : List (Formula × Boxed) → Formula × Boxed
-joint parts =
-    (formulas.All (parts_apart 0 parts),
-     record { bounds = shared_bounds parts ++ flat_map (λ part. drop 1 part.1.bounds) parts })
+joint parts = (
+  formulas.All (parts_apart 0 parts),
+  record { bounds = shared_bounds parts ++ flat_map (λ part. drop 1 part.1.bounds) parts },
+)

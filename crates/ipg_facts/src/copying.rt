@@ -48,11 +48,7 @@ pub fn copy_members(alloc: Global, members: &[Fact]) -> Result<List<Fact>, Alloc
 }
 
 /// Puts copies of facts behind others.
-pub fn put_copies(
-    alloc: Global,
-    out: &mut Vec<Fact>,
-    facts: &[Fact],
-) -> Result<(), AllocError>
+pub fn put_copies(alloc: Global, out: &mut Vec<Fact>, facts: &[Fact]) -> Result<(), AllocError>
     ensures { OnOk result (out.new.items ≡ out.old.items ++ facts.now) }
 {
     for fact in facts {

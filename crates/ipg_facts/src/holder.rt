@@ -109,14 +109,20 @@ fn reads_term(g: &Core, attr: u32, marks: &[bool], term: &CoreTerm) -> bool
 fn reads_alt(g: &Core, attr: u32, marks: &[bool], alt: &CoreAlt) -> bool
     ensures { result ≡ list_any (spec.reads_term g.now attr marks.now) alt.now.terms }
 {
-    alt.terms.as_slice().iter().any(|term| reads_term(g, attr, marks, term))
+    alt.terms
+        .as_slice()
+        .iter()
+        .any(|term| reads_term(g, attr, marks, term))
 }
 
 #[tactic(auto, unfolding(crate::specs::Holder::reads_next))]
 fn reads_next(g: &Core, attr: u32, marks: &[bool], rule: &CoreRule) -> bool
     ensures { result ≡ spec.reads_next g.now attr marks.now rule.now }
 {
-    rule.alts.as_slice().iter().any(|alt| reads_alt(g, attr, marks, alt))
+    rule.alts
+        .as_slice()
+        .iter()
+        .any(|alt| reads_alt(g, attr, marks, alt))
 }
 
 fn next_readers(alloc: Global, g: &Core, attr: u32, marks: &[bool]) -> Result<Vec<bool>, AllocError>
@@ -201,7 +207,9 @@ fn provides_some(
 fn some_read(caller: &[CoreTerm], attr: u32) -> bool
     ensures { result ≡ list_any (spec.mentions_some (Ask.Outer attr)) caller.now }
 {
-    caller.iter().any(|term| mentions_some(Ask::Outer(attr), term))
+    caller
+        .iter()
+        .any(|term| mentions_some(Ask::Outer(attr), term))
 }
 
 /// Whether the caller mentions an attribute of its holder.
@@ -258,7 +266,15 @@ pub fn kept(
     let mut behind = Vec::new(alloc);
     for place in (0..order.len()).rev() {
         let term = order[place];
-        if matters(alloc, g, at, holder.terms.as_slice(), caller, term, behind.as_slice())? {
+        if matters(
+            alloc,
+            g,
+            at,
+            holder.terms.as_slice(),
+            caller,
+            term,
+            behind.as_slice(),
+        )? {
             behind.insert(0, term)?;
         }
     }

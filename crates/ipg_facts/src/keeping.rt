@@ -100,7 +100,12 @@ fn put_held_facts(
 {
     let own = opening(alloc, ground.grammar, ground.marks, CALLER, caller)?;
     let mut scope = opening(alloc, ground.grammar, ground.marks, HOLDER, holder)?;
-    put_leq(alloc, out, &length_of(alloc, &own)?, &length_of(alloc, &scope)?)?;
+    put_leq(
+        alloc,
+        out,
+        &length_of(alloc, &own)?,
+        &length_of(alloc, &scope)?,
+    )?;
     put_terms_members(alloc, out, &mut scope, terms)
 }
 
@@ -197,7 +202,7 @@ fn edge_facts(alloc: Global, ground: Ground, edge: Edge) -> Result<Vec<Fact>, Al
 
 /// Facts as a formula over numbered variables, and the variables' bounds.
 #[tactic(auto, unfolding(crate::specs::Numbers::keys_of))]
-fn numbered(alloc: Global, facts: &[Fact]) -> Result<(Formula, Boxed), AllocError>
+pub fn numbered(alloc: Global, facts: &[Fact]) -> Result<(Formula, Boxed), AllocError>
     ensures { IfOk result (λ made. made ≡ numbers.all_of facts.now) }
 {
     let first = [CALLER, 0];

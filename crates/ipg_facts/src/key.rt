@@ -218,7 +218,13 @@ pub fn put_words(out: &mut Vec<u64>, e: &CoreExpr) -> Result<(), AllocError>
 }
 
 /// A field of a result.
-pub fn field(alloc: Global, names: &[Name], side: u64, term: u32, of: CoreField) -> Result<Key, AllocError>
+pub fn field(
+    alloc: Global,
+    names: &[Name],
+    side: u64,
+    term: u32,
+    of: CoreField,
+) -> Result<Key, AllocError>
     ensures { IfOk result (λ key. key ≡ spec.field names.now side term of) }
 {
     match of {

@@ -14,6 +14,8 @@ mod numbers;
 mod put;
 mod reading;
 mod scope;
+#[cfg(test)]
+mod tests;
 mod touching;
 
 pub use joining::joint;

@@ -199,21 +199,25 @@ fn pass(alloc: Global, scope: &mut Scope, term: u32) -> Result<(), AllocError>
 {
     let terms = scope.terms;
     match item_at(terms, term as usize) {
-        Some(CoreTerm::Repeat {
-            first,
-            last,
-            item: _,
-            from: _,
-            to: _,
-        }) => pass_array(alloc, scope, term, first, last),
+        Some(
+            CoreTerm::Repeat {
+                first,
+                last,
+                item: _,
+                from: _,
+                to: _,
+            },
+        ) => pass_array(alloc, scope, term, first, last),
         Some(CoreTerm::Slot(_)) => Ok(()),
         Some(CoreTerm::Set { attr: _, value: _ }) => Ok(()),
         Some(CoreTerm::Test(_)) => Ok(()),
-        Some(CoreTerm::Many {
-            item: _,
-            from: _,
-            to: _,
-        }) => Ok(()),
+        Some(
+            CoreTerm::Many {
+                item: _,
+                from: _,
+                to: _,
+            },
+        ) => Ok(()),
         Some(CoreTerm::Pick { cases: _, other: _ }) => Ok(()),
         None => Ok(()),
     }
@@ -247,7 +251,12 @@ fn put_is_whole(
     ensures { OnOk result (out.new.items ≡ out.old.items ++ spec.is_whole (scope_of scope.now) from.now to.now) }
 {
     put_equal(alloc, out, &form_of(alloc, scope, from)?, &nought(alloc))?;
-    put_equal(alloc, out, &form_of(alloc, scope, to)?, &length_of(alloc, scope)?)
+    put_equal(
+        alloc,
+        out,
+        &form_of(alloc, scope, to)?,
+        &length_of(alloc, scope)?,
+    )
 }
 
 /// The loop variable is within the bounds.

@@ -117,9 +117,7 @@ pub fn mentions_some(ask: Ask, term: &CoreTerm) -> bool
             item: _,
             from,
             to,
-        } => {
-            in_expr(ask, first) || in_expr(ask, last) || in_expr(ask, from) || in_expr(ask, to)
-        }
+        } => { in_expr(ask, first) || in_expr(ask, last) || in_expr(ask, from) || in_expr(ask, to) }
         CoreTerm::Many { item: _, from, to } => in_expr(ask, from) || in_expr(ask, to),
         CoreTerm::Pick { cases, other } => in_cases(ask, cases.as_slice()) || in_slot(ask, other),
     }

@@ -52,7 +52,11 @@ fn add_facts<'a>(keys: &mut Keys<'a>, facts: &'a [Fact]) -> Result<(), AllocErro
 }
 
 /// Numbers the variables by their first mention, behind `first`.
-pub fn keys_of<'a>(alloc: Global, first: &'a [u64], facts: &'a [Fact]) -> Result<Keys<'a>, AllocError>
+pub fn keys_of<'a>(
+    alloc: Global,
+    first: &'a [u64],
+    facts: &'a [Fact],
+) -> Result<Keys<'a>, AllocError>
     ensures { IfOk result (λ keys. keys_shown keys ≡ spec.with_keys (first.now ∷ []) (flat_map spec.keys_in facts.now)) }
 {
     let mut keys = IndexSet::new(alloc);
@@ -92,7 +96,11 @@ fn insert(terms: &mut Vec<(u64, i64)>, term: (u64, i64)) -> Result<(), AllocErro
 }
 
 /// The terms of an atom, by rising numbers.
-fn numbered(alloc: Global, keys: &Keys<'_>, terms: &[(Key, i64)]) -> Result<Vec<(u64, i64)>, AllocError>
+fn numbered(
+    alloc: Global,
+    keys: &Keys<'_>,
+    terms: &[(Key, i64)],
+) -> Result<Vec<(u64, i64)>, AllocError>
     ensures { IfOk result (λ numbered. numbered.items ≡ spec.numbered (keys_shown keys.now) terms.now) }
 {
     let mut numbered = Vec::with_capacity(alloc, terms.len())?;
@@ -132,7 +140,11 @@ fn formula_of(alloc: Global, keys: &Keys<'_>, fact: &Fact) -> Result<Formula, Al
 }
 
 #[cycle(numbering)]
-pub fn formulas_of(alloc: Global, keys: &Keys<'_>, facts: &[Fact]) -> Result<List<Formula>, AllocError>
+pub fn formulas_of(
+    alloc: Global,
+    keys: &Keys<'_>,
+    facts: &[Fact],
+) -> Result<List<Formula>, AllocError>
     ensures { IfOk result (λ formulas. formulas ≡ map (spec.formula_of (keys_shown keys.now)) facts.now) }
 {
     let mut formulas = Vec::with_capacity(alloc, facts.len())?;

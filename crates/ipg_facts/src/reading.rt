@@ -71,12 +71,22 @@ fn put_item_facts(
 {
     match field {
         CoreField::Attr(attr) => {
-            put_ranges(alloc, out, form, greatest_of(item, name_of(scope.names, attr)))
+            put_ranges(
+                alloc,
+                out,
+                form,
+                greatest_of(item, name_of(scope.names, attr)),
+            )
         }
         CoreField::Start => {
             let wide = i128::from(least_width(scope.marks, item));
             put_leq(alloc, out, &nought(alloc), form)?;
-            put_leq(alloc, out, &shifted(alloc, form, wide)?, &length_of(alloc, scope)?)
+            put_leq(
+                alloc,
+                out,
+                &shifted(alloc, form, wide)?,
+                &length_of(alloc, scope)?,
+            )
         }
         CoreField::End => {
             let wide = i128::from(least_width(scope.marks, item));
@@ -87,7 +97,12 @@ fn put_item_facts(
 }
 
 #[tactic(auto, unfolding(crate::specs::Reading::inside), using(crate::proofs::Puts::then, crate::proofs::Puts::then_last))]
-fn put_inside(alloc: Global, out: &mut Vec<Fact>, scope: &Scope, form: &Form) -> Result<(), AllocError>
+fn put_inside(
+    alloc: Global,
+    out: &mut Vec<Fact>,
+    scope: &Scope,
+    form: &Form,
+) -> Result<(), AllocError>
     ensures { OnOk result (out.new.items ≡ out.old.items ++ spec.inside (scope_of scope.now) form.now) }
 {
     put_leq(alloc, out, &number(alloc, 1), form)?;
@@ -205,7 +220,14 @@ fn item_form(
 {
     let mut facts = Vec::new(alloc);
     let known = opaque(alloc, scope, e)?;
-    put_item_facts(alloc, &mut facts, scope, item_sym(scope.terms, term), field, &known)?;
+    put_item_facts(
+        alloc,
+        &mut facts,
+        scope,
+        item_sym(scope.terms, term),
+        field,
+        &known,
+    )?;
     variable(alloc, value_key(alloc, scope, e)?, List::from_vec(facts))
 }
 
@@ -220,7 +242,14 @@ fn after_form(
 {
     let mut facts = Vec::new(alloc);
     let known = opaque(alloc, scope, e)?;
-    put_after_facts(alloc, &mut facts, scope, touching(scope, term), &known, left)?;
+    put_after_facts(
+        alloc,
+        &mut facts,
+        scope,
+        touching(scope, term),
+        &known,
+        left,
+    )?;
     variable(alloc, value_key(alloc, scope, e)?, List::from_vec(facts))
 }
 

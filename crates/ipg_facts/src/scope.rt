@@ -73,13 +73,7 @@ pub fn sym_width(marks: &[bool], sym: &Sym) -> u64
     match sym {
         Sym::Text(_) => 0,
         Sym::Prim(prim) => width(*prim),
-        Sym::Rule(rule) => {
-            if is_marked(marks, *rule) {
-                1
-            } else {
-                0
-            }
-        }
+        Sym::Rule(rule) => { if is_marked(marks, *rule) { 1 } else { 0 } }
     }
 }
 

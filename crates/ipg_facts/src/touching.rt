@@ -97,7 +97,12 @@ fn put_touches_first(
 {
     let end = end_of(alloc, scope, taken.term)?;
     put_equal(alloc, out, &start_of(alloc, scope, taken.term)?, taken.l)?;
-    put_equal(alloc, out, &end, &shifted(alloc, taken.l, i128::from(wide))?)?;
+    put_equal(
+        alloc,
+        out,
+        &end,
+        &shifted(alloc, taken.l, i128::from(wide))?,
+    )?;
     put_leq(alloc, out, &end, taken.r)
 }
 

@@ -19,8 +19,8 @@ returns-then-eq c =
     let one : x ≡ y = cc in
     let same : bytes_eq y.key p.key ≡ true = sym (c.eq.ensures ∙ ap (λ k. bytes_eq k c.as_slice-in-loop-at.result.now) c.as_slice.ensures ∙ ap (bytes_eq x.key) c.as_slice-in-loop-at.ensures ∙ ap (λ (z : Part). bytes_eq z.key p.key) one) ∙ c.if-eq.true in
     on_ok c.add_factor.result _ _
-        (λ e. ap (slice_set xs at) e ∙ found at xs y p c.loop-at.invariant.1 there same ∙ ap (λ ps. add_part ps p) c.loop-at.invariant.0)
-        c.add_factor.ensures
+    (λ e. ap (slice_set xs at) e ∙ found at xs y p c.loop-at.invariant.1 there same ∙ ap (λ ps. add_part ps p) c.loop-at.invariant.0)
+    c.add_factor.ensures
 
 pub loop-at-preserved : goal.loop-at-preserved
 loop-at-preserved c =

@@ -13,13 +13,13 @@ returns-then-eq c =
     let below : c.loop-round._round ≤ length rules = omega (arith, ap length c.rules-round-end.ensures.rules) in
     let same = same_marks _ _ c.eq.result c.eq.ensures c.if-eq.true in
     settled c.args.g.now c.args.attr c.loop-round._round (length rules) c.loop-round.marks.items c.in_ok-next.next.items below c.loop-round.invariant
-        (c.in_ok-next.ensures ∙ ap (λ (ms : List Bool). map (reads_next c.args.g.now c.args.attr ms) rules) c.as_slice.ensures.value)
-        (sym c.as_slice-in-loop-round.ensures.value ∙ same ∙ c.as_slice-in-loop-round-2.ensures.value)
+    (c.in_ok-next.ensures ∙ ap (λ (ms : List Bool). map (reads_next c.args.g.now c.args.attr ms) rules) c.as_slice.ensures.value)
+    (sym c.as_slice-in-loop-round.ensures.value ∙ same ∙ c.as_slice-in-loop-round-2.ensures.value)
 
 pub loop-round-preserved : goal.loop-round-preserved
 loop-round-preserved c =
     round_more c.args.g.now c.args.attr c.loop-round._round c.loop-round.marks.items c.in_ok-next.next.items c.loop-round.invariant
-        (c.in_ok-next.ensures ∙ ap (λ (ms : List Bool). map (reads_next c.args.g.now c.args.attr ms) c.args.g.now.rules) c.as_slice.ensures.value)
+    (c.in_ok-next.ensures ∙ ap (λ (ms : List Bool). map (reads_next c.args.g.now c.args.attr ms) c.args.g.now.rules) c.as_slice.ensures.value)
 
 pub returns : goal.returns
 returns c =

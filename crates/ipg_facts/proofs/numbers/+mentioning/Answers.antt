@@ -9,14 +9,14 @@ use Rattle.ipg_facts.proofs.numbers.+mentioning.Goals as goal
 pub add_fact-returns-in-All : goal.add_fact-returns-in-All
 add_fact-returns-in-All t c =
     on_ok c.add_facts.result _ _
-        (λ e. e ∙ ap (with_keys (keys_shown c.args.keys.now)) (ap (flat_map keys_in) c.as_slice-in-All.ensures ∙ keys_in_all c.in-All.members ∙ sym (ap keys_in c.in-All.is)))
-        c.add_facts.ensures
+    (λ e. e ∙ ap (with_keys (keys_shown c.args.keys.now)) (ap (flat_map keys_in) c.as_slice-in-All.ensures ∙ keys_in_all c.in-All.members ∙ sym (ap keys_in c.in-All.is)))
+    c.add_facts.ensures
 
 pub add_fact-returns-in-Any : goal.add_fact-returns-in-Any
 add_fact-returns-in-Any t c =
     on_ok c.add_facts-in-Any.result _ _
-        (λ e. e ∙ ap (with_keys (keys_shown c.args.keys.now)) (ap (flat_map keys_in) c.as_slice-in-Any.ensures ∙ keys_in_any c.in-Any.members ∙ sym (ap keys_in c.in-Any.is)))
-        c.add_facts-in-Any.ensures
+    (λ e. e ∙ ap (with_keys (keys_shown c.args.keys.now)) (ap (flat_map keys_in) c.as_slice-in-Any.ensures ∙ keys_in_any c.in-Any.members ∙ sym (ap keys_in c.in-Any.is)))
+    c.add_facts-in-Any.ensures
 
 pub add_facts-loop-fact-preserved : goal.add_facts-loop-fact-preserved
 add_facts-loop-fact-preserved t c =

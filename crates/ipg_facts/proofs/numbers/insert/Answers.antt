@@ -16,9 +16,10 @@ pub loop-at-preserved : goal.loop-at-preserved
 loop-at-preserved c =
     let xs = c.loop-at.terms.items in
     let within : c.loop-at.at < length xs = omega (arith, c.len-at-end.ensures, ap length c.loop-at.invariant.0) in
-    let is = slice_get_read xs _ c.loop-at.at c.index.result.now refl within c.index.ensures in
-    (c.loop-at.invariant.0,
-     subst (λ n. Below n xs c.args.term) (sym (add-one c.loop-at.at)) (further c.loop-at.at xs c.index.result.now c.args.term c.loop-at.invariant.1 is c.if-term-index.false))
+    let is = slice_get_read xs _ c.loop-at.at c.index.result.now refl within c.index.ensures in (
+      c.loop-at.invariant.0,
+      subst (λ n. Below n xs c.args.term) (sym (add-one c.loop-at.at)) (further c.loop-at.at xs c.index.result.now c.args.term c.loop-at.invariant.1 is c.if-term-index.false),
+    )
 
 pub returns : goal.returns
 returns c =
