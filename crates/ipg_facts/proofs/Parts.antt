@@ -1,6 +1,6 @@
 -- A part that is added among others.
-use Rattle.std.proofs.Common.{◌≡◌, ℕ, zero, suc, ◌+◌, ◌<◌, ◌≤◌, List, [], ◌∷◌, ◌++◌, length, get_or, drop, refl, sym, ap, ◌∙◌, arith, Bool, true, false, Option, Some, ◌+ℤ◌, add-one}
-use Rattle.std.specs.Prelude.{Result, Ok, Err, OnOk, slice_get, slice_set, bytes_eq, if◌then◌else◌}
+use Rattle.std.proofs.Common.{◌≡◌, ℕ, zero, suc, ◌+◌, ◌<◌, ◌≤◌, List, [], ◌∷◌, ◌++◌, length, get_or, drop, refl, sym, ap, ◌∙◌, arith, true, false, Some, ◌+ℤ◌}
+use Rattle.std.specs.Prelude.{Result, Ok, Err, OnOk, slice_get, slice_set, bytes_eq}
 use Rattle.std.proofs.Math.Seq.{drop-cons}
 use Rattle.std.proofs.lemmas.List.{drop_all}
 use Rattle.ipg_facts.specs.declared.fact.Part.{Part}

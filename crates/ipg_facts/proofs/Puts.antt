@@ -1,5 +1,5 @@
 -- Lists that grow by pieces, one after another.
-use Rattle.std.proofs.Common.{◌≡◌, List, ◌++◌, sym, ap, ◌∙◌, append_assoc}
+use Rattle.std.proofs.Common.{◌≡◌, List, ◌++◌, ap, ◌∙◌, append_assoc}
 use Rattle.std.specs.Prelude.{Result, Ok, Err, OnOk}
 
 -- two pieces put one after the other

@@ -1,6 +1,5 @@
 -- Several conditions at one length of the part: variable 0 is shared, all others are apart.
 use Rattle.std.specs.Prelude.{ℕ, zero, suc, ◌+◌, ◌-◌, List, [], ◌∷◌, ◌++◌, length, flat_map, map, drop, take, ℤ}
-use Rattle.ipg_lin.specs.Form.{Form as Linear}
 use Rattle.ipg_lin.specs.declared.formula.Formula.{Formula, fold-Formula}
 use Rattle.ipg_lin.specs.declared.formula.Formula.TheOpen.{Formula-F}
 use Rattle.ipg_lin.specs.declared.formula.Formula.TheVariants as formulas

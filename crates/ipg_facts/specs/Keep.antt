@@ -1,21 +1,13 @@
 -- The conditions under which the call of an edge keeps its caller's whole part: facts over keys, then a formula over numbers.
-use Rattle.std.specs.Prelude.{ℕ, ◌^◌, ◌+◌, ◌-◌, List, [], ◌∷◌, ◌++◌, length, replicate, flat_map, map, drop, Option, Some, None, Bool, true, false, nat_eq, nat_lt, bytes_eq, ℤ, pos, negsuc, slice_get, if◌then◌else◌}
+use Rattle.std.specs.Prelude.{ℕ, List, [], ◌∷◌, ◌++◌, length, replicate, Option, Some, None, Bool, nat_eq, slice_get, if◌then◌else◌}
 use Rattle.std.specs.List.{list_any}
-use Rattle.ipg_core.specs.declared.grammar.CoreTerm.{CoreTerm}
 use Rattle.ipg_core.specs.declared.grammar.CoreAlt.{CoreAlt}
 use Rattle.ipg_core.specs.declared.grammar.CoreRule.{CoreRule}
 use Rattle.ipg_core.specs.Grammar.{Grammar, rule_at}
 use Rattle.ipg_graph.specs.declared.edge.Edge.{Edge}
-use Rattle.ipg_lin.specs.Form.{Form as Linear}
-use Rattle.ipg_lin.specs.declared.formula.Formula.{Formula}
-use Rattle.ipg_lin.specs.declared.formula.Formula.TheVariants as formulas
-use Rattle.ipg_lin.specs.declared.formula.Boxed.{Boxed}
-use Rattle.ipg_facts.specs.declared.fact.Draft.{Draft}
-use Rattle.ipg_facts.specs.declared.fact.Fact.{Fact, fold-Fact}
-use Rattle.ipg_facts.specs.declared.fact.Fact.TheOpen.{Fact-F}
-use Rattle.ipg_facts.specs.declared.fact.Bounds.{Bounds}
+use Rattle.ipg_facts.specs.declared.fact.Fact.{Fact}
 use Rattle.ipg_facts.specs.declared.mention.Ask.TheVariants.{AnyOuter}
-use Rattle.ipg_facts.specs.Key.{Key, caller_side, holder_side, whole}
+use Rattle.ipg_facts.specs.Key.{caller_side, holder_side}
 use Rattle.ipg_facts.specs.Form.{leq}
 use Rattle.ipg_facts.specs.Reading.{Scope, length_of}
 use Rattle.ipg_facts.specs.Members.{terms_members, passed_all, own_at}

@@ -1,7 +1,7 @@
 -- What a term that has run puts: one table for the caller's terms and for the holder's.
-use Rattle.std.specs.Prelude.{ℕ, zero, suc, ◌-◌, List, [], ◌∷◌, ◌++◌, length, replicate, Option, Some, None, Bool, true, false, pos, slice_get, slice_set, codes, if◌then◌else◌}
+use Rattle.std.specs.Prelude.{ℕ, zero, suc, List, [], ◌∷◌, ◌++◌, length, Option, Some, None, Bool, pos, slice_get, slice_set, codes, if◌then◌else◌}
 use Rattle.ipg_core.specs.declared.grammar.Primitive.{Primitive}
-use Rattle.ipg_core.specs.declared.grammar.Primitive.TheVariants.{U8, U16LE, U16BE, U32LE, U32BE, U64LE, U64BE, Bytes}
+use Rattle.ipg_core.specs.declared.grammar.Primitive.TheVariants.{Bytes}
 use Rattle.ipg_core.specs.declared.grammar.Sym.{Sym}
 use Rattle.ipg_core.specs.declared.grammar.Sym.TheVariants.{Text, Prim, Rule}
 use Rattle.ipg_core.specs.declared.grammar.CoreExpr.{CoreExpr}
@@ -12,7 +12,7 @@ use Rattle.ipg_core.specs.Touch.{width}
 use Rattle.ipg_core.specs.MustTouch.{is_marked}
 use Rattle.ipg_facts.specs.declared.fact.Form.{Form}
 use Rattle.ipg_facts.specs.declared.fact.Fact.{Fact}
-use Rattle.ipg_facts.specs.declared.fact.Fact.TheVariants.{Atom, All, Any}
+use Rattle.ipg_facts.specs.declared.fact.Fact.TheVariants.{All, Any}
 use Rattle.ipg_facts.specs.declared.fact.Bounds.{Bounds}
 use Rattle.ipg_facts.specs.Key.{start, end, named, attribute, loop}
 use Rattle.ipg_facts.specs.Form.{variable, shifted, leq, less, equal, choice}

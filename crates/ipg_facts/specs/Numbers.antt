@@ -1,14 +1,11 @@
 -- From facts over keys to a formula over numbers: variables are numbered by their first mention, the part's length first.
-use Rattle.std.specs.Prelude.{ℕ, ◌^◌, ◌+◌, ◌-◌, List, [], ◌∷◌, ◌++◌, length, flat_map, map, drop, Bool, true, false, nat_lt, bytes_eq, ℤ, pos, negsuc, if◌then◌else◌, ◌||◌}
+use Rattle.std.specs.Prelude.{ℕ, List, [], ◌∷◌, ◌++◌, flat_map, map, Bool, nat_lt, bytes_eq, ℤ, pos, negsuc, if◌then◌else◌, ◌||◌}
 use Rattle.std.specs.List.{list_any, position_or_len}
 use Rattle.ipg_core.specs.Grammar.{Grammar}
 use Rattle.ipg_graph.specs.declared.edge.Edge.{Edge}
-use Rattle.ipg_lin.specs.Form.{Form as Linear}
-use Rattle.ipg_lin.specs.declared.formula.Formula.{Formula, fold-Formula}
-use Rattle.ipg_lin.specs.declared.formula.Formula.TheOpen.{Formula-F}
+use Rattle.ipg_lin.specs.declared.formula.Formula.{Formula}
 use Rattle.ipg_lin.specs.declared.formula.Formula.TheVariants as formulas
 use Rattle.ipg_lin.specs.declared.formula.Boxed.{Boxed}
-use Rattle.ipg_facts.specs.declared.fact.Draft.{Draft}
 use Rattle.ipg_facts.specs.declared.fact.Fact.{Fact, fold-Fact}
 use Rattle.ipg_facts.specs.declared.fact.Fact.TheOpen.{Fact-F}
 use Rattle.ipg_facts.specs.Key.{Key, caller_side, holder_side, whole}

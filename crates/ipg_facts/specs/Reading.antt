@@ -1,5 +1,5 @@
 -- What an expression is to the conditions: a linear form, and the facts that it is true (other than 0) and that it is false.
-use Rattle.std.specs.Prelude.{ℕ, ◌*◌, ◌-◌, ◌^◌, List, [], ◌∷◌, ◌++◌, Option, Some, None, Bool, true, false, ℤ, pos, negsuc, slice_get, bytes_eq, codes, if◌then◌else◌, nat_lt}
+use Rattle.std.specs.Prelude.{ℕ, List, [], ◌++◌, Option, Some, None, Bool, pos, negsuc, slice_get, bytes_eq, codes, if◌then◌else◌, nat_lt}
 use Rattle.ipg_num.specs.declared.op.Op2.{Op2}
 use Rattle.ipg_num.specs.declared.op.Op2.TheVariants.{Add, Sub, Mul, Div, Mod, Shl, Shr, BitAnd, BitOr, BitXor, Eq, Ne, Lt, Le, Gt, Ge}
 use Rattle.ipg_core.specs.declared.grammar.Primitive.{Primitive}
@@ -18,7 +18,7 @@ use Rattle.ipg_core.specs.MustTouch.{is_marked}
 use Rattle.ipg_facts.specs.declared.fact.Form.{Form}
 use Rattle.ipg_facts.specs.declared.fact.Fact.{Fact}
 use Rattle.ipg_facts.specs.declared.fact.Bounds.{Bounds}
-use Rattle.ipg_facts.specs.Key.{Key, spell, whole, attribute, loop, field, value, holder_side}
+use Rattle.ipg_facts.specs.Key.{spell, whole, attribute, loop, field, value, holder_side}
 use Rattle.ipg_facts.specs.Form.{variable, number, plus, minus, scaled, shifted, is_constant, in_limits, leq, less, equal, differ, choice}
 
 -- an alternative whose expressions are read

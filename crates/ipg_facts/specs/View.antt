@@ -1,6 +1,4 @@
 -- What the code's scope stands for.
-use Rattle.std.specs.Prelude.{ℕ, Option, Some, None}
-use Rattle.ipg_core.specs.declared.grammar.Sym.{Sym}
 use Rattle.ipg_facts.specs.declared.scope.Scope as code
 use Rattle.ipg_facts.specs.Reading.{Scope}
 

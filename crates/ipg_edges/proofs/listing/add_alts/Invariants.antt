@@ -1,6 +1,5 @@
 use Rattle.std.proofs.Common.{◌≡◌, ◌++◌, drop}
-use Rattle.ipg_core.specs.Mention.{term_syms}
-use Rattle.ipg_edges.specs.Edges.{numbered, syms_edges, terms_edges, alts_edges, edges_of, call}
+use Rattle.ipg_edges.specs.Edges.{numbered, terms_edges, alts_edges}
 use Rattle.ipg_edges.proofs.listing.add_alts.Given as goal
 
 -- the edges so far, and those of what is left

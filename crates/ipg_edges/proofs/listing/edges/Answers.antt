@@ -1,7 +1,7 @@
-use Rattle.std.proofs.Common.{sym, subst, ap, ◌∙◌, ◌≡◌}
+use Rattle.std.proofs.Common.{sym, subst, ap, ◌∙◌}
 use Rattle.std.proofs.lemmas.Option.{slice_get_read}
 use Rattle.std.specs.Prelude.{slice_get}
-use Rattle.std.proofs.Common.{refl, Some}
+use Rattle.std.proofs.Common.{refl}
 use Rattle.ipg_edges.specs.Few.{FewAlts}
 use Rattle.ipg_edges.proofs.Few.{few_alts}
 use Rattle.ipg_edges.proofs.listing.edges.Goals as goal

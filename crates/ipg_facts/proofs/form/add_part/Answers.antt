@@ -1,5 +1,5 @@
-use Rattle.std.proofs.Common.{◌≡◌, ◌++◌, ◌∷◌, [], ap, sym, ◌∙◌, drop, arith, refl, subst, true, false, add-one, length, ◌<◌, ◌≤◌, ◌+ℤ◌, Bool}
-use Rattle.std.specs.Prelude.{bytes_eq, OnOk, slice_set}
+use Rattle.std.proofs.Common.{◌≡◌, ◌++◌, ◌∷◌, [], ap, sym, ◌∙◌, arith, refl, subst, true, false, add-one, length, ◌<◌, ◌≤◌}
+use Rattle.std.specs.Prelude.{bytes_eq, slice_set}
 use Rattle.std.proofs.lemmas.Option.{slice_get_read}
 use Rattle.ipg_facts.specs.declared.fact.Part.{Part}
 use Rattle.ipg_facts.specs.Form.{add_part}

@@ -1,4 +1,4 @@
-use Rattle.std.proofs.Common.{◌≡◌, ◌++◌, ◌+◌, ◌≤◌, length, map, drop, take}
+use Rattle.std.proofs.Common.{◌≡◌, drop}
 use Rattle.std.specs.List.{filter, list_all}
 use Rattle.ipg_facts.specs.Form as spec
 use Rattle.ipg_facts.proofs.form.are_light.Given as goal

@@ -1,5 +1,5 @@
-use Rattle.std.proofs.Common.{◌≡◌, ap, sym, ◌∙◌, drop, arith, ◌+◌}
-use Rattle.ipg_facts.specs.Form.{add_part, add_parts}
+use Rattle.std.proofs.Common.{ap, ◌∙◌, drop, arith, ◌+◌}
+use Rattle.ipg_facts.specs.Form.{add_parts}
 use Rattle.ipg_facts.proofs.Parts.{parts_more, parts_all}
 use Rattle.ipg_facts.proofs.form.joined.Goals as goal
 

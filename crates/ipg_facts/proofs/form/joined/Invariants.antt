@@ -1,5 +1,4 @@
-use Rattle.std.proofs.Common.{◌≡◌, ◌++◌, ◌+◌, ◌≤◌, length, map, drop, take}
-use Rattle.std.specs.List.{filter, list_all}
+use Rattle.std.proofs.Common.{◌≡◌, drop}
 use Rattle.ipg_facts.specs.Form as spec
 use Rattle.ipg_facts.proofs.form.joined.Given as goal
 

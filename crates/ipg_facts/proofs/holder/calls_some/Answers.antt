@@ -1,4 +1,4 @@
-use Rattle.std.proofs.Common.{◌≡◌, ap, sym, ◌∙◌, ◌||◌, List}
+use Rattle.std.proofs.Common.{ap, sym, ◌∙◌, ◌||◌, List}
 use Rattle.std.specs.List.{list_any}
 use Rattle.ipg_core.specs.declared.grammar.CoreExpr.{CoreExpr}
 use Rattle.ipg_core.specs.declared.grammar.CoreSlot.{CoreSlot}

@@ -1,9 +1,4 @@
-use Rattle.std.proofs.Common.{◌≡◌, ◌++◌, ◌+◌, ◌-◌, ◌≤◌, length, map, drop, take, []}
-use Rattle.std.specs.Prelude.{flat_map, replicate, slice_get}
-use Rattle.ipg_facts.specs.Table.{keys_shown}
-use Rattle.ipg_facts.specs.Holder as holder
-use Rattle.ipg_facts.specs.Keep as keeping
-use Rattle.ipg_facts.specs.Numbers as spec
+use Rattle.std.proofs.Common.{◌≡◌, ◌++◌, map, drop}
 use Rattle.ipg_facts.specs.Joint as joint
 use Rattle.ipg_facts.proofs.joining.moved_terms.Given as goal
 

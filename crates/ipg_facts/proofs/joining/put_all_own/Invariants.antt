@@ -1,10 +1,5 @@
-use Rattle.std.proofs.Common.{◌≡◌, ◌++◌, ◌+◌, ◌-◌, ◌≤◌, length, map, drop, take, []}
-use Rattle.std.specs.Prelude.{flat_map, replicate, slice_get}
-use Rattle.ipg_facts.specs.Table.{keys_shown}
-use Rattle.ipg_facts.specs.Holder as holder
-use Rattle.ipg_facts.specs.Keep as keeping
-use Rattle.ipg_facts.specs.Numbers as spec
-use Rattle.ipg_facts.specs.Joint as joint
+use Rattle.std.proofs.Common.{◌≡◌, ◌++◌, drop}
+use Rattle.std.specs.Prelude.{flat_map}
 use Rattle.ipg_facts.proofs.joining.put_all_own.Given as goal
 
 abbrev pub invariant-loop-part : goal.invariant-loop-part

@@ -1,4 +1,4 @@
-use Rattle.std.proofs.Common.{◌≡◌, ap, ◌∙◌, ◌++◌, ◌+◌, ◌≤◌, drop, arith, length, ◌∷◌, []}
+use Rattle.std.proofs.Common.{ap, ◌∙◌, ◌++◌, ◌+◌, ◌≤◌, drop, arith, length, ◌∷◌, []}
 use Rattle.ipg_facts.specs.Reading.{read}
 use Rattle.ipg_facts.specs.Members.{branches, slot_members}
 use Rattle.ipg_facts.specs.declared.fact.Fact.TheVariants.{All}

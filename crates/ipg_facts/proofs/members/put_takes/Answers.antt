@@ -1,4 +1,4 @@
-use Rattle.std.proofs.Common.{◌≡◌, ap, ◌∙◌, ◌++◌, ◌+◌, ◌-◌, ◌<◌, ◌≤◌, drop, arith, length}
+use Rattle.std.proofs.Common.{ap, ◌∙◌, ◌++◌, ◌+◌, ◌-◌, ◌<◌, ◌≤◌, drop, arith, length}
 use Rattle.ipg_facts.specs.Members.{takes}
 use Rattle.ipg_facts.specs.View.{scope_of}
 use Rattle.ipg_facts.proofs.Branches.{takes_here, takes_more, takes_all}

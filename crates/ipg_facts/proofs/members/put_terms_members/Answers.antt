@@ -1,4 +1,4 @@
-use Rattle.std.proofs.Common.{◌≡◌, ap, sym, ◌∙◌, ◌+◌, ◌++◌, drop, get_or, arith}
+use Rattle.std.proofs.Common.{ap, ◌∙◌, ◌+◌, ◌++◌, drop, get_or}
 use Rattle.ipg_facts.specs.Members.{terms_members, passed_all, passed}
 use Rattle.ipg_facts.specs.View.{scope_of}
 use Rattle.ipg_facts.proofs.Branches.{terms_more, terms_all, passed_more, all_passed}

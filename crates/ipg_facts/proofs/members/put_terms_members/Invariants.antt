@@ -1,8 +1,5 @@
-use Rattle.std.proofs.Common.{◌≡◌, ◌++◌, drop, map, length, ◌+◌, ◌-◌, ◌≤◌, []}
-use Rattle.std.specs.Prelude.{slice_get, replicate, flat_map}
-use Rattle.std.specs.List.{list_any}
+use Rattle.std.proofs.Common.{◌≡◌, ◌++◌, drop}
 use Rattle.ipg_facts.specs.Members as spec
-use Rattle.ipg_facts.specs.Reading.{read}
 use Rattle.ipg_facts.specs.View.{scope_of}
 use Rattle.ipg_facts.proofs.members.put_terms_members.Given as goal
 

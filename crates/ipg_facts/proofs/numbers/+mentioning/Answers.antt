@@ -1,4 +1,4 @@
-use Rattle.std.proofs.Common.{◌≡◌, ap, sym, ◌∙◌, ◌+◌, drop, arith}
+use Rattle.std.proofs.Common.{ap, sym, ◌∙◌, ◌+◌, drop}
 use Rattle.std.specs.Prelude.{flat_map}
 use Rattle.ipg_facts.specs.Numbers.{keys_in, with_keys}
 use Rattle.ipg_facts.specs.Table.{keys_shown}

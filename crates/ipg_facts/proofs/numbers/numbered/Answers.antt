@@ -1,6 +1,5 @@
-use Rattle.std.proofs.Common.{◌≡◌, ap, sym, ◌∙◌, ◌-◌, ◌<◌, ◌≤◌, ℤ, ℕ, List, drop, length, arith, refl}
-use Rattle.ipg_facts.specs.Key.{Key}
-use Rattle.ipg_facts.specs.Numbers.{numbered, insert, place}
+use Rattle.std.proofs.Common.{ap, ◌∙◌, ◌<◌, ◌≤◌, length, arith}
+use Rattle.ipg_facts.specs.Numbers.{insert, place}
 use Rattle.ipg_facts.specs.Table.{keys_shown}
 use Rattle.ipg_facts.proofs.Inserted.{numbered_none, numbered_more}
 use Rattle.ipg_facts.proofs.numbers.numbered.Goals as goal

@@ -1,5 +1,5 @@
-use Rattle.std.proofs.Common.{◌≡◌, ◌++◌, ◌+◌, ◌≤◌, length, map, drop, take}
-use Rattle.std.specs.List.{filter, list_all, flat_map}
+use Rattle.std.proofs.Common.{◌≡◌, ◌++◌, map, drop}
+use Rattle.std.specs.List.{filter}
 use Rattle.ipg_facts.specs.declared.fact.Part.{Part}
 use Rattle.ipg_facts.specs.Form as spec
 use Rattle.ipg_facts.proofs.put.terms_of.Given as goal
