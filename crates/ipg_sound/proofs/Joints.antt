@@ -19,9 +19,6 @@ record Apart (f : Formula) : Type 0 where
   apart_holds : (n : ℕ) (v : Assignment) → holds_at v (apart n f) ≡ holds_at (λ x. v (moved n x)) f
   agrees : (v w : Assignment) → ((x : ℕ) → x < width f → v x ≡ w x) → holds_at v f ≡ holds_at w f
 
-Sure : Type 0
-Sure = (f : Formula) × Apart f
-
 abbrev bare : List ((f : Formula) × Apart f) → List Formula
 bare ms = map (λ (e : (f : Formula) × Apart f). e.0) ms
 
@@ -104,11 +101,11 @@ is_apart : (f : Formula) → Apart f
 is_apart = ind-Formula Apart (λ x y is. on_layer y x is)
 
 -- the variables of parts, one part behind another: the y-th of them
-pick : (parts : List (Formula × Boxed)) (eoi : ℤ) → AllSolved eoi parts → ℕ → ℤ
+abbrev pick : (parts : List (Formula × Boxed)) (eoi : ℤ) → AllSolved eoi parts → ℕ → ℤ
 pick [] eoi h y = pos 0
 pick (part ∷ parts) eoi h y = if nat_lt y (own_variables part) then h.0.1.0 (suc y) else pick parts eoi h.1 (y - own_variables part)
 
-spread : (parts : List (Formula × Boxed)) (eoi : ℤ) → AllSolved eoi parts → Assignment
+abbrev spread : (parts : List (Formula × Boxed)) (eoi : ℤ) → AllSolved eoi parts → Assignment
 spread parts eoi h zero = eoi
 spread parts eoi h (suc y) = pick parts eoi h y
 
@@ -122,12 +119,10 @@ both : (a b : Bool) → a ≡ true → b ≡ true → a && b ≡ true
 both a b e f = rw (e, f) refl
 
 is_true : (b : Bool) → IsTrue b → b ≡ true
-is_true true h = refl
-is_true false h = absurd h
+is_true b h = h
 
 truly : (b : Bool) → b ≡ true → IsTrue b
-truly true e = tt
-truly false e = cc
+truly b e = e
 
 own_below : (n k : ℕ) → suc n < k → n < k - 1
 own_below n k h = omega arith
@@ -164,7 +159,7 @@ own_bound : (bounds : List (ℤ × ℤ)) (y : ℕ) → slice_get (drop 1 bounds)
 own_bound [] y = refl
 own_bound (b ∷ bounds) y = refl
 
-IsWithin : ℤ → ℤ × ℤ → Type 0
+abbrev IsWithin : ℤ → ℤ × ℤ → Type 0
 IsWithin z b = (b.0 ≤ℤ z) × (z ≤ℤ b.1)
 
 same_test : (y k : ℕ) → nat_lt y k ≡ nat_lt (suc y) (suc k)
