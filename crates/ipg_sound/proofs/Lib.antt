@@ -1,2 +1,4 @@
 pub mod Joints
 pub mod Numbering
+pub mod Whole
+pub mod Forms

@@ -1,4 +1,5 @@
 use Rattle.ipg_sound.proofs.Numbering as numbering
+use Rattle.ipg_sound.proofs.Forms as forms
 use Rattle.ipg_sound.proofs.laws.facts_solve.Goals as goal
 
 pub returns : goal.returns
