@@ -2,3 +2,5 @@ pub mod Joints
 pub mod Numbering
 pub mod Whole
 pub mod Forms
+pub mod Answers
+pub mod Relate

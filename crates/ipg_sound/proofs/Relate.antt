@@ -1,0 +1,112 @@
+-- What an expression is to the conditions holds of its value.
+use Rattle.std.proofs.Common.{◌≡◌, ℕ, zero, suc, ◌+◌, Bool, true, false, not, List, [], ◌∷◌, ◌++◌, refl, sym, ap, subst, ◌∙◌, arith, ℤ, pos, negsuc, neg_ℤ, ◌+ℤ◌, ◌*ℤ◌, ◌-ℤ◌, Option, Some, None, if◌then◌else◌, ◌⊎◌, inl, inr, nat_lt}
+use Rattle.std.specs.Prelude.{int_le, int_lt, ◌≤ℤ◌, ◌<ℤ◌, slice_get}
+use Rattle.std.specs.Ordering.{int_eq}
+use Rattle.std.proofs.lemmas.Int.{ints}
+use Rattle.std.proofs.Math.IntN.{*ℤ_comm}
+use Rattle.ipg_num.specs.Number.{limited as in_64_bits, flag, apply_of, negate_of}
+use Rattle.ipg_num.specs.declared.op.Op2.{Op2}
+use Rattle.ipg_num.specs.declared.op.Op2.TheVariants as ops
+use Rattle.ipg_num.specs.declared.op.Answer.{Answer}
+use Rattle.ipg_num.specs.declared.op.Answer.TheVariants.{Val, Fail, Range}
+use Rattle.ipg_core.specs.declared.grammar.CoreField.{CoreField}
+use Rattle.ipg_core.specs.declared.grammar.CoreField.TheVariants.{Attr, Start, End}
+use Rattle.ipg_core.specs.declared.grammar.Sym.{Sym}
+use Rattle.ipg_core.specs.declared.grammar.CoreExpr.{CoreExpr, map-CoreExpr, roll-CoreExpr, fold-roll-CoreExpr, ind-CoreExpr}
+use Rattle.ipg_core.specs.declared.grammar.CoreExpr.TheOpen.{CoreExpr-F}
+use Rattle.ipg_core.specs.Grammar.{name_at}
+use Rattle.ipg_core.specs.Environment.{Environment, value_at, done_at, items_so_far, seen, field_of_item}
+use Rattle.ipg_core.specs.Eval as core
+use Rattle.ipg_core.specs.Eval.{eval, on_value, found, is_zero, behind, greatest_end, limited_reading}
+use Rattle.ipg_facts.specs.declared.fact.Form.{Form}
+use Rattle.ipg_facts.specs.declared.fact.Fact.{Fact}
+use Rattle.ipg_facts.specs.declared.fact.Bounds.{Bounds}
+use Rattle.ipg_facts.specs.Key.{Key, whole, attribute, loop, field, value, holder_side, spell}
+use Rattle.ipg_facts.specs.Form.{variable, number, plus, minus, scaled, shifted, is_constant, mentioned, in_limits, leq, less, equal, differ, choice}
+use Rattle.ipg_facts.specs.Reading.{Scope, Reading, length_of, opaque, nought, plain, least_width, item_at, greatest_of, ranges, item_facts, inside, touching, after_facts, product, computed, limited, asserted, denied, reading, read}
+use Rattle.ipg_sound.specs.Valued.{Valuation}
+use Rattle.ipg_sound.proofs.Whole.{times_minus_one}
+use Rattle.ipg_sound.proofs.Forms.{AreSo, Stands, stands_at, stands_number, stands_variable, stands_plus, stands_minus, stands_scaled, stands_negated, stands_shifted, so_append, so_leq, so_less, so_equal, so_first, so_second, so_below, so_above}
+use Rattle.ipg_sound.proofs.Answers.{found_is, limited_is, Kept, kept, First, first_of, flag_is, not_true, not_false, eq_true, eq_false, lt_true, lt_false, le_true, le_false, not_zero, zero_is, minus_is}
+
+abbrev pub Sure : (CoreExpr → Type 0) → Type 0
+Sure P = (e : CoreExpr) × P e
+
+abbrev pub bare : {P : CoreExpr → Type 0} → CoreExpr-F (Sure P) → CoreExpr-F CoreExpr
+bare {P} y = map-CoreExpr (Sure P) CoreExpr (λ e. e.0) y
+
+pub induct : (P : CoreExpr → Type 0) → ((y : CoreExpr-F (Sure P)) → P (roll-CoreExpr (bare y))) → (e : CoreExpr) → P e
+induct P step = ind-CoreExpr P (λ x y is. subst (λ z. P (roll-CoreExpr z)) is (step y))
+
+-- what is known of an expression that has the value z
+pub record Knows (v : Valuation) (r : Reading) (z : ℤ) : Type 0 where
+  pub form : Stands v r.form z
+  pub holds : is_zero z ≡ false → AreSo v r.holds
+  pub fails : is_zero z ≡ true → AreSo v r.fails
+
+-- a number from 0 to the greatest
+abbrev pub IsRanged : Option ℕ → ℤ → Type 0
+IsRanged None z = Unit {0}
+IsRanged (Some n) z = (pos 0 ≤ℤ z) × (z ≤ℤ pos n)
+
+-- a field of an item
+abbrev pub IsItemField : Scope → ℕ → Option Sym → CoreField → ℤ → Type 0
+IsItemField scope eoi item (Attr a) z = IsRanged (greatest_of item (name_at scope.names a)) z
+IsItemField scope eoi item Start z = (pos 0 ≤ℤ z) × ((z +ℤ pos (least_width scope.marks item)) ≤ℤ pos eoi)
+IsItemField scope eoi item End z = (pos (least_width scope.marks item) ≤ℤ z) × (z ≤ℤ pos eoi)
+
+abbrev IsPlace : ℕ → ℕ → Type 0
+IsPlace eoi end = (pos 1 ≤ℤ pos end) × (pos end ≤ℤ pos eoi)
+
+-- where the items' greatest end is known, it is a place of the part; the bounds of an array each of whose items touches
+-- say whether there is one
+abbrev pub IsBehind : Valuation → ℕ → Option Bounds → Option ℕ → Type 0
+IsBehind v eoi None None = Unit {0}
+IsBehind v eoi None (Some end) = IsPlace eoi end
+IsBehind v eoi (Some bounds) None = (a b : ℤ) × Stands v bounds.first a × Stands v bounds.last b × (b ≤ℤ a)
+IsBehind v eoi (Some bounds) (Some end) = (a b : ℤ) × Stands v bounds.first a × Stands v bounds.last b × (a <ℤ b) × IsPlace eoi end
+
+-- variables have the values of what they stand for in an environment
+pub record Fits (v : Valuation) (scope : Scope) (env : Environment) : Type 0 where
+  pub length : v (whole scope.side) ≡ pos env.eoi
+  pub own : (a : ℕ) (z : ℤ) → value_at env.own a ≡ Some z → in_64_bits z ≡ Val z → v (attribute scope.side a) ≡ z
+  pub outer : (a : ℕ) (z : ℤ) → value_at env.outer a ≡ Some z → in_64_bits z ≡ Val z → v (attribute holder_side a) ≡ z
+  pub turn : (z : ℤ) → env.item ≡ Some z → in_64_bits z ≡ Val z → v (loop scope.side) ≡ z
+  pub results : (term : ℕ) (sym : Sym) (f : CoreField) (z : ℤ) → seen env.names sym f (done_at env.done term) ≡ Some z → in_64_bits z ≡ Val z → v (field scope.names scope.side term f) ≡ z
+  pub opaques : (e : CoreExpr) (z : ℤ) → eval e env ≡ Val z → v (value scope.side (read scope e).words) ≡ z
+  pub items : (term : ℕ) (f : CoreField) (i z : ℤ) → field_of_item env.names f (core.item_at (items_so_far (done_at env.done term)) i) ≡ Some z → IsItemField scope env.eoi (item_at scope term) f z
+  pub ends : (term : ℕ) → IsBehind v env.eoi (touching scope term) (greatest_end (items_so_far (done_at env.done term)))
+
+module _ (v : Valuation) where
+  stands_nought : Stands v nought (pos 0)
+  stands_nought = stands_number v (pos 0)
+
+  -- a form other than 0, and one that is 0
+  so_other : (a : Form) (z : ℤ) → Stands v a z → (z <ℤ pos 0) ⊎ (pos 0 <ℤ z) → AreSo v (differ a nought)
+  so_other a z s (inl h) = so_below v a nought z (pos 0) s stands_nought h
+  so_other a z s (inr h) = so_above v a nought z (pos 0) s stands_nought h
+
+  pub knows_plain : (words : List ℕ) (a : Form) (z : ℤ) → Stands v a z → Knows v (plain words a) z
+  unfolding plain
+  knows_plain words a z s = record {
+    form = s;
+    holds = λ e. so_other a z s (not_zero z e);
+    fails = λ e. so_equal v a nought z (pos 0) s stands_nought (zero_is z e);
+  }
+
+  stands_key : (key : Key) (fs : List Fact) (z : ℤ) → AreSo v fs → v key ≡ z → Stands v (variable key fs) z
+  stands_key key fs z h e = stands_at v (variable key fs) (v key) z e (stands_variable v key fs h)
+
+  stands_chosen : (b : Bool) (a o : Form) (z : ℤ) → Stands v a z → Stands v o z → Stands v (if b then a else o) z
+  stands_chosen true a o z s t = s
+  stands_chosen false a o z s t = t
+
+  -- a form, where there is one
+  abbrev StandsSome : Option Form → ℤ → Type 0
+  StandsSome None z = Unit {0}
+  StandsSome (Some a) z = Stands v a z
+
+  pub stands_limited : (scope : Scope) (words : List ℕ) (a : Option Form) (z : ℤ) → v (value scope.side words) ≡ z → StandsSome a z → Stands v (limited scope words a) z
+  unfolding limited
+  stands_limited scope words None z e s = stands_key (value scope.side words) [] z refl e
+  stands_limited scope words (Some a) z e s = stands_chosen (in_limits a) a _ z s (stands_key (value scope.side words) [] z refl e)
