@@ -1,5 +1,5 @@
 -- Forms that have a value, and the facts that they make.
-use Rattle.std.proofs.Common.{◌≡◌, ℕ, zero, suc, ◌+◌, Bool, true, false, not, ◌&&◌, ◌||◌, List, [], ◌∷◌, ◌++◌, map, refl, sym, ap, subst, ◌∙◌, arith, ℤ, pos, negsuc, ◌+ℤ◌, ◌*ℤ◌, ◌-ℤ◌, if◌then◌else◌}
+use Rattle.std.proofs.Common.{◌≡◌, ℕ, zero, suc, ◌+◌, Bool, true, false, not, ◌&&◌, ◌||◌, List, [], ◌∷◌, ◌++◌, map, length, refl, sym, ap, subst, ◌∙◌, arith, ℤ, pos, negsuc, ◌+ℤ◌, ◌*ℤ◌, ◌-ℤ◌, if◌then◌else◌}
 use Rattle.std.proofs.lemmas.Bool.Decides.{nat_tests}
 use Rattle.std.specs.Prelude.{nat_le, int_le, ◌≤ℤ◌, ◌<ℤ◌, bytes_eq, flat_map}
 use Rattle.std.specs.List.{filter, AllByRecursion}
@@ -13,7 +13,7 @@ use Rattle.ipg_facts.specs.declared.fact.Fact.{Fact, fold-roll-Fact}
 use Rattle.ipg_facts.specs.declared.fact.Fact.TheVariants as facts
 use Rattle.ipg_facts.specs.declared.fact.Fact.TheOpen.{Fact-F}
 use Rattle.ipg_facts.specs.Key.{Key}
-use Rattle.ipg_facts.specs.Form.{variable, number, add_part, add_parts, plus, minus, scaled, scaled_part, shifted, is_zero, counts, mentioned, in_limits, facts_of, bare, at_most_zero, leq, less, both_at_most_zero, is_nothing, equal, choice, differ}
+use Rattle.ipg_facts.specs.Form.{variable, number, add_part, add_parts, plus, minus, scaled, scaled_part, shifted, is_zero, counts, is_constant, mentioned, in_limits, facts_of, bare, at_most_zero, leq, less, both_at_most_zero, is_nothing, equal, choice, differ}
 use Rattle.ipg_sound.specs.Valued.{Valuation, sum_of, so_step, is_so, are_so}
 use Rattle.ipg_sound.proofs.Whole.{times_plus, scale, zero_times, one_times, times_minus_one}
 
@@ -239,3 +239,18 @@ module _ (v : Valuation) where
   pub so_above : (a b : Form) (x y : ℤ) → Stands a x → Stands b y → y <ℤ x → AreSo (differ a b)
   unfolding differ
   so_above a b x y s t h = so_second (less a b) (less b a) (so_less b a y x t s h)
+
+  none_left : (ps : List Part) → nat_le (length ps) 0 ≡ true → sum_of v (map (λ (p : Part). (p.key, p.factor)) ps) ≡ pos 0
+  none_left [] e = refl
+  none_left (p ∷ ps) e = absurd (no_less (length ps) e)
+
+  -- a form that mentions nothing has its constant's value
+  none_counted : (ps : List Part) → nat_le (length (filter counts ps)) 0 ≡ true → parts_sum ps ≡ pos 0
+  none_counted ps e = sym (sum_counted ps) ∙ none_left (filter counts ps) e
+
+  pub constant_value : (a : Form) (x : ℤ) → is_constant a ≡ true → Stands a x → a.constant ≡ x
+  unfolding is_constant mentioned
+  constant_value a x c s =
+      let e : parts_sum a.parts ≡ pos 0 = none_counted a.parts c in
+      let f : parts_sum a.parts +ℤ a.constant ≡ x = s.value in
+      omega (arith, ints)

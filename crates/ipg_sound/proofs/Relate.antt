@@ -26,7 +26,7 @@ use Rattle.ipg_facts.specs.Form.{variable, number, plus, minus, scaled, shifted,
 use Rattle.ipg_facts.specs.Reading.{Scope, Reading, length_of, opaque, nought, plain, least_width, item_at, greatest_of, ranges, item_facts, inside, touching, after_facts, product, computed, limited, asserted, denied, reading, read}
 use Rattle.ipg_sound.specs.Valued.{Valuation}
 use Rattle.ipg_sound.proofs.Whole.{times_minus_one}
-use Rattle.ipg_sound.proofs.Forms.{AreSo, Stands, stands_at, stands_number, stands_variable, stands_plus, stands_minus, stands_scaled, stands_negated, stands_shifted, so_append, so_leq, so_less, so_equal, so_first, so_second, so_below, so_above}
+use Rattle.ipg_sound.proofs.Forms.{AreSo, Stands, stands_at, stands_number, stands_variable, stands_plus, stands_minus, stands_scaled, stands_negated, stands_shifted, so_append, so_leq, so_less, so_equal, so_first, so_second, so_below, so_above, constant_value}
 use Rattle.ipg_sound.proofs.Answers.{found_is, limited_is, Kept, kept, First, first_of, flag_is, not_true, not_false, eq_true, eq_false, lt_true, lt_false, le_true, le_false, not_zero, zero_is, minus_is}
 
 abbrev pub Sure : (CoreExpr → Type 0) → Type 0
@@ -110,3 +110,109 @@ module _ (v : Valuation) where
   unfolding limited
   stands_limited scope words None z e s = stands_key (value scope.side words) [] z refl e
   stands_limited scope words (Some a) z e s = stands_chosen (in_limits a) a _ z s (stands_key (value scope.side words) [] z refl e)
+
+  -- a form without variables has its constant's value
+  constant_is : (a : Form) (x : ℤ) → is_constant a ≡ true → Stands v a x → a.constant ≡ x
+  constant_is a x c s = constant_value v a x c s
+
+  product_chosen : (p q : Bool) (a b : Form) (x y z : ℤ) → is_constant a ≡ p → is_constant b ≡ q → Stands v a x → Stands v b y → x *ℤ y ≡ z
+      → StandsSome (if p then Some (scaled a.constant b) else if q then Some (scaled b.constant a) else None) z
+  product_chosen true q a b x y z e f s t h =
+      stands_at v (scaled a.constant b) (y *ℤ a.constant) z (ap (λ k. y *ℤ k) (constant_is a x e s) ∙ *ℤ_comm y x ∙ h) (stands_scaled v a.constant b y t)
+  product_chosen false true a b x y z e f s t h =
+      stands_at v (scaled b.constant a) (x *ℤ b.constant) z (ap (λ k. x *ℤ k) (constant_is b y f t) ∙ h) (stands_scaled v b.constant a x s)
+  product_chosen false false a b x y z e f s t h = tt
+
+  stands_product : (a b : Form) (x y z : ℤ) → Stands v a x → Stands v b y → x *ℤ y ≡ z → StandsSome (product a b) z
+  unfolding product
+  stands_product a b x y z s t h = product_chosen (is_constant a) (is_constant b) a b x y z refl refl s t h
+
+  -- an operator's value, where its form is computed
+  stands_computed : (op : Op2) (a b : Form) (x y z : ℤ) → apply_of op x y ≡ Val z → Stands v a x → Stands v b y → StandsSome (computed op a b) z
+  unfolding computed
+  stands_computed ops.Add a b x y z e s t = stands_at v (plus a b) (x +ℤ y) z (limited_is _ z e) (stands_plus v a b x y s t)
+  stands_computed ops.Sub a b x y z e s t = stands_at v (minus a b) (x -ℤ y) z (limited_is _ z e) (stands_minus v a b x y s t)
+  stands_computed ops.Mul a b x y z e s t = stands_product a b x y z s t (limited_is _ z e)
+  stands_computed ops.Div a b x y z e s t = tt
+  stands_computed ops.Mod a b x y z e s t = tt
+  stands_computed ops.Shl a b x y z e s t = tt
+  stands_computed ops.Shr a b x y z e s t = tt
+  stands_computed ops.BitAnd a b x y z e s t = tt
+  stands_computed ops.BitOr a b x y z e s t = tt
+  stands_computed ops.BitXor a b x y z e s t = tt
+  stands_computed ops.Eq a b x y z e s t = tt
+  stands_computed ops.Ne a b x y z e s t = tt
+  stands_computed ops.Lt a b x y z e s t = tt
+  stands_computed ops.Le a b x y z e s t = tt
+  stands_computed ops.Gt a b x y z e s t = tt
+  stands_computed ops.Ge a b x y z e s t = tt
+
+  -- what two forms are to one another
+  module _ (a b : Form) (x y : ℤ) (s : Stands v a x) (t : Stands v b y) where
+    when_equal : int_eq x y ≡ true → AreSo v (equal a b)
+    when_equal e = so_equal v a b x y s t (eq_true x y e)
+
+    apart_so : (x <ℤ y) ⊎ (y <ℤ x) → AreSo v (differ a b)
+    apart_so (inl h) = so_below v a b x y s t h
+    apart_so (inr h) = so_above v a b x y s t h
+
+    when_apart : int_eq x y ≡ false → AreSo v (differ a b)
+    when_apart e = apart_so (eq_false x y e)
+
+    when_less : int_lt x y ≡ true → AreSo v (less a b)
+    when_less e = so_less v a b x y s t (lt_true x y e)
+
+    when_not_less : int_lt x y ≡ false → AreSo v (leq b a)
+    when_not_less e = so_leq v b a y x t s (lt_false x y e)
+
+    when_leq : int_le x y ≡ true → AreSo v (leq a b)
+    when_leq e = so_leq v a b x y s t (le_true x y e)
+
+    when_above : int_le x y ≡ false → AreSo v (less b a)
+    when_above e = so_less v b a y x t s (le_false x y e)
+
+  not_not : (b : Bool) → not (not b) ≡ b
+  not_not true = refl
+  not_not false = refl
+
+  -- an operator's value that isn't 0
+  so_asserted : (op : Op2) (a b e : Form) (x y z : ℤ) → apply_of op x y ≡ Val z → Stands v a x → Stands v b y → Stands v e z → is_zero z ≡ false → AreSo v (asserted op a b e)
+  unfolding asserted
+  so_asserted ops.Eq a b e x y z f s t u h = when_equal a b x y s t (not_false _ (int_eq x y) (flag_is (int_eq x y) z f) h)
+  so_asserted ops.Ne a b e x y z f s t u h = when_apart a b x y s t (sym (not_not (int_eq x y)) ∙ sym (flag_is (not (int_eq x y)) z f) ∙ h)
+  so_asserted ops.Lt a b e x y z f s t u h = when_less a b x y s t (not_false _ (int_lt x y) (flag_is (int_lt x y) z f) h)
+  so_asserted ops.Le a b e x y z f s t u h = when_leq a b x y s t (not_false _ (int_le x y) (flag_is (int_le x y) z f) h)
+  so_asserted ops.Gt a b e x y z f s t u h = when_less b a y x t s (not_false _ (int_lt y x) (flag_is (int_lt y x) z f) h)
+  so_asserted ops.Ge a b e x y z f s t u h = when_leq b a y x t s (not_false _ (int_le y x) (flag_is (int_le y x) z f) h)
+  so_asserted ops.Add a b e x y z f s t u h = so_other e z u (not_zero z h)
+  so_asserted ops.Sub a b e x y z f s t u h = so_other e z u (not_zero z h)
+  so_asserted ops.Mul a b e x y z f s t u h = so_other e z u (not_zero z h)
+  so_asserted ops.Div a b e x y z f s t u h = so_other e z u (not_zero z h)
+  so_asserted ops.Mod a b e x y z f s t u h = so_other e z u (not_zero z h)
+  so_asserted ops.Shl a b e x y z f s t u h = so_other e z u (not_zero z h)
+  so_asserted ops.Shr a b e x y z f s t u h = so_other e z u (not_zero z h)
+  so_asserted ops.BitAnd a b e x y z f s t u h = so_other e z u (not_zero z h)
+  so_asserted ops.BitOr a b e x y z f s t u h = so_other e z u (not_zero z h)
+  so_asserted ops.BitXor a b e x y z f s t u h = so_other e z u (not_zero z h)
+
+  so_nought : (e : Form) (z : ℤ) → Stands v e z → is_zero z ≡ true → AreSo v (equal e nought)
+  so_nought e z u h = so_equal v e nought z (pos 0) u stands_nought (zero_is z h)
+
+  so_denied : (op : Op2) (a b e : Form) (x y z : ℤ) → apply_of op x y ≡ Val z → Stands v a x → Stands v b y → Stands v e z → is_zero z ≡ true → AreSo v (denied op a b e)
+  unfolding denied
+  so_denied ops.Eq a b e x y z f s t u h = when_apart a b x y s t (not_true _ (int_eq x y) (flag_is (int_eq x y) z f) h)
+  so_denied ops.Ne a b e x y z f s t u h = when_equal a b x y s t (sym (not_not (int_eq x y)) ∙ sym (flag_is (not (int_eq x y)) z f) ∙ h)
+  so_denied ops.Lt a b e x y z f s t u h = when_not_less a b x y s t (not_true _ (int_lt x y) (flag_is (int_lt x y) z f) h)
+  so_denied ops.Le a b e x y z f s t u h = when_above a b x y s t (not_true _ (int_le x y) (flag_is (int_le x y) z f) h)
+  so_denied ops.Gt a b e x y z f s t u h = when_not_less b a y x t s (not_true _ (int_lt y x) (flag_is (int_lt y x) z f) h)
+  so_denied ops.Ge a b e x y z f s t u h = when_above b a y x t s (not_true _ (int_le y x) (flag_is (int_le y x) z f) h)
+  so_denied ops.Add a b e x y z f s t u h = so_nought e z u h
+  so_denied ops.Sub a b e x y z f s t u h = so_nought e z u h
+  so_denied ops.Mul a b e x y z f s t u h = so_nought e z u h
+  so_denied ops.Div a b e x y z f s t u h = so_nought e z u h
+  so_denied ops.Mod a b e x y z f s t u h = so_nought e z u h
+  so_denied ops.Shl a b e x y z f s t u h = so_nought e z u h
+  so_denied ops.Shr a b e x y z f s t u h = so_nought e z u h
+  so_denied ops.BitAnd a b e x y z f s t u h = so_nought e z u h
+  so_denied ops.BitOr a b e x y z f s t u h = so_nought e z u h
+  so_denied ops.BitXor a b e x y z f s t u h = so_nought e z u h
