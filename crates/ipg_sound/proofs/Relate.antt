@@ -77,6 +77,9 @@ pub record Fits (v : Valuation) (scope : Scope) (env : Environment) : Type 0 whe
   pub items : (term : ℕ) (f : CoreField) (i z : ℤ) → field_of_item env.names f (core.item_at (items_so_far (done_at env.done term)) i) ≡ Some z → IsItemField scope env.eoi (item_at scope term) f z
   pub ends : (term : ℕ) → IsBehind v env.eoi (touching scope term) (greatest_end (items_so_far (done_at env.done term)))
 
+differs : (b : Bool) → b ≡ true → b ≡ false → ⊥
+differs b e f = cc
+
 module _ (v : Valuation) where
   stands_nought : Stands v nought (pos 0)
   stands_nought = stands_number v (pos 0)
@@ -216,3 +219,145 @@ module _ (v : Valuation) where
   so_denied ops.BitAnd a b e x y z f s t u h = so_nought e z u h
   so_denied ops.BitOr a b e x y z f s t u h = so_nought e z u h
   so_denied ops.BitXor a b e x y z f s t u h = so_nought e z u h
+
+  so_ranges : (a : Form) (most : Option ℕ) (z : ℤ) → Stands v a z → IsRanged most z → AreSo v (ranges a most)
+  unfolding ranges
+  so_ranges a None z s h = refl
+  so_ranges a (Some n) z s h =
+      so_append v (leq nought a) (leq a (number (pos n))) (so_leq v nought a (pos 0) z stands_nought s h.0) (so_leq v a (number (pos n)) z (pos n) s (stands_number v (pos n)) h.1)
+
+  module _ (scope : Scope) (env : Environment) (fits : Fits v scope env) where
+    stands_length : Stands v (length_of scope) (pos env.eoi)
+    stands_length = stands_key (whole scope.side) [] (pos env.eoi) refl fits.length
+
+    stands_opaque : (words : List ℕ) (z : ℤ) → v (value scope.side words) ≡ z → Stands v (opaque scope words) z
+    stands_opaque words z e = stands_key (value scope.side words) [] z refl e
+
+    so_item : (item : Option Sym) (f : CoreField) (a : Form) (z : ℤ) → Stands v a z → IsItemField scope env.eoi item f z → AreSo v (item_facts scope item f a)
+    unfolding item_facts
+    so_item item (Attr b) a z s h = so_ranges a (greatest_of item (name_at scope.names b)) z s h
+    so_item item Start a z s h =
+        let w : ℤ = pos (least_width scope.marks item) in
+        so_append v (leq nought a) (leq (shifted a w) (length_of scope)) (so_leq v nought a (pos 0) z stands_nought s h.0)
+          (so_leq v (shifted a w) (length_of scope) (z +ℤ w) (pos env.eoi) (stands_shifted v a w z s) stands_length h.1)
+    so_item item End a z s h =
+        let w : ℤ = pos (least_width scope.marks item) in
+        so_append v (leq (number w) a) (leq a (length_of scope)) (so_leq v (number w) a w z (stands_number v w) s h.0)
+          (so_leq v a (length_of scope) z (pos env.eoi) s stands_length h.1)
+
+    so_inside : (a : Form) (end : ℕ) → Stands v a (pos end) → IsPlace env.eoi end → AreSo v (inside scope a)
+    unfolding inside
+    so_inside a end s h =
+        so_append v (leq (number (pos 1)) a) (leq a (length_of scope)) (so_leq v (number (pos 1)) a (pos 1) (pos end) (stands_number v (pos 1)) s h.0)
+          (so_leq v a (length_of scope) (pos end) (pos env.eoi) s stands_length h.1)
+
+    -- the place behind items: the greatest end, else that of `left`
+    so_after : (bounds : Option Bounds) (found : Option ℕ) (a left : Form) (answer : Answer) (z : ℤ) → IsBehind v env.eoi bounds found → behind found answer ≡ Val z → Stands v a z
+        → (answer ≡ Val z → Stands v left z) → AreSo v (after_facts scope bounds a left)
+    unfolding after_facts
+    so_after None None a left answer z h e s l = so_second v (inside scope a) (equal a left) (so_equal v a left z z s (l e) refl)
+    so_after None (Some end) a left answer z h e s l =
+        let f : z ≡ pos end = cc in so_first v (inside scope a) (equal a left) (so_inside a end (stands_at v a z (pos end) f s) h)
+    so_after (Some bounds) None a left answer z h e s l =
+        so_second v (less bounds.first bounds.last ++ inside scope a) (leq bounds.last bounds.first ++ equal a left)
+          (so_append v (leq bounds.last bounds.first) (equal a left) (so_leq v bounds.last bounds.first h.1 h.0 h.3 h.2 h.4) (so_equal v a left z z s (l e) refl))
+    so_after (Some bounds) (Some end) a left answer z h e s l =
+        let f : z ≡ pos end = cc in
+        so_first v (less bounds.first bounds.last ++ inside scope a) (leq bounds.last bounds.first ++ equal a left)
+          (so_append v (less bounds.first bounds.last) (inside scope a) (so_less v bounds.first bounds.last h.0 h.1 h.2 h.3 h.4) (so_inside a end (stands_at v a z (pos end) f s) h.5))
+
+    -- an expression that has a value is known
+    abbrev IsKnown : CoreExpr → Type 0
+    IsKnown e = (z : ℤ) → eval e env ≡ Val z → Knows v (read scope e) z
+
+    abbrev readings : CoreExpr-F (Sure IsKnown) → CoreExpr-F Reading
+    readings y = map-CoreExpr CoreExpr Reading (read scope) (bare y)
+
+    abbrev evals : CoreExpr-F (Sure IsKnown) → CoreExpr-F core.Reading
+    evals y = map-CoreExpr CoreExpr core.Reading eval (bare y)
+
+    knows_negated : (a : Form) (words : List ℕ) (x z : ℤ) → negate_of x ≡ Val z → Stands v a x → v (value scope.side words) ≡ z → Knows v (plain words (limited scope words (Some (scaled (negsuc 0) a)))) z
+    knows_negated a words x z e s h =
+        knows_plain words (limited scope words (Some (scaled (negsuc 0) a))) z
+          (stands_limited scope words (Some (scaled (negsuc 0) a)) z h (stands_at v (scaled (negsuc 0) a) (pos 0 -ℤ x) z (minus_is x ∙ limited_is (neg_ℤ x) z e) (stands_negated v a x s)))
+
+    knows_not : (r : Reading) (words : List ℕ) (x z : ℤ) → flag (is_zero x) ≡ Val z → Knows v r x → v (value scope.side words) ≡ z
+        → Knows v (record { words = words; form = opaque scope words; holds = r.fails; fails = r.holds }) z
+    knows_not r words x z e k h = record {
+      form = stands_opaque words z h;
+      holds = λ f. k.fails (not_false (is_zero z) (is_zero x) (flag_is (is_zero x) z e) f);
+      fails = λ f. k.holds (not_true (is_zero z) (is_zero x) (flag_is (is_zero x) z e) f);
+    }
+
+    knows_two : (op : Op2) (a b : Reading) (words : List ℕ) (x y z : ℤ) → apply_of op x y ≡ Val z → Knows v a x → Knows v b y → v (value scope.side words) ≡ z
+        → (let form = limited scope words (computed op a.form b.form) in Knows v (record { words = words; form = form; holds = asserted op a.form b.form form; fails = denied op a.form b.form form }) z)
+    knows_two op a b words x y z e k l h =
+        let form : Form = limited scope words (computed op a.form b.form) in
+        let s : Stands v form z = stands_limited scope words (computed op a.form b.form) z h (stands_computed op a.form b.form x y z e k.form l.form) in
+        record { form = s; holds = so_asserted op a.form b.form form x y z e k.form l.form s; fails = so_denied op a.form b.form form x y z e k.form l.form s }
+
+    -- of two conditions both: the second is evaluated where the first isn't 0
+    both_on : (zero : Bool) (a b : Reading) (rest : Answer) (words : List ℕ) (x z : ℤ) → is_zero x ≡ zero → Knows v a x
+        → (if zero then flag false else on_value rest (λ y. flag (not (is_zero y)))) ≡ Val z → ((y : ℤ) → rest ≡ Val y → Knows v b y) → v (value scope.side words) ≡ z
+        → Knows v (record { words = words; form = opaque scope words; holds = a.holds ++ b.holds; fails = choice a.fails (a.holds ++ b.fails) }) z
+    both_on true a b rest words x z f k e l h = record {
+      form = stands_opaque words z h;
+      holds = λ g. (let t : is_zero z ≡ true = flag_is false z e in absurd (differs (is_zero z) t g));
+      fails = λ g. so_first v a.fails (a.holds ++ b.fails) (k.fails f);
+    }
+    both_on false a b rest words x z f k e l h =
+        let y = first_of rest (λ y. flag (not (is_zero y))) z e in
+        let same : is_zero z ≡ is_zero y.first = flag_is (not (is_zero y.first)) z y.goes ∙ not_not (is_zero y.first) in
+        let m = l y.first y.is in
+        record {
+          form = stands_opaque words z h;
+          holds = λ g. so_append v a.holds b.holds (k.holds f) (m.holds (sym same ∙ g));
+          fails = λ g. so_second v a.fails (a.holds ++ b.fails) (so_append v a.holds b.fails (k.holds f) (m.fails (sym same ∙ g)));
+        }
+
+    either_on : (zero : Bool) (a b : Reading) (rest : Answer) (words : List ℕ) (x z : ℤ) → is_zero x ≡ zero → Knows v a x
+        → (if zero then on_value rest (λ y. flag (not (is_zero y))) else flag true) ≡ Val z → ((y : ℤ) → rest ≡ Val y → Knows v b y) → v (value scope.side words) ≡ z
+        → Knows v (record { words = words; form = opaque scope words; holds = choice a.holds (a.fails ++ b.holds); fails = a.fails ++ b.fails }) z
+    either_on false a b rest words x z f k e l h = record {
+      form = stands_opaque words z h;
+      holds = λ g. so_first v a.holds (a.fails ++ b.holds) (k.holds f);
+      fails = λ g. (let t : is_zero z ≡ false = flag_is true z e in absurd (differs (is_zero z) g t));
+    }
+    either_on true a b rest words x z f k e l h =
+        let y = first_of rest (λ y. flag (not (is_zero y))) z e in
+        let same : is_zero z ≡ is_zero y.first = flag_is (not (is_zero y.first)) z y.goes ∙ not_not (is_zero y.first) in
+        let m = l y.first y.is in
+        record {
+          form = stands_opaque words z h;
+          holds = λ g. so_second v a.holds (a.fails ++ b.holds) (so_append v a.fails b.holds (k.fails f) (m.holds (sym same ∙ g)));
+          fails = λ g. so_append v a.fails b.fails (k.fails f) (m.fails (sym same ∙ g));
+        }
+
+    abbrev conditional : List ℕ → Reading → Reading → Reading → Reading
+    conditional words c a b = record {
+      words = words;
+      form = variable (value scope.side words) (choice (c.holds ++ equal (opaque scope words) a.form) (c.fails ++ equal (opaque scope words) b.form));
+      holds = choice (c.holds ++ a.holds) (c.fails ++ b.holds);
+      fails = choice (c.holds ++ a.fails) (c.fails ++ b.fails);
+    }
+
+    cond_on : (zero : Bool) (c a b : Reading) (one two : Answer) (words : List ℕ) (x z : ℤ) → is_zero x ≡ zero → Knows v c x
+        → (if zero then two else one) ≡ Val z → (one ≡ Val z → Knows v a z) → (two ≡ Val z → Knows v b z) → v (value scope.side words) ≡ z → Knows v (conditional words c a b) z
+    cond_on false c a b one two words x z f k e l m h =
+        let t = l e in
+        record {
+          form = stands_key (value scope.side words) _ z
+            (so_first v (c.holds ++ equal (opaque scope words) a.form) (c.fails ++ equal (opaque scope words) b.form)
+              (so_append v c.holds (equal (opaque scope words) a.form) (k.holds f) (so_equal v (opaque scope words) a.form z z (stands_opaque words z h) t.form refl))) h;
+          holds = λ g. so_first v (c.holds ++ a.holds) (c.fails ++ b.holds) (so_append v c.holds a.holds (k.holds f) (t.holds g));
+          fails = λ g. so_first v (c.holds ++ a.fails) (c.fails ++ b.fails) (so_append v c.holds a.fails (k.holds f) (t.fails g));
+        }
+    cond_on true c a b one two words x z f k e l m h =
+        let t = m e in
+        record {
+          form = stands_key (value scope.side words) _ z
+            (so_second v (c.holds ++ equal (opaque scope words) a.form) (c.fails ++ equal (opaque scope words) b.form)
+              (so_append v c.fails (equal (opaque scope words) b.form) (k.fails f) (so_equal v (opaque scope words) b.form z z (stands_opaque words z h) t.form refl))) h;
+          holds = λ g. so_second v (c.holds ++ a.holds) (c.fails ++ b.holds) (so_append v c.fails b.holds (k.fails f) (t.holds g));
+          fails = λ g. so_second v (c.holds ++ a.fails) (c.fails ++ b.fails) (so_append v c.fails b.fails (k.fails f) (t.fails g));
+        }
