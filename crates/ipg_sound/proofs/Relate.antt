@@ -361,3 +361,51 @@ module _ (v : Valuation) where
           holds = λ g. so_second v (c.holds ++ a.holds) (c.fails ++ b.holds) (so_append v c.fails b.holds (k.fails f) (t.holds g));
           fails = λ g. so_second v (c.holds ++ a.fails) (c.fails ++ b.fails) (so_append v c.fails b.fails (k.fails f) (t.fails g));
         }
+
+    -- one level of an expression
+    layer : (y : CoreExpr-F (Sure IsKnown)) (z : ℤ) → Kept (core.reading (evals y) env) z → v (value scope.side (reading scope (readings y)).words) ≡ z
+        → Knows v (reading scope (readings y)) z
+    unfolding reading plain
+    layer (CoreExpr-F.Num n) z k h = knows_plain _ (number n) z (stands_at v (number n) n z (let e : Val n ≡ Val z = k.is in cc) (stands_number v n))
+    layer CoreExpr-F.Eoi z k h = knows_plain _ (length_of scope) z (stands_at v (length_of scope) (pos env.eoi) z (let e : Val (pos env.eoi) ≡ Val z = k.is in cc) stands_length)
+    layer (CoreExpr-F.Own a) z k h = knows_plain _ _ z (stands_key (attribute scope.side a) [] z refl (fits.own a z (found_is _ z k.is) k.number))
+    layer (CoreExpr-F.Outer a) z k h = knows_plain _ _ z (stands_key (attribute holder_side a) [] z refl (fits.outer a z (found_is _ z k.is) k.number))
+    layer CoreExpr-F.Loop z k h = knows_plain _ _ z (stands_key (loop scope.side) [] z refl (fits.turn z (found_is _ z k.is) k.number))
+    layer (CoreExpr-F.Seen term sym f) z k h = knows_plain _ _ z (stands_key (field scope.names scope.side term f) [] z refl (fits.results term sym f z (found_is _ z k.is) k.number))
+    layer (CoreExpr-F.Item term index f) z k h =
+        let i = first_of (eval index.0 env) (λ i. found (field_of_item env.names f (core.item_at (items_so_far (done_at env.done term)) i))) z k.is in
+        knows_plain _ _ z (stands_key _ _ z (so_item (item_at scope term) f _ z (stands_opaque _ z h) (fits.items term f i.first z (found_is _ z i.goes))) h)
+    layer (CoreExpr-F.After term left) z k h =
+        knows_plain _ _ z (stands_key _ _ z
+          (so_after (touching scope term) (greatest_end (items_so_far (done_at env.done term))) _ (read scope left.0).form (eval left.0 env) z (fits.ends term) k.is (stands_opaque _ z h) (λ e. (left.1 z e).form)) h)
+    layer (CoreExpr-F.Neg a) z k h =
+        let x = first_of (eval a.0 env) negate_of z k.is in
+        knows_negated (read scope a.0).form _ x.first z x.goes (a.1 x.first x.is).form h
+    layer (CoreExpr-F.Not a) z k h =
+        let x = first_of (eval a.0 env) (λ x. flag (is_zero x)) z k.is in
+        knows_not (read scope a.0) _ x.first z x.goes (a.1 x.first x.is) h
+    layer (CoreExpr-F.Two op a b) z k h =
+        let x = first_of (eval a.0 env) (λ x. on_value (eval b.0 env) (λ y. apply_of op x y)) z k.is in
+        let y = first_of (eval b.0 env) (λ y. apply_of op x.first y) z x.goes in
+        knows_two op (read scope a.0) (read scope b.0) _ x.first y.first z y.goes (a.1 x.first x.is) (b.1 y.first y.is) h
+    layer (CoreExpr-F.Both a b) z k h =
+        let x = first_of (eval a.0 env) (λ x. if is_zero x then flag false else on_value (eval b.0 env) (λ y. flag (not (is_zero y)))) z k.is in
+        both_on (is_zero x.first) (read scope a.0) (read scope b.0) (eval b.0 env) _ x.first z refl (a.1 x.first x.is) x.goes b.1 h
+    layer (CoreExpr-F.Either a b) z k h =
+        let x = first_of (eval a.0 env) (λ x. if is_zero x then on_value (eval b.0 env) (λ y. flag (not (is_zero y))) else flag true) z k.is in
+        either_on (is_zero x.first) (read scope a.0) (read scope b.0) (eval b.0 env) _ x.first z refl (a.1 x.first x.is) x.goes b.1 h
+    layer (CoreExpr-F.Cond c a b) z k h =
+        let x = first_of (eval c.0 env) (λ x. if is_zero x then eval b.0 env else eval a.0 env) z k.is in
+        cond_on (is_zero x.first) (read scope c.0) (read scope a.0) (read scope b.0) (eval a.0 env) (eval b.0 env) _ x.first z refl (c.1 x.first x.is) x.goes (a.1 z) (b.1 z) h
+
+    rolled : (y : CoreExpr-F (Sure IsKnown)) → IsKnown (roll-CoreExpr (bare y))
+    unfolding read eval
+    rolled y z e =
+        let made : read scope (roll-CoreExpr (bare y)) ≡ reading scope (readings y) = fold-roll-CoreExpr Reading (reading scope) (bare y) in
+        let valued : eval (roll-CoreExpr (bare y)) env ≡ limited_reading (evals y) env = ap (λ f. f env) (fold-roll-CoreExpr core.Reading limited_reading (bare y)) in
+        subst (λ r. Knows v r z) (sym made)
+          (layer y z (kept (core.reading (evals y) env) z (sym valued ∙ e))
+            (ap (λ (r : Reading). v (value scope.side r.words)) (sym made) ∙ fits.opaques (roll-CoreExpr (bare y)) z e))
+
+    pub known : (e : CoreExpr) → IsKnown e
+    known = induct IsKnown rolled
