@@ -4,3 +4,4 @@ pub mod Whole
 pub mod Forms
 pub mod Answers
 pub mod Relate
+pub mod Rebuild
