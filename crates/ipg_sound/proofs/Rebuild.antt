@@ -14,6 +14,7 @@ use Rattle.ipg_core.specs.declared.grammar.CoreExpr.TheOpen.{CoreExpr-F}
 use Rattle.ipg_core.specs.Grammar.{primitive_number}
 use Rattle.ipg_facts.specs.Key.{spell, word, operator_number, spelled_number, spelled_field, spelled_byte, spelled_sym}
 use Rattle.ipg_facts.specs.Reading.{Scope, Reading, plain, reading, read}
+use Rattle.ipg_sound.specs.Laws.{SpellingsDiffer}
 use Rattle.ipg_sound.proofs.Relate.{Sure, bare, induct}
 
 -- what has been read of a spelling: expressions, the bytes of a text, a symbol
@@ -218,3 +219,7 @@ pub rebuilt_is : (scope : Scope) (e : CoreExpr) → rebuilt (read scope e).words
 unfolding rebuilt run
 rebuilt_is scope e =
     ap (λ ws. top (run ws (clean [])).stack) (sym (append-nil (read scope e).words)) ∙ ap (λ (r : Read). top r.stack) (rebuilds scope e [] [])
+
+pub spellings_differ : SpellingsDiffer
+spellings_differ scope e f same =
+    let both : Some e ≡ Some f = sym (rebuilt_is scope e) ∙ ap rebuilt same ∙ rebuilt_is scope f in cc

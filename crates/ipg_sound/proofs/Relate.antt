@@ -26,7 +26,9 @@ use Rattle.ipg_facts.specs.Form.{variable, number, plus, minus, scaled, shifted,
 use Rattle.ipg_facts.specs.Reading.{Scope, Reading, length_of, opaque, nought, plain, least_width, item_at, greatest_of, ranges, item_facts, inside, touching, after_facts, product, computed, limited, asserted, denied, reading, read}
 use Rattle.ipg_sound.specs.Valued.{Valuation}
 use Rattle.ipg_sound.proofs.Whole.{times_minus_one}
-use Rattle.ipg_sound.proofs.Forms.{AreSo, Stands, stands_at, stands_number, stands_variable, stands_plus, stands_minus, stands_scaled, stands_negated, stands_shifted, so_append, so_leq, so_less, so_equal, so_first, so_second, so_below, so_above, constant_value}
+use Rattle.ipg_sound.specs.Known.{AreSo, Stands, Knows, IsRanged, IsItemField, IsPlace, IsBehind, Fits}
+use Rattle.ipg_sound.specs.Laws.{ValuesAreKnown}
+use Rattle.ipg_sound.proofs.Forms.{stands_at, stands_number, stands_variable, stands_plus, stands_minus, stands_scaled, stands_negated, stands_shifted, so_append, so_leq, so_less, so_equal, so_first, so_second, so_below, so_above, constant_value}
 use Rattle.ipg_sound.proofs.Answers.{found_is, limited_is, Kept, kept, First, first_of, flag_is, not_true, not_false, eq_true, eq_false, lt_true, lt_false, le_true, le_false, not_zero, zero_is, minus_is}
 
 abbrev pub Sure : (CoreExpr → Type 0) → Type 0
@@ -37,45 +39,6 @@ bare {P} y = map-CoreExpr (Sure P) CoreExpr (λ e. e.0) y
 
 pub induct : (P : CoreExpr → Type 0) → ((y : CoreExpr-F (Sure P)) → P (roll-CoreExpr (bare y))) → (e : CoreExpr) → P e
 induct P step = ind-CoreExpr P (λ x y is. subst (λ z. P (roll-CoreExpr z)) is (step y))
-
--- what is known of an expression that has the value z
-pub record Knows (v : Valuation) (r : Reading) (z : ℤ) : Type 0 where
-  pub form : Stands v r.form z
-  pub holds : is_zero z ≡ false → AreSo v r.holds
-  pub fails : is_zero z ≡ true → AreSo v r.fails
-
--- a number from 0 to the greatest
-abbrev pub IsRanged : Option ℕ → ℤ → Type 0
-IsRanged None z = Unit {0}
-IsRanged (Some n) z = (pos 0 ≤ℤ z) × (z ≤ℤ pos n)
-
--- a field of an item
-abbrev pub IsItemField : Scope → ℕ → Option Sym → CoreField → ℤ → Type 0
-IsItemField scope eoi item (Attr a) z = IsRanged (greatest_of item (name_at scope.names a)) z
-IsItemField scope eoi item Start z = (pos 0 ≤ℤ z) × ((z +ℤ pos (least_width scope.marks item)) ≤ℤ pos eoi)
-IsItemField scope eoi item End z = (pos (least_width scope.marks item) ≤ℤ z) × (z ≤ℤ pos eoi)
-
-abbrev IsPlace : ℕ → ℕ → Type 0
-IsPlace eoi end = (pos 1 ≤ℤ pos end) × (pos end ≤ℤ pos eoi)
-
--- where the items' greatest end is known, it is a place of the part; the bounds of an array each of whose items touches
--- say whether there is one
-abbrev pub IsBehind : Valuation → ℕ → Option Bounds → Option ℕ → Type 0
-IsBehind v eoi None None = Unit {0}
-IsBehind v eoi None (Some end) = IsPlace eoi end
-IsBehind v eoi (Some bounds) None = (a b : ℤ) × Stands v bounds.first a × Stands v bounds.last b × (b ≤ℤ a)
-IsBehind v eoi (Some bounds) (Some end) = (a b : ℤ) × Stands v bounds.first a × Stands v bounds.last b × (a <ℤ b) × IsPlace eoi end
-
--- variables have the values of what they stand for in an environment
-pub record Fits (v : Valuation) (scope : Scope) (env : Environment) : Type 0 where
-  pub length : v (whole scope.side) ≡ pos env.eoi
-  pub own : (a : ℕ) (z : ℤ) → value_at env.own a ≡ Some z → in_64_bits z ≡ Val z → v (attribute scope.side a) ≡ z
-  pub outer : (a : ℕ) (z : ℤ) → value_at env.outer a ≡ Some z → in_64_bits z ≡ Val z → v (attribute holder_side a) ≡ z
-  pub turn : (z : ℤ) → env.item ≡ Some z → in_64_bits z ≡ Val z → v (loop scope.side) ≡ z
-  pub results : (term : ℕ) (sym : Sym) (f : CoreField) (z : ℤ) → seen env.names sym f (done_at env.done term) ≡ Some z → in_64_bits z ≡ Val z → v (field scope.names scope.side term f) ≡ z
-  pub opaques : (e : CoreExpr) (z : ℤ) → eval e env ≡ Val z → v (value scope.side (read scope e).words) ≡ z
-  pub items : (term : ℕ) (f : CoreField) (i z : ℤ) → field_of_item env.names f (core.item_at (items_so_far (done_at env.done term)) i) ≡ Some z → IsItemField scope env.eoi (item_at scope term) f z
-  pub ends : (term : ℕ) → IsBehind v env.eoi (touching scope term) (greatest_end (items_so_far (done_at env.done term)))
 
 differs : (b : Bool) → b ≡ true → b ≡ false → ⊥
 differs b e f = cc
@@ -409,3 +372,6 @@ module _ (v : Valuation) where
 
     pub known : (e : CoreExpr) → IsKnown e
     known = induct IsKnown rolled
+
+pub values_are_known : ValuesAreKnown
+values_are_known v scope env fits e z h = known v scope env fits e z h

@@ -8,7 +8,13 @@ use Rattle.ipg_facts.specs.declared.fact.Fact.{Fact}
 use Rattle.ipg_facts.specs.Key.{Key, whole, caller_side, holder_side}
 use Rattle.ipg_facts.specs.Numbers.{all_of}
 use Rattle.ipg_facts.specs.Joint.{joint}
+use Rattle.ipg_num.specs.declared.op.Answer.TheVariants.{Val}
+use Rattle.ipg_core.specs.declared.grammar.CoreExpr.{CoreExpr}
+use Rattle.ipg_core.specs.Environment.{Environment}
+use Rattle.ipg_core.specs.Eval.{eval}
+use Rattle.ipg_facts.specs.Reading.{Scope, read}
 use Rattle.ipg_sound.specs.Valued.{Valuation, are_so}
+use Rattle.ipg_sound.specs.Known.{Fits, Knows}
 
 -- values in the box that make the formula hold
 abbrev pub Solves : Assignment → Formula × Boxed → Type 0
@@ -24,6 +30,15 @@ pub record IsInRange (v : Valuation) : Type 0 where
 abbrev pub FactsSolve : Type 0
 FactsSolve = (v : Valuation) (facts : List Fact) → IsInRange v → are_so v facts ≡ true
     → (values : Assignment) × Solves values (all_of facts) × (values 0 ≡ v (whole caller_side))
+
+-- what an expression is to the conditions holds of its value
+abbrev pub ValuesAreKnown : Type 0
+ValuesAreKnown = (v : Valuation) (scope : Scope) (env : Environment) → Fits v scope env
+    → (e : CoreExpr) (z : ℤ) → eval e env ≡ Val z → Knows v (read scope e) z
+
+-- no two expressions are spelled alike
+abbrev pub SpellingsDiffer : Type 0
+SpellingsDiffer = (scope : Scope) (e f : CoreExpr) → (read scope e).words ≡ (read scope f).words → e ≡ f
 
 -- a part has bounds for each variable of its formula, and for variable 0
 pub record IsPart (part : Formula × Boxed) : Type 0 where
