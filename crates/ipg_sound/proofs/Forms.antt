@@ -1,11 +1,11 @@
 -- Forms that have a value, and the facts that they make.
-use Rattle.std.proofs.Common.{◌≡◌, ℕ, zero, suc, ◌+◌, Bool, true, false, not, ◌&&◌, ◌||◌, List, [], ◌∷◌, ◌++◌, map, length, refl, sym, ap, subst, ◌∙◌, arith, ℤ, pos, negsuc, ◌+ℤ◌, ◌*ℤ◌, ◌-ℤ◌, if◌then◌else◌}
+use Rattle.std.proofs.Common.{◌≡◌, ℕ, zero, suc, Bool, true, false, not, ◌&&◌, ◌||◌, List, [], ◌∷◌, ◌++◌, map, length, refl, sym, ap, subst, ◌∙◌, arith, ℤ, pos, negsuc, ◌+ℤ◌, ◌*ℤ◌, ◌-ℤ◌, if◌then◌else◌}
 use Rattle.std.proofs.lemmas.Bool.Decides.{nat_tests}
 use Rattle.std.specs.Prelude.{nat_le, int_le, ◌≤ℤ◌, ◌<ℤ◌, bytes_eq, flat_map}
-use Rattle.std.specs.List.{filter, AllByRecursion}
+use Rattle.std.specs.List.{filter}
 use Rattle.std.proofs.lemmas.Int.{ints}
 use Rattle.std.proofs.lemmas.Slice.Eq.{bytes_eq-Decides}
-use Rattle.ipg_lin.specs.Formula.{every, some}
+use Rattle.ipg_lin.specs.Formula.{some}
 use Rattle.ipg_facts.specs.declared.fact.Draft.{Draft}
 use Rattle.ipg_facts.specs.declared.fact.Part.{Part}
 use Rattle.ipg_facts.specs.declared.fact.Form.{Form}
@@ -117,7 +117,7 @@ module _ (v : Valuation) where
   unfolding minus
   stands_minus a b x y s t =
       stands_at _ _ _ (let e : x +ℤ (pos 0 -ℤ y) ≡ x -ℤ y = omega (arith, ints) in e)
-        (stands_plus a (scaled (negsuc 0) b) x (pos 0 -ℤ y) s (stands_negated b y t))
+      (stands_plus a (scaled (negsuc 0) b) x (pos 0 -ℤ y) s (stands_negated b y t))
 
   pub stands_shifted : (a : Form) (k x : ℤ) → Stands v a x → Stands v (shifted a k) (x +ℤ k)
   unfolding shifted
@@ -164,7 +164,7 @@ module _ (v : Valuation) where
   unfolding bare mentioned
   so_bare a z s h =
       bare_so (in_limits a) (record { terms = map (λ (p : Part). (p.key, p.factor)) (filter counts a.parts); constant = a.constant })
-        (subst (λ y. y ≤ℤ pos 0) (sym (ap (λ y. y +ℤ a.constant) (sum_counted a.parts) ∙ s.value)) h)
+      (subst (λ y. y ≤ℤ pos 0) (sym (ap (λ y. y +ℤ a.constant) (sum_counted a.parts) ∙ s.value)) h)
 
   chosen_so : (b : Bool) (fs : List Fact) → AreSo v fs → AreSo v (if b then fs else [])
   chosen_so true fs h = h
@@ -187,7 +187,7 @@ module _ (v : Valuation) where
   unfolding both_at_most_zero
   so_both d n s t =
       so_append _ _ (chosen_so (in_limits d || in_limits n) (facts_of d) (so_facts_of d _ s))
-        (so_append (bare d) (bare n) (so_bare d _ s (omega (arith, ints))) (so_bare n _ t (omega (arith, ints))))
+      (so_append (bare d) (bare n) (so_bare d _ s (omega (arith, ints))) (so_bare n _ t (omega (arith, ints))))
 
   pub so_equal : (a b : Form) (x y : ℤ) → Stands v a x → Stands v b y → x ≡ y → AreSo v (equal a b)
   unfolding equal is_nothing

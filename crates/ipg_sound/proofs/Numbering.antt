@@ -1,23 +1,22 @@
 -- Facts over keys and their formula over numbers hold together.
-use Rattle.std.proofs.Common.{◌≡◌, ℕ, zero, suc, ◌+◌, ◌<◌, ◌≤◌, Bool, true, false, not, cond, ◌&&◌, ◌||◌, List, [], ◌∷◌, ◌++◌, map, length, refl, sym, ap, subst, ◌∙◌, arith, ℤ, pos, negsuc, ◌+ℤ◌, ◌*ℤ◌, Option, Some, None, if◌then◌else◌, nat_lt}
-use Rattle.std.specs.Prelude.{IsTrue, int_le, slice_get, flat_map, ◌≤ℤ◌, bytes_eq, unwrap_or}
-use Rattle.std.specs.List.{list_any, position_or_len, AllByRecursion}
+use Rattle.std.proofs.Common.{◌≡◌, ℕ, zero, suc, ◌+◌, Bool, true, false, not, cond, ◌||◌, List, [], ◌∷◌, ◌++◌, map, refl, sym, ap, subst, ◌∙◌, arith, ℤ, pos, negsuc, ◌+ℤ◌, ◌*ℤ◌, Some, if◌then◌else◌, nat_lt}
+use Rattle.std.specs.Prelude.{int_le, slice_get, flat_map, ◌≤ℤ◌, bytes_eq, unwrap_or}
+use Rattle.std.specs.List.{list_any}
 use Rattle.std.proofs.lemmas.Slice.Eq.{bytes_eq-Decides}
 use Rattle.std.proofs.lemmas.List.Folds.{list_any-append}
 use Rattle.std.proofs.lemmas.Int.{ints}
-use Rattle.ipg_lin.specs.Form.{Form, Assignment, sum_at, value_at}
-use Rattle.ipg_lin.specs.Formula.{holds_at, holds_step, every, some, LiesIn}
-use Rattle.ipg_lin.specs.declared.formula.Formula.{Formula, roll-Formula}
+use Rattle.ipg_lin.specs.Form.{Assignment, sum_at}
+use Rattle.ipg_lin.specs.Formula.{holds_at, holds_step, every, some}
+use Rattle.ipg_lin.specs.declared.formula.Formula.{Formula}
 use Rattle.ipg_lin.specs.declared.formula.Formula.TheVariants as formula
 use Rattle.ipg_lin.specs.declared.formula.Formula.TheOpen.{Formula-F}
 use Rattle.ipg_lin.specs.declared.formula.Formula.TheFolds.{fold-roll-Formula}
 use Rattle.ipg_facts.specs.declared.fact.Draft.{Draft}
 use Rattle.ipg_facts.specs.declared.fact.Fact.{Fact, roll-Fact, map-Fact, fold-roll-Fact, ind-Fact}
-use Rattle.ipg_facts.specs.declared.fact.Fact.TheVariants as facts
 use Rattle.ipg_facts.specs.declared.fact.Fact.TheOpen.{Fact-F}
 use Rattle.ipg_facts.specs.Key.{Key, whole, caller_side, holder_side}
-use Rattle.ipg_facts.specs.Numbers.{keys_in, keys_step, with_key, with_keys, keys_of, place, insert, numbered, formula_of, formula_step, bounds_of, box_of, all_of}
-use Rattle.ipg_sound.specs.Valued.{Valuation, sum_of, so_step, is_so, are_so}
+use Rattle.ipg_facts.specs.Numbers.{keys_in, keys_step, with_key, with_keys, keys_of, place, insert, numbered, formula_of, formula_step, bounds_of}
+use Rattle.ipg_sound.specs.Valued.{Valuation, sum_of, so_step, is_so}
 use Rattle.ipg_sound.specs.Laws.{IsInRange, FactsSolve}
 
 -- the key of a number
@@ -79,7 +78,7 @@ here_or_later : (b : Bool) (keys more : List Key) (m key : Key) → bytes_eq key
     → (list_any (bytes_eq key) more ≡ true → list_any (bytes_eq key) (with_keys (with_key keys m) more) ≡ true) → list_any (bytes_eq key) (with_keys (with_key keys m) more) ≡ true
 here_or_later true keys more m key e f g =
     subst (λ k. list_any (bytes_eq k) (with_keys (with_key keys m) more) ≡ true) (sym (same_key key m e))
-      (keys_keep (with_key keys m) more m (has_put (list_any (bytes_eq m) keys) keys m refl))
+    (keys_keep (with_key keys m) more m (has_put (list_any (bytes_eq m) keys) keys m refl))
 here_or_later false keys more m key e f g = g f
 
 keys_have : (keys more : List Key) → Has (with_keys keys more) more
@@ -114,7 +113,7 @@ module _ (v : Valuation) (keys : List Key) where
   sum_numbered (t ∷ terms) h =
       sum_insert values (place keys t.0, t.1) (numbered keys terms)
       ∙ ap (λ z. z +ℤ sum_at values (numbered keys terms))
-           (ap (λ k. t.1 *ℤ v k) (is_numbered keys t.0 (h t.0 (or_left _ _ ((bytes_eq-Decides t.0 t.0).1 refl)))))
+      (ap (λ k. t.1 *ℤ v k) (is_numbered keys t.0 (h t.0 (or_left _ _ ((bytes_eq-Decides t.0 t.0).1 refl)))))
       ∙ ap (λ z. (t.1 *ℤ v t.0) +ℤ z) (sum_numbered terms (λ key e. h key (or_right _ _ e)))
 
   -- the formula of a fact holds where the fact does
@@ -129,7 +128,7 @@ module _ (v : Valuation) (keys : List Key) where
   members_agree [] h = refl
   members_agree (m ∷ ms) h =
       rw (m.1 (λ key e. h key (any_left key (keys_in m.0) _ e)))
-        (ap (λ bs. is_so v m.0 ∷ bs) (members_agree ms (λ key e. h key (any_right key (keys_in m.0) _ e))))
+      (ap (λ bs. is_so v m.0 ∷ bs) (members_agree ms (λ key e. h key (any_right key (keys_in m.0) _ e))))
 
   keys_joined : (fs : List Fact) → flat_map (λ ks. ks) (map keys_in fs) ≡ flat_map keys_in fs
   keys_joined [] = refl
@@ -171,7 +170,7 @@ module _ (v : Valuation) (keys : List Key) where
   all_agree [] h = refl
   all_agree (f ∷ fs) h =
       rw (agrees f (λ key e. h key (any_left key (keys_in f) _ e)))
-        (ap (λ bs. is_so v f ∷ bs) (all_agree fs (λ key e. h key (any_right key (keys_in f) _ e))))
+      (ap (λ bs. is_so v f ∷ bs) (all_agree fs (λ key e. h key (any_right key (keys_in f) _ e))))
 
 -- each variable lies in its bounds
 abbrev IsWithin : ℤ → ℤ × ℤ → Type 0
@@ -206,6 +205,6 @@ unfolding keys_of
 facts_solve v facts r so =
     let keys : List Key = keys_of facts in
     let holds : holds_at (values v keys) (formula.All (map (formula_of keys) facts)) ≡ true =
-      ap (holds_at (values v keys)) (sym (formula.rolls-All _)) ∙ fold-roll-Formula Bool (holds_step (values v keys)) (Formula-F.All _)
-      ∙ ap every (all_agree v keys facts (keys_have (whole caller_side ∷ []) (flat_map keys_in facts))) ∙ so in
+    ap (holds_at (values v keys)) (sym (formula.rolls-All _)) ∙ fold-roll-Formula Bool (holds_step (values v keys)) (Formula-F.All _)
+    ∙ ap every (all_agree v keys facts (keys_have (whole caller_side ∷ []) (flat_map keys_in facts))) ∙ so in
     (values v keys, (lies v r keys, holds), ap v (first_stays (flat_map keys_in facts) [] (whole caller_side)))

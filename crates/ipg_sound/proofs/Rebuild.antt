@@ -1,5 +1,5 @@
 -- An expression is rebuilt from its words, so no two expressions are spelled alike.
-use Rattle.std.proofs.Common.{◌≡◌, ℕ, zero, suc, Bool, true, false, List, [], ◌∷◌, ◌++◌, refl, sym, ap, subst, ◌∙◌, append_assoc, append-nil, ℤ, pos, negsuc, Option, Some, None, if◌then◌else◌, nat_eq}
+use Rattle.std.proofs.Common.{◌≡◌, ℕ, zero, suc, List, [], ◌∷◌, ◌++◌, refl, sym, ap, ◌∙◌, append_assoc, append-nil, ℤ, pos, negsuc, Option, Some, None, if◌then◌else◌, nat_eq}
 use Rattle.std.specs.Prelude.{flat_map}
 use Rattle.ipg_num.specs.declared.op.Op2.{Op2}
 use Rattle.ipg_num.specs.declared.op.Op2.TheVariants.{Add, Sub, Mul, Div, Mod, Shl, Shr, BitAnd, BitOr, BitXor, Eq, Ne, Lt, Le, Gt, Ge}
@@ -12,7 +12,7 @@ use Rattle.ipg_core.specs.declared.grammar.Sym.TheVariants.{Text, Prim, Rule}
 use Rattle.ipg_core.specs.declared.grammar.CoreExpr.{CoreExpr, map-CoreExpr, roll-CoreExpr, fold-roll-CoreExpr}
 use Rattle.ipg_core.specs.declared.grammar.CoreExpr.TheOpen.{CoreExpr-F}
 use Rattle.ipg_core.specs.Grammar.{primitive_number}
-use Rattle.ipg_facts.specs.Key.{spell, word, operator_number, spelled_number, spelled_field, spelled_byte, spelled_sym}
+use Rattle.ipg_facts.specs.Key.{word, operator_number, spelled_number, spelled_field, spelled_byte, spelled_sym}
 use Rattle.ipg_facts.specs.Reading.{Scope, Reading, plain, reading, read}
 use Rattle.ipg_sound.specs.Laws.{SpellingsDiffer}
 use Rattle.ipg_sound.proofs.Relate.{Sure, bare, induct}
@@ -196,7 +196,7 @@ module _ (scope : Scope) where
       let last : List ℕ = word 14 0 0 0 in
       let two : List ℕ = (read scope b.0).words ++ last in
       ap (λ ws. run ws (clean stack)) (append_assoc (read scope c.0).words ((read scope a.0).words ++ two) words
-        ∙ ap (λ ws. (read scope c.0).words ++ ws) (append_assoc (read scope a.0).words two words ∙ ap (λ ws. (read scope a.0).words ++ ws) (append_assoc (read scope b.0).words last words)))
+      ∙ ap (λ ws. (read scope c.0).words ++ ws) (append_assoc (read scope a.0).words two words ∙ ap (λ ws. (read scope a.0).words ++ ws) (append_assoc (read scope b.0).words last words)))
       ∙ c.1 ((read scope a.0).words ++ ((read scope b.0).words ++ (last ++ words))) stack ∙ a.1 ((read scope b.0).words ++ (last ++ words)) (c.0 ∷ stack) ∙ b.1 (last ++ words) (a.0 ∷ c.0 ∷ stack)
 
   rolled : (y : CoreExpr-F (Sure Rebuilds)) → Rebuilds (roll-CoreExpr (bare y))

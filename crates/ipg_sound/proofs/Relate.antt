@@ -1,35 +1,33 @@
 -- What an expression is to the conditions holds of its value.
-use Rattle.std.proofs.Common.{◌≡◌, ℕ, zero, suc, ◌+◌, Bool, true, false, not, List, [], ◌∷◌, ◌++◌, refl, sym, ap, subst, ◌∙◌, arith, ℤ, pos, negsuc, neg_ℤ, ◌+ℤ◌, ◌*ℤ◌, ◌-ℤ◌, Option, Some, None, if◌then◌else◌, ◌⊎◌, inl, inr, nat_lt}
-use Rattle.std.specs.Prelude.{int_le, int_lt, ◌≤ℤ◌, ◌<ℤ◌, slice_get}
+use Rattle.std.proofs.Common.{◌≡◌, ℕ, Bool, true, false, not, List, [], ◌++◌, refl, sym, ap, subst, ◌∙◌, ℤ, pos, negsuc, neg_ℤ, ◌+ℤ◌, ◌*ℤ◌, ◌-ℤ◌, Option, Some, None, if◌then◌else◌, ◌⊎◌, inl, inr}
+use Rattle.std.specs.Prelude.{int_le, int_lt, ◌<ℤ◌}
 use Rattle.std.specs.Ordering.{int_eq}
-use Rattle.std.proofs.lemmas.Int.{ints}
 use Rattle.std.proofs.Math.IntN.{*ℤ_comm}
-use Rattle.ipg_num.specs.Number.{limited as in_64_bits, flag, apply_of, negate_of}
+use Rattle.ipg_num.specs.Number.{flag, apply_of, negate_of}
 use Rattle.ipg_num.specs.declared.op.Op2.{Op2}
 use Rattle.ipg_num.specs.declared.op.Op2.TheVariants as ops
 use Rattle.ipg_num.specs.declared.op.Answer.{Answer}
-use Rattle.ipg_num.specs.declared.op.Answer.TheVariants.{Val, Fail, Range}
+use Rattle.ipg_num.specs.declared.op.Answer.TheVariants.{Val}
 use Rattle.ipg_core.specs.declared.grammar.CoreField.{CoreField}
 use Rattle.ipg_core.specs.declared.grammar.CoreField.TheVariants.{Attr, Start, End}
 use Rattle.ipg_core.specs.declared.grammar.Sym.{Sym}
 use Rattle.ipg_core.specs.declared.grammar.CoreExpr.{CoreExpr, map-CoreExpr, roll-CoreExpr, fold-roll-CoreExpr, ind-CoreExpr}
 use Rattle.ipg_core.specs.declared.grammar.CoreExpr.TheOpen.{CoreExpr-F}
 use Rattle.ipg_core.specs.Grammar.{name_at}
-use Rattle.ipg_core.specs.Environment.{Environment, value_at, done_at, items_so_far, seen, field_of_item}
+use Rattle.ipg_core.specs.Environment.{Environment, done_at, items_so_far, field_of_item}
 use Rattle.ipg_core.specs.Eval as core
 use Rattle.ipg_core.specs.Eval.{eval, on_value, found, is_zero, behind, greatest_end, limited_reading}
 use Rattle.ipg_facts.specs.declared.fact.Form.{Form}
 use Rattle.ipg_facts.specs.declared.fact.Fact.{Fact}
 use Rattle.ipg_facts.specs.declared.fact.Bounds.{Bounds}
-use Rattle.ipg_facts.specs.Key.{Key, whole, attribute, loop, field, value, holder_side, spell}
-use Rattle.ipg_facts.specs.Form.{variable, number, plus, minus, scaled, shifted, is_constant, mentioned, in_limits, leq, less, equal, differ, choice}
+use Rattle.ipg_facts.specs.Key.{Key, whole, attribute, loop, field, value, holder_side}
+use Rattle.ipg_facts.specs.Form.{variable, number, plus, minus, scaled, shifted, is_constant, in_limits, leq, less, equal, differ, choice}
 use Rattle.ipg_facts.specs.Reading.{Scope, Reading, length_of, opaque, nought, plain, least_width, item_at, greatest_of, ranges, item_facts, inside, touching, after_facts, product, computed, limited, asserted, denied, reading, read}
 use Rattle.ipg_sound.specs.Valued.{Valuation}
-use Rattle.ipg_sound.proofs.Whole.{times_minus_one}
 use Rattle.ipg_sound.specs.Known.{AreSo, Stands, Knows, IsRanged, IsItemField, IsPlace, IsBehind, Fits}
 use Rattle.ipg_sound.specs.Laws.{ValuesAreKnown}
 use Rattle.ipg_sound.proofs.Forms.{stands_at, stands_number, stands_variable, stands_plus, stands_minus, stands_scaled, stands_negated, stands_shifted, so_append, so_leq, so_less, so_equal, so_first, so_second, so_below, so_above, constant_value}
-use Rattle.ipg_sound.proofs.Answers.{found_is, limited_is, Kept, kept, First, first_of, flag_is, not_true, not_false, eq_true, eq_false, lt_true, lt_false, le_true, le_false, not_zero, zero_is, minus_is}
+use Rattle.ipg_sound.proofs.Answers.{found_is, limited_is, Kept, kept, first_of, flag_is, not_true, not_false, eq_true, eq_false, lt_true, lt_false, le_true, le_false, not_zero, zero_is, minus_is}
 
 abbrev pub Sure : (CoreExpr → Type 0) → Type 0
 Sure P = (e : CoreExpr) × P e
@@ -202,17 +200,17 @@ module _ (v : Valuation) where
     so_item item Start a z s h =
         let w : ℤ = pos (least_width scope.marks item) in
         so_append v (leq nought a) (leq (shifted a w) (length_of scope)) (so_leq v nought a (pos 0) z stands_nought s h.0)
-          (so_leq v (shifted a w) (length_of scope) (z +ℤ w) (pos env.eoi) (stands_shifted v a w z s) stands_length h.1)
+        (so_leq v (shifted a w) (length_of scope) (z +ℤ w) (pos env.eoi) (stands_shifted v a w z s) stands_length h.1)
     so_item item End a z s h =
         let w : ℤ = pos (least_width scope.marks item) in
         so_append v (leq (number w) a) (leq a (length_of scope)) (so_leq v (number w) a w z (stands_number v w) s h.0)
-          (so_leq v a (length_of scope) z (pos env.eoi) s stands_length h.1)
+        (so_leq v a (length_of scope) z (pos env.eoi) s stands_length h.1)
 
     so_inside : (a : Form) (end : ℕ) → Stands v a (pos end) → IsPlace env.eoi end → AreSo v (inside scope a)
     unfolding inside
     so_inside a end s h =
         so_append v (leq (number (pos 1)) a) (leq a (length_of scope)) (so_leq v (number (pos 1)) a (pos 1) (pos end) (stands_number v (pos 1)) s h.0)
-          (so_leq v a (length_of scope) (pos end) (pos env.eoi) s stands_length h.1)
+        (so_leq v a (length_of scope) (pos end) (pos env.eoi) s stands_length h.1)
 
     -- the place behind items: the greatest end, else that of `left`
     so_after : (bounds : Option Bounds) (found : Option ℕ) (a left : Form) (answer : Answer) (z : ℤ) → IsBehind v env.eoi bounds found → behind found answer ≡ Val z → Stands v a z
@@ -223,11 +221,11 @@ module _ (v : Valuation) where
         let f : z ≡ pos end = cc in so_first v (inside scope a) (equal a left) (so_inside a end (stands_at v a z (pos end) f s) h)
     so_after (Some bounds) None a left answer z h e s l =
         so_second v (less bounds.first bounds.last ++ inside scope a) (leq bounds.last bounds.first ++ equal a left)
-          (so_append v (leq bounds.last bounds.first) (equal a left) (so_leq v bounds.last bounds.first h.1 h.0 h.3 h.2 h.4) (so_equal v a left z z s (l e) refl))
+        (so_append v (leq bounds.last bounds.first) (equal a left) (so_leq v bounds.last bounds.first h.1 h.0 h.3 h.2 h.4) (so_equal v a left z z s (l e) refl))
     so_after (Some bounds) (Some end) a left answer z h e s l =
         let f : z ≡ pos end = cc in
         so_first v (less bounds.first bounds.last ++ inside scope a) (leq bounds.last bounds.first ++ equal a left)
-          (so_append v (less bounds.first bounds.last) (inside scope a) (so_less v bounds.first bounds.last h.0 h.1 h.2 h.3 h.4) (so_inside a end (stands_at v a z (pos end) f s) h.5))
+        (so_append v (less bounds.first bounds.last) (inside scope a) (so_less v bounds.first bounds.last h.0 h.1 h.2 h.3 h.4) (so_inside a end (stands_at v a z (pos end) f s) h.5))
 
     -- an expression that has a value is known
     abbrev IsKnown : CoreExpr → Type 0
@@ -242,7 +240,7 @@ module _ (v : Valuation) where
     knows_negated : (a : Form) (words : List ℕ) (x z : ℤ) → negate_of x ≡ Val z → Stands v a x → v (value scope.side words) ≡ z → Knows v (plain words (limited scope words (Some (scaled (negsuc 0) a)))) z
     knows_negated a words x z e s h =
         knows_plain words (limited scope words (Some (scaled (negsuc 0) a))) z
-          (stands_limited scope words (Some (scaled (negsuc 0) a)) z h (stands_at v (scaled (negsuc 0) a) (pos 0 -ℤ x) z (minus_is x ∙ limited_is (neg_ℤ x) z e) (stands_negated v a x s)))
+        (stands_limited scope words (Some (scaled (negsuc 0) a)) z h (stands_at v (scaled (negsuc 0) a) (pos 0 -ℤ x) z (minus_is x ∙ limited_is (neg_ℤ x) z e) (stands_negated v a x s)))
 
     knows_not : (r : Reading) (words : List ℕ) (x z : ℤ) → flag (is_zero x) ≡ Val z → Knows v r x → v (value scope.side words) ≡ z
         → Knows v (record { words = words; form = opaque scope words; holds = r.fails; fails = r.holds }) z
@@ -310,7 +308,7 @@ module _ (v : Valuation) where
         let t = l e in
         record {
           form = stands_key (value scope.side words) _ z
-            (so_first v (c.holds ++ equal (opaque scope words) a.form) (c.fails ++ equal (opaque scope words) b.form)
+              (so_first v (c.holds ++ equal (opaque scope words) a.form) (c.fails ++ equal (opaque scope words) b.form)
               (so_append v c.holds (equal (opaque scope words) a.form) (k.holds f) (so_equal v (opaque scope words) a.form z z (stands_opaque words z h) t.form refl))) h;
           holds = λ g. so_first v (c.holds ++ a.holds) (c.fails ++ b.holds) (so_append v c.holds a.holds (k.holds f) (t.holds g));
           fails = λ g. so_first v (c.holds ++ a.fails) (c.fails ++ b.fails) (so_append v c.holds a.fails (k.holds f) (t.fails g));
@@ -319,7 +317,7 @@ module _ (v : Valuation) where
         let t = m e in
         record {
           form = stands_key (value scope.side words) _ z
-            (so_second v (c.holds ++ equal (opaque scope words) a.form) (c.fails ++ equal (opaque scope words) b.form)
+              (so_second v (c.holds ++ equal (opaque scope words) a.form) (c.fails ++ equal (opaque scope words) b.form)
               (so_append v c.fails (equal (opaque scope words) b.form) (k.fails f) (so_equal v (opaque scope words) b.form z z (stands_opaque words z h) t.form refl))) h;
           holds = λ g. so_second v (c.holds ++ a.holds) (c.fails ++ b.holds) (so_append v c.fails b.holds (k.fails f) (t.holds g));
           fails = λ g. so_second v (c.holds ++ a.fails) (c.fails ++ b.fails) (so_append v c.fails b.fails (k.fails f) (t.fails g));
@@ -340,7 +338,7 @@ module _ (v : Valuation) where
         knows_plain _ _ z (stands_key _ _ z (so_item (item_at scope term) f _ z (stands_opaque _ z h) (fits.items term f i.first z (found_is _ z i.goes))) h)
     layer (CoreExpr-F.After term left) z k h =
         knows_plain _ _ z (stands_key _ _ z
-          (so_after (touching scope term) (greatest_end (items_so_far (done_at env.done term))) _ (read scope left.0).form (eval left.0 env) z (fits.ends term) k.is (stands_opaque _ z h) (λ e. (left.1 z e).form)) h)
+        (so_after (touching scope term) (greatest_end (items_so_far (done_at env.done term))) _ (read scope left.0).form (eval left.0 env) z (fits.ends term) k.is (stands_opaque _ z h) (λ e. (left.1 z e).form)) h)
     layer (CoreExpr-F.Neg a) z k h =
         let x = first_of (eval a.0 env) negate_of z k.is in
         knows_negated (read scope a.0).form _ x.first z x.goes (a.1 x.first x.is).form h
@@ -367,8 +365,8 @@ module _ (v : Valuation) where
         let made : read scope (roll-CoreExpr (bare y)) ≡ reading scope (readings y) = fold-roll-CoreExpr Reading (reading scope) (bare y) in
         let valued : eval (roll-CoreExpr (bare y)) env ≡ limited_reading (evals y) env = ap (λ f. f env) (fold-roll-CoreExpr core.Reading limited_reading (bare y)) in
         subst (λ r. Knows v r z) (sym made)
-          (layer y z (kept (core.reading (evals y) env) z (sym valued ∙ e))
-            (ap (λ (r : Reading). v (value scope.side r.words)) (sym made) ∙ fits.opaques (roll-CoreExpr (bare y)) z e))
+        (layer y z (kept (core.reading (evals y) env) z (sym valued ∙ e))
+        (ap (λ (r : Reading). v (value scope.side r.words)) (sym made) ∙ fits.opaques (roll-CoreExpr (bare y)) z e))
 
     pub known : (e : CoreExpr) → IsKnown e
     known = induct IsKnown rolled

@@ -1,5 +1,5 @@
 -- Laws of conditions: facts that hold give a solution, and solutions of parts one of their joint.
-use Rattle.std.specs.Prelude.{◌≡◌, ℕ, ◌<◌, ◌≤◌, List, [], ◌∷◌, length, ℤ, pos, negsuc, ◌≤ℤ◌, IsTrue, true}
+use Rattle.std.specs.Prelude.{◌≡◌, ◌<◌, ◌≤◌, List, [], ◌∷◌, length, ℤ, pos, negsuc, ◌≤ℤ◌, IsTrue, true}
 use Rattle.ipg_lin.specs.Form.{Assignment}
 use Rattle.ipg_lin.specs.Formula.{holds_at, width, LiesIn}
 use Rattle.ipg_lin.specs.declared.formula.Formula.{Formula}

@@ -1,5 +1,5 @@
 -- When facts over keys hold, where each variable has a value by its key.
-use Rattle.std.specs.Prelude.{ℕ, List, [], ◌∷◌, map, Bool, true, ℤ, pos, ◌+ℤ◌, ◌*ℤ◌, int_le, ◌≤ℤ◌}
+use Rattle.std.specs.Prelude.{List, [], ◌∷◌, map, Bool, ℤ, pos, ◌+ℤ◌, ◌*ℤ◌, int_le}
 use Rattle.ipg_lin.specs.Formula.{every, some}
 use Rattle.ipg_facts.specs.declared.fact.Fact.{Fact, fold-Fact}
 use Rattle.ipg_facts.specs.declared.fact.Fact.TheOpen.{Fact-F}
