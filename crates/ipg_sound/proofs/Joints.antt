@@ -1,26 +1,23 @@
 -- Solutions of parts and of their joint.
-use Rattle.std.proofs.Common.{◌≡◌, ℕ, zero, suc, ◌+◌, ◌-◌, ◌<◌, ◌≤◌, max, Bool, true, false, ◌&&◌, ◌||◌, List, [], ◌∷◌, ◌++◌, map, length, refl, sym, ap, subst, ◌∙◌, arith, ℤ, pos, ◌+ℤ◌, ◌*ℤ◌, Option, Some, None, if◌then◌else◌, nat_lt, drop, take}
+use Rattle.std.proofs.Common.{◌≡◌, ℕ, zero, suc, ◌+◌, ◌-◌, ◌<◌, ◌≤◌, Bool, true, false, ◌&&◌, List, [], ◌∷◌, ◌++◌, map, length, refl, sym, ap, subst, ◌∙◌, arith, ℤ, pos, ◌+ℤ◌, ◌*ℤ◌, Some, if◌then◌else◌, nat_lt, drop, take}
 use Rattle.std.specs.Prelude.{IsTrue, int_le, slice_get, flat_map, ◌≤ℤ◌}
 use Rattle.std.proofs.lemmas.Bool.Decides.{nat_tests}
 use Rattle.std.proofs.lemmas.List.{length-drop}
 use Rattle.ipg_lin.specs.Form.{Form, Assignment, sum_at, value_at, terms_width}
-use Rattle.ipg_lin.specs.Formula.{holds_at, holds_step, every, some, width, width_step, greatest, LiesIn}
+use Rattle.ipg_lin.specs.Formula.{holds_at, holds_step, every, some, width, width_step, greatest}
 use Rattle.ipg_lin.specs.declared.formula.Formula.{Formula, roll-Formula, map-Formula}
 use Rattle.ipg_lin.specs.declared.formula.Formula.TheVariants as formula
 use Rattle.ipg_lin.specs.declared.formula.Formula.TheOpen.{Formula-F}
 use Rattle.ipg_lin.specs.declared.formula.Formula.TheOpen.Formula-F.{Atom, All, Any}
-use Rattle.ipg_lin.specs.declared.formula.Formula.TheFolds.{fold-Formula, fold-roll-Formula, ind-Formula}
+use Rattle.ipg_lin.specs.declared.formula.Formula.TheFolds.{fold-roll-Formula, ind-Formula}
 use Rattle.ipg_lin.specs.declared.formula.Boxed.{Boxed}
 use Rattle.ipg_facts.specs.Joint.{moved, moved_term, apart, apart_step, parts_apart, own_variables, shared_bounds, joint}
-use Rattle.ipg_sound.specs.Laws.{Solves, IsPart, AllSolved, PartsSolveJoint}
+use Rattle.ipg_sound.specs.Laws.{AllSolved, PartsSolveJoint}
 
 -- a formula apart holds where the formula does at the moved variables, and where they have the values of its own
 record Apart (f : Formula) : Type 0 where
   apart_holds : (n : ℕ) (v : Assignment) → holds_at v (apart n f) ≡ holds_at (λ x. v (moved n x)) f
   agrees : (v w : Assignment) → ((x : ℕ) → x < width f → v x ≡ w x) → holds_at v f ≡ holds_at w f
-
-Sure : Type 0
-Sure = (f : Formula) × Apart f
 
 abbrev bare : List ((f : Formula) × Apart f) → List Formula
 bare ms = map (λ (e : (f : Formula) × Apart f). e.0) ms
@@ -104,11 +101,11 @@ is_apart : (f : Formula) → Apart f
 is_apart = ind-Formula Apart (λ x y is. on_layer y x is)
 
 -- the variables of parts, one part behind another: the y-th of them
-pick : (parts : List (Formula × Boxed)) (eoi : ℤ) → AllSolved eoi parts → ℕ → ℤ
+abbrev pick : (parts : List (Formula × Boxed)) (eoi : ℤ) → AllSolved eoi parts → ℕ → ℤ
 pick [] eoi h y = pos 0
 pick (part ∷ parts) eoi h y = if nat_lt y (own_variables part) then h.0.1.0 (suc y) else pick parts eoi h.1 (y - own_variables part)
 
-spread : (parts : List (Formula × Boxed)) (eoi : ℤ) → AllSolved eoi parts → Assignment
+abbrev spread : (parts : List (Formula × Boxed)) (eoi : ℤ) → AllSolved eoi parts → Assignment
 spread parts eoi h zero = eoi
 spread parts eoi h (suc y) = pick parts eoi h y
 
@@ -122,12 +119,10 @@ both : (a b : Bool) → a ≡ true → b ≡ true → a && b ≡ true
 both a b e f = rw (e, f) refl
 
 is_true : (b : Bool) → IsTrue b → b ≡ true
-is_true true h = refl
-is_true false h = absurd h
+is_true b h = h
 
 truly : (b : Bool) → b ≡ true → IsTrue b
-truly true e = tt
-truly false e = cc
+truly b e = e
 
 own_below : (n k : ℕ) → suc n < k → n < k - 1
 own_below n k h = omega arith
@@ -154,17 +149,17 @@ module _ (values : Assignment) (eoi : ℤ) (zero_is : values 0 ≡ eoi) where
   parts_hold n [] h at = refl
   parts_hold n (part ∷ parts) h at =
       both _ _
-        ((is_apart part.0).apart_holds n values
-         ∙ (is_apart part.0).agrees (λ x. values (moved n x)) h.0.1.0 (agree_at n part parts h at)
-         ∙ is_true (holds_at h.0.1.0 part.0) h.0.1.1.1)
-        (parts_hold (n + own_variables part) parts h.1 (tail_at n part parts h at))
+      ((is_apart part.0).apart_holds n values
+      ∙ (is_apart part.0).agrees (λ x. values (moved n x)) h.0.1.0 (agree_at n part parts h at)
+      ∙ is_true (holds_at h.0.1.0 part.0) h.0.1.1.1)
+      (parts_hold (n + own_variables part) parts h.1 (tail_at n part parts h at))
 
 -- the bounds of a part's own variables
 own_bound : (bounds : List (ℤ × ℤ)) (y : ℕ) → slice_get (drop 1 bounds) y ≡ slice_get bounds (suc y)
 own_bound [] y = refl
 own_bound (b ∷ bounds) y = refl
 
-IsWithin : ℤ → ℤ × ℤ → Type 0
+abbrev IsWithin : ℤ → ℤ × ℤ → Type 0
 IsWithin z b = (b.0 ≤ℤ z) × (z ≤ℤ b.1)
 
 same_test : (y k : ℕ) → nat_lt y k ≡ nat_lt (suc y) (suc k)
@@ -183,15 +178,15 @@ own_within v w [] ys f g y b e = subst (λ z. IsWithin z b) (ap w (let h : y ≡
 own_within v w (x ∷ xs) ys f g zero b e = subst (λ z. IsWithin z b) (sym (ap (λ t. if t then v 0 else w (0 - length (x ∷ xs))) (less 0 (length (x ∷ xs)) (omega arith)))) (f zero b e)
 own_within v w (x ∷ xs) ys f g (suc y) b e =
     subst (λ z. IsWithin z b) (test_suc y (length xs) (v (suc y)) w)
-      (own_within (λ i. v (suc i)) w xs ys (λ i b e. f (suc i) b e) g y b e)
+    (own_within (λ i. v (suc i)) w xs ys (λ i b e. f (suc i) b e) g y b e)
 
 lies_own : (parts : List (Formula × Boxed)) (eoi : ℤ) (h : AllSolved eoi parts) (y : ℕ) (b : ℤ × ℤ)
     → slice_get (flat_map (λ part. drop 1 part.1.bounds) parts) y ≡ Some b → IsWithin (pick parts eoi h y) b
 lies_own [] eoi h y b e = cc
 lies_own (part ∷ parts) eoi h y b e =
     subst (λ k. IsWithin (if nat_lt y k then h.0.1.0 (suc y) else pick parts eoi h.1 (y - k)) b) (length-drop 1 part.1.bounds)
-      (own_within (λ y. h.0.1.0 (suc y)) (pick parts eoi h.1) (drop 1 part.1.bounds) (flat_map (λ part. drop 1 part.1.bounds) parts)
-        (λ y b e. h.0.1.1.0 (suc y) b.0 b.1 (sym (own_bound part.1.bounds y) ∙ e)) (lies_own parts eoi h.1) y b e)
+    (own_within (λ y. h.0.1.0 (suc y)) (pick parts eoi h.1) (drop 1 part.1.bounds) (flat_map (λ part. drop 1 part.1.bounds) parts)
+    (λ y b e. h.0.1.1.0 (suc y) b.0 b.1 (sym (own_bound part.1.bounds y) ∙ e)) (lies_own parts eoi h.1) y b e)
 
 lies_first : (bounds rest : List (ℤ × ℤ)) (v : ℕ → ℤ) (eoi : ℤ) → 0 < length bounds → ((b : ℤ × ℤ) → slice_get bounds 0 ≡ Some b → IsWithin eoi b)
     → ((y : ℕ) (b : ℤ × ℤ) → slice_get rest y ≡ Some b → IsWithin (v (suc y)) b) → v 0 ≡ eoi
@@ -205,14 +200,14 @@ lies : (parts : List (Formula × Boxed)) (eoi : ℤ) (h : AllSolved eoi parts) (
 lies [] eoi h x low high e = cc
 lies (part ∷ parts) eoi h x low high e =
     lies_first part.1.bounds (flat_map (λ part. drop 1 part.1.bounds) (part ∷ parts)) (spread (part ∷ parts) eoi h) eoi h.0.0.first
-      (λ b f. subst (λ n. IsWithin n b) h.0.1.2 (h.0.1.1.0 0 b.0 b.1 f))
-      (λ y b f. lies_own (part ∷ parts) eoi h y b f) refl x (low, high) e
+    (λ b f. subst (λ n. IsWithin n b) h.0.1.2 (h.0.1.1.0 0 b.0 b.1 f))
+    (λ y b f. lies_own (part ∷ parts) eoi h y b f) refl x (low, high) e
 
 pub parts_solve_joint : PartsSolveJoint
 unfolding joint
 parts_solve_joint parts eoi h =
     let v : Assignment = spread parts eoi h in
     let holds : holds_at v (formula.All (parts_apart 0 parts)) ≡ true =
-      ap (holds_at v) (sym (formula.rolls-All (parts_apart 0 parts))) ∙ holds_all v (parts_apart 0 parts)
-      ∙ parts_hold v eoi refl 0 parts h (λ y. ap (spread parts eoi h) (let e : suc y + 0 ≡ suc y = omega arith in e)) in
+    ap (holds_at v) (sym (formula.rolls-All (parts_apart 0 parts))) ∙ holds_all v (parts_apart 0 parts)
+    ∙ parts_hold v eoi refl 0 parts h (λ y. ap (spread parts eoi h) (let e : suc y + 0 ≡ suc y = omega arith in e)) in
     (v, (lies parts eoi h, truly _ holds), refl)
