@@ -1,0 +1,14 @@
+-- variables, linear forms over them, and what expressions and terms are to the conditions
+pub mod Key
+pub mod Form
+pub mod Reading
+pub mod View
+pub mod Members
+pub mod Holder
+-- the conditions of an edge, over keys and then over numbers
+pub mod Keep
+pub mod Numbers
+-- the conditions of several edges at one length
+pub mod Joint
+-- the table in which the code numbers variables
+pub mod Table

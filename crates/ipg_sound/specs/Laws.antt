@@ -1,0 +1,56 @@
+-- Laws of conditions: facts that hold give a solution, and solutions of parts one of their joint.
+use Rattle.std.specs.Prelude.{◌≡◌, ◌<◌, ◌≤◌, List, [], ◌∷◌, length, ℤ, pos, negsuc, ◌≤ℤ◌, IsTrue, true}
+use Rattle.ipg_lin.specs.Form.{Assignment}
+use Rattle.ipg_lin.specs.Formula.{holds_at, width, LiesIn}
+use Rattle.ipg_lin.specs.declared.formula.Formula.{Formula}
+use Rattle.ipg_lin.specs.declared.formula.Boxed.{Boxed}
+use Rattle.ipg_facts.specs.declared.fact.Fact.{Fact}
+use Rattle.ipg_facts.specs.Key.{Key, whole, caller_side, holder_side}
+use Rattle.ipg_facts.specs.Numbers.{all_of}
+use Rattle.ipg_facts.specs.Joint.{joint}
+use Rattle.ipg_num.specs.declared.op.Answer.TheVariants.{Val}
+use Rattle.ipg_core.specs.declared.grammar.CoreExpr.{CoreExpr}
+use Rattle.ipg_core.specs.Environment.{Environment}
+use Rattle.ipg_core.specs.Eval.{eval}
+use Rattle.ipg_facts.specs.Reading.{Scope, read}
+use Rattle.ipg_sound.specs.Valued.{Valuation, are_so}
+use Rattle.ipg_sound.specs.Known.{Fits, Knows}
+
+-- values in the box that make the formula hold
+abbrev pub Solves : Assignment → Formula × Boxed → Type 0
+Solves values part = LiesIn values part.1 × IsTrue (holds_at values part.0)
+
+-- a length of a part is from 0 to 2^30, all else is a number of 64 bits
+pub record IsInRange (v : Valuation) : Type 0 where
+  pub caller : (pos 0 ≤ℤ v (whole caller_side)) × (v (whole caller_side) ≤ℤ pos 1073741824)
+  pub holder : (pos 0 ≤ℤ v (whole holder_side)) × (v (whole holder_side) ≤ℤ pos 1073741824)
+  pub number : (key : Key) → (negsuc 9223372036854775807 ≤ℤ v key) × (v key ≤ℤ pos 9223372036854775807)
+
+-- facts that hold make their formula over numbers hold, in its box
+abbrev pub FactsSolve : Type 0
+FactsSolve = (v : Valuation) (facts : List Fact) → IsInRange v → are_so v facts ≡ true
+    → (values : Assignment) × Solves values (all_of facts) × (values 0 ≡ v (whole caller_side))
+
+-- what an expression is to the conditions holds of its value
+abbrev pub ValuesAreKnown : Type 0
+ValuesAreKnown = (v : Valuation) (scope : Scope) (env : Environment) → Fits v scope env
+    → (e : CoreExpr) (z : ℤ) → eval e env ≡ Val z → Knows v (read scope e) z
+
+-- no two expressions are spelled alike
+abbrev pub SpellingsDiffer : Type 0
+SpellingsDiffer = (scope : Scope) (e f : CoreExpr) → (read scope e).words ≡ (read scope f).words → e ≡ f
+
+-- a part has bounds for each variable of its formula, and for variable 0
+pub record IsPart (part : Formula × Boxed) : Type 0 where
+  pub bounded : width part.0 ≤ length part.1.bounds
+  pub first : 0 < length part.1.bounds
+
+-- a solution of each part, where variable 0 has the value eoi
+abbrev pub AllSolved : ℤ → List (Formula × Boxed) → Type 0
+AllSolved eoi [] = Unit {0}
+AllSolved eoi (part ∷ parts) = (IsPart part × ((own : Assignment) × Solves own part × (own 0 ≡ eoi))) × AllSolved eoi parts
+
+-- solutions of the parts with one value of variable 0 give one of their joint
+abbrev pub PartsSolveJoint : Type 0
+PartsSolveJoint = (parts : List (Formula × Boxed)) (eoi : ℤ) → AllSolved eoi parts
+    → (values : Assignment) × Solves values (joint parts) × (values 0 ≡ eoi)

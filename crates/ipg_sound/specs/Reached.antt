@@ -1,0 +1,42 @@
+-- A call of an edge that is made on its caller's whole part.
+use Rattle.std.specs.Prelude.{◌≡◌, ℕ, List, ◌∷◌, ◌++◌, length, Some, Ok, Contains, slice_get}
+use Rattle.ipg_core.specs.declared.grammar.CoreTerm.{CoreTerm}
+use Rattle.ipg_core.specs.declared.grammar.CoreAlt.{CoreAlt}
+use Rattle.ipg_core.specs.declared.grammar.CoreRule.{CoreRule}
+use Rattle.ipg_core.specs.Grammar.{Grammar}
+use Rattle.ipg_core.specs.Environment.{Values}
+use Rattle.ipg_core.specs.Run.{Asked}
+use Rattle.ipg_core.specs.Meaning.{Frame, State, start, term_on, terms_on, den}
+use Rattle.ipg_core.specs.Good.{AltAt}
+use Rattle.ipg_graph.specs.declared.edge.Edge.{Edge}
+
+-- the caller's alternative at work on s
+abbrev pub frame_of : Grammar → Edge → List ℕ → Values → Frame
+frame_of g e s outer = record { grammar = g; rule = e.caller; alt = e.alt; bytes = s; outer = outer }
+
+-- a call that stands where the edge does, on an interval from the first to behind the last of n bytes: an item's of an
+-- array, the first item's of a repetition, the taken branch's of a switch
+pub record IsCallOf (e : Edge) (n : ℕ) (asked : Asked) : Type 0 where
+  pub alt : asked.alt ≡ e.alt
+  pub term : asked.term ≡ e.term
+  pub branch : asked.branch ≡ e.branch
+  pub callee : asked.callee ≡ e.callee
+  pub from : asked.from ≡ 0
+  pub to : asked.to ≡ n
+
+-- the terms before the edge's have results, and the edge's term then makes that call
+pub record Reached (g : Grammar) (e : Edge) (s : List ℕ) (outer : Values) (height : ℕ) : Type 0 where
+  pub rule : CoreRule
+  pub alt : CoreAlt
+  pub at : AltAt g rule alt (e.caller, e.alt)
+  -- the terms that have run, and those behind the edge's
+  pub before : List ℕ
+  pub behind : List ℕ
+  pub splits : alt.order ≡ before ++ e.term ∷ behind
+  pub state : State
+  pub came : (terms_on (den g height) (frame_of g e s outer) alt.terms before (start (length alt.terms))).answer ≡ Ok state
+  pub term : CoreTerm
+  pub is_term : slice_get alt.terms e.term ≡ Some term
+  pub asked : Asked
+  pub asks : Contains (term_on (den g height) (frame_of g e s outer) state e.term (Some term)).asked asked
+  pub is_call : IsCallOf e (length s) asked

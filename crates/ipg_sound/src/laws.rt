@@ -1,0 +1,24 @@
+//! Laws of the conditions, each the contract of a function that does nothing.
+
+ghost use Rattle.ipg_sound.specs.Laws.{FactsSolve, PartsSolveJoint, SpellingsDiffer, ValuesAreKnown};
+
+/// Facts that hold where variables have values by their keys make their formula over numbers hold, in its box.
+pub fn facts_solve()
+    ensures { FactsSolve }
+{}
+
+/// Solutions of the parts with one value of variable 0 give one of their joint.
+pub fn parts_solve_joint()
+    ensures { PartsSolveJoint }
+{}
+
+/// Where variables have the values of what they stand for, what an expression is to the conditions holds of its value:
+/// its form has that value, the facts that its variables carry hold, and so do those that it is true or false.
+pub fn values_are_known()
+    ensures { ValuesAreKnown }
+{}
+
+/// No two expressions are spelled alike, so a key of an expression's value is of that expression alone.
+pub fn spellings_differ()
+    ensures { SpellingsDiffer }
+{}

@@ -1,0 +1,4 @@
+//! Laws of the conditions of edges: what solves them.
+#![tactic(auto)]
+
+pub mod laws;
