@@ -5,3 +5,4 @@ pub mod Forms
 pub mod Answers
 pub mod Relate
 pub mod Rebuild
+pub mod Slots

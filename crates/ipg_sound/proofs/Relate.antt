@@ -42,7 +42,7 @@ differs : (b : Bool) → b ≡ true → b ≡ false → ⊥
 differs b e f = cc
 
 module _ (v : Valuation) where
-  stands_nought : Stands v nought (pos 0)
+  pub stands_nought : Stands v nought (pos 0)
   stands_nought = stands_number v (pos 0)
 
   -- a form other than 0, and one that is 0
@@ -58,7 +58,7 @@ module _ (v : Valuation) where
     fails = λ e. so_equal v a nought z (pos 0) s stands_nought (zero_is z e);
   }
 
-  stands_key : (key : Key) (fs : List Fact) (z : ℤ) → AreSo v fs → v key ≡ z → Stands v (variable key fs) z
+  pub stands_key : (key : Key) (fs : List Fact) (z : ℤ) → AreSo v fs → v key ≡ z → Stands v (variable key fs) z
   stands_key key fs z h e = stands_at v (variable key fs) (v key) z e (stands_variable v key fs h)
 
   stands_chosen : (b : Bool) (a o : Form) (z : ℤ) → Stands v a z → Stands v o z → Stands v (if b then a else o) z
@@ -181,14 +181,14 @@ module _ (v : Valuation) where
   so_denied ops.BitOr a b e x y z f s t u h = so_nought e z u h
   so_denied ops.BitXor a b e x y z f s t u h = so_nought e z u h
 
-  so_ranges : (a : Form) (most : Option ℕ) (z : ℤ) → Stands v a z → IsRanged most z → AreSo v (ranges a most)
+  pub so_ranges : (a : Form) (most : Option ℕ) (z : ℤ) → Stands v a z → IsRanged most z → AreSo v (ranges a most)
   unfolding ranges
   so_ranges a None z s h = refl
   so_ranges a (Some n) z s h =
       so_append v (leq nought a) (leq a (number (pos n))) (so_leq v nought a (pos 0) z stands_nought s h.0) (so_leq v a (number (pos n)) z (pos n) s (stands_number v (pos n)) h.1)
 
   module _ (scope : Scope) (env : Environment) (fits : Fits v scope env) where
-    stands_length : Stands v (length_of scope) (pos env.eoi)
+    pub stands_length : Stands v (length_of scope) (pos env.eoi)
     stands_length = stands_key (whole scope.side) [] (pos env.eoi) refl fits.length
 
     stands_opaque : (words : List ℕ) (z : ℤ) → v (value scope.side words) ≡ z → Stands v (opaque scope words) z

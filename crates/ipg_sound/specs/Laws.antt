@@ -1,5 +1,5 @@
 -- Laws of conditions: facts that hold give a solution, and solutions of parts one of their joint.
-use Rattle.std.specs.Prelude.{◌≡◌, ◌<◌, ◌≤◌, List, [], ◌∷◌, length, ℤ, pos, negsuc, ◌≤ℤ◌, IsTrue, true}
+use Rattle.std.specs.Prelude.{◌≡◌, ◌^◌, ◌<◌, ◌≤◌, Some, List, [], ◌∷◌, length, ℤ, pos, negsuc, ◌≤ℤ◌, IsTrue, true, ℕ}
 use Rattle.ipg_lin.specs.Form.{Assignment}
 use Rattle.ipg_lin.specs.Formula.{holds_at, width, LiesIn}
 use Rattle.ipg_lin.specs.declared.formula.Formula.{Formula}
@@ -10,11 +10,13 @@ use Rattle.ipg_facts.specs.Numbers.{all_of}
 use Rattle.ipg_facts.specs.Joint.{joint}
 use Rattle.ipg_num.specs.declared.op.Answer.TheVariants.{Val}
 use Rattle.ipg_core.specs.declared.grammar.CoreExpr.{CoreExpr}
-use Rattle.ipg_core.specs.Environment.{Environment}
+use Rattle.ipg_core.specs.declared.grammar.CoreSlot.{CoreSlot}
+use Rattle.ipg_core.specs.Environment.{Environment, Done, done_at}
 use Rattle.ipg_core.specs.Eval.{eval}
 use Rattle.ipg_facts.specs.Reading.{Scope, read}
 use Rattle.ipg_sound.specs.Valued.{Valuation, are_so}
-use Rattle.ipg_sound.specs.Known.{Fits, Knows}
+use Rattle.ipg_facts.specs.Members.{slot_members}
+use Rattle.ipg_sound.specs.Known.{AreSo, Fits, Knows, IsResult}
 
 -- values in the box that make the formula hold
 abbrev pub Solves : Assignment → Formula × Boxed → Type 0
@@ -35,6 +37,12 @@ FactsSolve = (v : Valuation) (facts : List Fact) → IsInRange v → are_so v fa
 abbrev pub ValuesAreKnown : Type 0
 ValuesAreKnown = (v : Valuation) (scope : Scope) (env : Environment) → Fits v scope env
     → (e : CoreExpr) (z : ℤ) → eval e env ≡ Val z → Knows v (read scope e) z
+
+-- a slot that has a result on its interval puts what holds
+abbrev pub SlotsAreKnown : Type 0
+SlotsAreKnown = (v : Valuation) (scope : Scope) (env : Environment) → Fits v scope env → scope.names ≡ env.names → env.eoi ≤ 2 ^ 30
+    → (term : ℕ) (slot : CoreSlot) (l r : ℕ) (d : Done) → eval slot.from env ≡ Val (pos l) → eval slot.to env ≡ Val (pos r) → l ≤ r → r ≤ env.eoi
+    → done_at env.done term ≡ Some d → IsResult scope.marks slot.sym l r d.kid → AreSo v (slot_members scope term slot)
 
 -- no two expressions are spelled alike
 abbrev pub SpellingsDiffer : Type 0

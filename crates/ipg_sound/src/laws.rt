@@ -1,6 +1,6 @@
 //! Laws of the conditions, each the contract of a function that does nothing.
 
-ghost use Rattle.ipg_sound.specs.Laws.{FactsSolve, PartsSolveJoint, SpellingsDiffer, ValuesAreKnown};
+ghost use Rattle.ipg_sound.specs.Laws.{FactsSolve, PartsSolveJoint, SlotsAreKnown, SpellingsDiffer, ValuesAreKnown};
 
 /// Facts that hold where variables have values by their keys make their formula over numbers hold, in its box.
 pub fn facts_solve()
@@ -21,4 +21,10 @@ pub fn values_are_known()
 /// No two expressions are spelled alike, so a key of an expression's value is of that expression alone.
 pub fn spellings_differ()
     ensures { SpellingsDiffer }
+{}
+
+/// What a slot puts holds where it has a result on its interval: the interval is valid, and the result touches of it
+/// what results of its symbol do.
+pub fn slots_are_known()
+    ensures { SlotsAreKnown }
 {}

@@ -1,0 +1,5 @@
+use Rattle.ipg_sound.proofs.Slots as slots
+use Rattle.ipg_sound.proofs.laws.slots_are_known.Goals as goal
+
+pub returns : goal.returns
+returns c = ?
