@@ -48,6 +48,14 @@ small n h = grind (arith, nat_tests)
 is_number : (n : ℕ) → n ≤ 2 ^ 30 → limited (pos n) ≡ Val (pos n)
 is_number n h = ap (λ b. if b then Val (pos n) else Range) (small n h)
 
+sub_start : (from to : ℕ) (tree : Tree) → (ends_of (Sub from to tree)).start ≡ from + (tree_ends tree).start
+unfolding moved
+sub_start from to tree = refl
+
+sub_end : (from to : ℕ) (tree : Tree) → (ends_of (Sub from to tree)).end ≡ from + (tree_ends tree).end
+unfolding moved
+sub_end from to tree = refl
+
 less_of : (n m : ℕ) → nat_lt n m ≡ true → n < m
 less_of n m h = grind (arith, nat_tests)
 
@@ -233,3 +241,58 @@ module _ (v : Valuation) (scope : Scope) (env : Environment) (fits : Fits v scop
           (begins_at term d ends.start e (ap (field_of env.names Start) f ∙ ap (λ (k : Ends). Some (pos k.start)) (sym (ap ends_of f) ∙ is)) (omega arith))
           (ends_at_place term d ends.end e (ap (field_of env.names End) f ∙ ap (λ (k : Ends). Some (pos k.end)) (sym (ap ends_of f) ∙ is)) (omega arith))
           (length bytes) valid h refl refl
+
+    number_so : (d : Done) (from to : ℕ) (p prim : Primitive) (high low : ℕ) → done_at env.done term ≡ Some d → d.kid ≡ Number from to p high low → from ≡ a → to ≡ b → p ≡ prim
+        → width prim ≤ b - a → nat_eq (width prim) 0 ≡ false → AreRanged prim high low → AreSo v (number_touches scope term l r prim)
+    unfolding number_touches
+    number_so d from to p prim high low e f g q same h some ranged =
+        let ends : Ends = moved a (first_of (b - a) (width prim)) in
+        let is : ends_of d.kid ≡ ends = ap ends_of f ∙ ap (λ n. moved n (first_of (to - n) (width p))) g ∙ ap (λ n. moved a (first_of (n - a) (width p))) q ∙ ap (λ m. moved a (first_of (b - a) (width m))) same in
+        let in_part : (ends.start ≤ b) × (ends.end ≤ b) = first_within (width prim) a b valid h in
+        so_append v (touches_first scope term l r (width prim)) (number_ranges scope term prim)
+          (so_width term l r a b ends.start ends.end s t
+            (begins_at term d ends.start e (ap (field_of env.names Start) f ∙ ap (λ (k : Ends). Some (pos k.start)) (sym (ap ends_of f) ∙ is)) (omega arith))
+            (ends_at_place term d ends.end e (ap (field_of env.names End) f ∙ ap (λ (k : Ends). Some (pos k.end)) (sym (ap ends_of f) ∙ is)) (omega arith))
+            (width prim) (starts_at (width prim) a b some) (ends_at (width prim) a b some) (omega arith))
+          (so_numbers term d from to prim high low e (f ∙ ap (λ m. Number from to m high low) same) ranged)
+
+    raw_so : (d : Done) (from to : ℕ) (bytes : List ℕ) → done_at env.done term ≡ Some d → d.kid ≡ Raw from to bytes → from ≡ a → to ≡ b → AreSo v (touches_all scope term l r)
+    raw_so d from to bytes e f g q =
+        so_all term l r a b a b s t
+          (begins_at term d a e (ap (field_of env.names Start) f ∙ ap (λ n. Some (pos n)) g) (omega arith))
+          (ends_at_place term d b e (ap (field_of env.names End) f ∙ ap (λ n. Some (pos n)) q) (omega arith)) refl refl
+
+    tree_so : (d : Done) (from to callee : ℕ) (tree : Tree) → done_at env.done term ≡ Some d → d.kid ≡ Sub from to tree → from ≡ a → IsTreeOf scope.marks callee (b - a) tree
+        → AreSo v (rule_touches scope term l r (is_marked scope.marks callee))
+    tree_so d from to callee tree e f g is =
+        let n : ℕ = (tree_ends tree).start in
+        let m : ℕ = (tree_ends tree).end in
+        let p : n ≤ b - a = is.starts in
+        let q : m ≤ b - a = is.ends in
+        so_rule term l r a b (a + n) (a + m) s t
+          (begins_at term d (a + n) e (ap (field_of env.names Start) f ∙ ap (λ k. Some (pos k)) (sub_start from to tree ∙ ap (λ k. k + n) g)) (omega arith))
+          (ends_at_place term d (a + m) e (ap (field_of env.names End) f ∙ ap (λ k. Some (pos k)) (sub_end from to tree ∙ ap (λ k. k + m) g)) (omega arith))
+          (is_marked scope.marks callee) valid n m p q refl refl (nat_lt n m) refl is.must is.none
+
+    result_so : (sym : Sym) (d : Done) (k : Kid) → done_at env.done term ≡ Some d → d.kid ≡ k → IsResult scope.marks sym a b k → AreSo v (touches scope term sym l r)
+    unfolding touches primitive_touches
+    result_so (Text bytes) d (Token from to token) e f h = text_so d from to bytes token e f h.0 h.1 h.2 h.3
+    result_so (Prim U8) d (Number from to p high low) e f h = number_so d from to p U8 high low e f h.0 h.1 h.2 h.3 refl h.4
+    result_so (Prim U16LE) d (Number from to p high low) e f h = number_so d from to p U16LE high low e f h.0 h.1 h.2 h.3 refl h.4
+    result_so (Prim U16BE) d (Number from to p high low) e f h = number_so d from to p U16BE high low e f h.0 h.1 h.2 h.3 refl h.4
+    result_so (Prim U32LE) d (Number from to p high low) e f h = number_so d from to p U32LE high low e f h.0 h.1 h.2 h.3 refl h.4
+    result_so (Prim U32BE) d (Number from to p high low) e f h = number_so d from to p U32BE high low e f h.0 h.1 h.2 h.3 refl h.4
+    result_so (Prim U64LE) d (Number from to p high low) e f h = number_so d from to p U64LE high low e f h.0 h.1 h.2 h.3 refl h.4
+    result_so (Prim U64BE) d (Number from to p high low) e f h = number_so d from to p U64BE high low e f h.0 h.1 h.2 h.3 refl h.4
+    result_so (Prim Bytes) d (Raw from to bytes) e f h = raw_so d from to bytes e f h.0 h.1
+    result_so (Rule callee) d (Sub from to tree) e f h = tree_so d from to callee tree e f h.0 h.2
+    result_so _ d _ e f h = absurd h
+
+pub slots_are_known : SlotsAreKnown
+unfolding on_interval
+slots_are_known v scope env fits size term slot l r d from to valid inside there result =
+    let left : Stands v (form scope slot.from) (pos l) = (known v scope env fits slot.from (pos l) from).form in
+    let right : Stands v (form scope slot.to) (pos r) = (known v scope env fits slot.to (pos r) to).form in
+    so_append v (is_valid scope (form scope slot.from) (form scope slot.to)) (touches scope term slot.sym (form scope slot.from) (form scope slot.to))
+      (so_valid v scope env fits size (form scope slot.from) (form scope slot.to) l r left right valid inside)
+      (result_so v scope env fits size term (form scope slot.from) (form scope slot.to) l r left right valid inside slot.sym d d.kid there refl result)

@@ -99,6 +99,7 @@ pub record IsTreeOf (marks : List Bool) (callee n : ℕ) (tree : Tree) : Type 0 
 abbrev pub IsResult : List Bool → Sym → ℕ → ℕ → Kid → Type 0
 IsResult marks (Text bytes) l r (Token from to token) = (from ≡ l) × (to ≡ r) × (token ≡ bytes) × (length bytes ≤ r - l)
 IsResult marks (Prim Bytes) l r (Raw from to bytes) = (from ≡ l) × (to ≡ r)
+IsResult marks (Prim Bytes) l r (Number from to p high low) = ⊥
 IsResult marks (Prim prim) l r (Number from to p high low) = (from ≡ l) × (to ≡ r) × (p ≡ prim) × (width prim ≤ r - l) × AreRanged prim high low
 IsResult marks (Rule callee) l r (Sub from to tree) = (from ≡ l) × (to ≡ r) × IsTreeOf marks callee (r - l) tree
 IsResult marks sym l r k = ⊥

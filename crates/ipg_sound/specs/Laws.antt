@@ -40,7 +40,7 @@ ValuesAreKnown = (v : Valuation) (scope : Scope) (env : Environment) → Fits v 
 
 -- a slot that has a result on its interval puts what holds
 abbrev pub SlotsAreKnown : Type 0
-SlotsAreKnown = (v : Valuation) (scope : Scope) (env : Environment) → Fits v scope env → scope.names ≡ env.names → env.eoi ≤ 2 ^ 30
+SlotsAreKnown = (v : Valuation) (scope : Scope) (env : Environment) → Fits v scope env → env.eoi ≤ 2 ^ 30
     → (term : ℕ) (slot : CoreSlot) (l r : ℕ) (d : Done) → eval slot.from env ≡ Val (pos l) → eval slot.to env ≡ Val (pos r) → l ≤ r → r ≤ env.eoi
     → done_at env.done term ≡ Some d → IsResult scope.marks slot.sym l r d.kid → AreSo v (slot_members scope term slot)
 
