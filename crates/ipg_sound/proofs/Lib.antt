@@ -6,3 +6,4 @@ pub mod Answers
 pub mod Relate
 pub mod Rebuild
 pub mod Slots
+pub mod Ran

@@ -26,7 +26,7 @@ use Rattle.ipg_facts.specs.Reading.{Scope, length_of, nought, greatest, whole_gr
 use Rattle.ipg_facts.specs.Members.{is_valid, start_of, end_of, touches_none, touches_some, touches_first, touches_all, attr_ranges, number_ranges, text_touches, number_touches, primitive_touches, rule_touches, touches, on_interval, slot_members}
 use Rattle.ipg_sound.specs.Valued.{Valuation}
 use Rattle.ipg_sound.specs.Known.{AreSo, Stands, Fits, IsRanged, AreRanged, IsTreeOf, IsResult}
-use Rattle.ipg_sound.specs.Laws.{SlotsAreKnown}
+use Rattle.ipg_sound.specs.Ran.{SlotRan}
 use Rattle.ipg_sound.proofs.Forms.{stands_shifted, so_append, so_leq, so_less, so_equal, so_first, so_second}
 use Rattle.ipg_sound.proofs.Relate.{stands_nought, stands_key, stands_length, so_ranges, known}
 
@@ -119,7 +119,7 @@ in_range n (pos m) h k = ap (λ b. if b then Val (pos m) else Range) (below m n 
 in_range n (negsuc m) h k = absurd (let q : pos 0 ≤ℤ negsuc m = k.0 in omega (arith, ints))
 
 module _ (v : Valuation) (scope : Scope) (env : Environment) (fits : Fits v scope env) (size : env.eoi ≤ 2 ^ 30) where
-  so_valid : (l r : Form) (a b : ℕ) → Stands v l (pos a) → Stands v r (pos b) → a ≤ b → b ≤ env.eoi → AreSo v (is_valid scope l r)
+  pub so_valid : (l r : Form) (a b : ℕ) → Stands v l (pos a) → Stands v r (pos b) → a ≤ b → b ≤ env.eoi → AreSo v (is_valid scope l r)
   unfolding is_valid
   so_valid l r a b s t h k =
       so_append v (leq nought l) (leq l r ++ leq r (length_of scope)) (so_leq v nought l (pos 0) (pos a) (stands_nought v) s (omega (arith, ints)))
@@ -288,11 +288,13 @@ module _ (v : Valuation) (scope : Scope) (env : Environment) (fits : Fits v scop
     result_so (Rule callee) d (Sub from to tree) e f h = tree_so d from to callee tree e f h.0 h.2
     result_so _ d _ e f h = absurd h
 
-pub slots_are_known : SlotsAreKnown
+pub so_slot : (v : Valuation) (scope : Scope) (env : Environment) → Fits v scope env → env.eoi ≤ 2 ^ 30 → (term : ℕ) (slot : CoreSlot) → SlotRan scope.marks env term slot → AreSo v (slot_members scope term slot)
 unfolding on_interval
-slots_are_known v scope env fits size term slot l r d from to valid inside there result =
-    let left : Stands v (form scope slot.from) (pos l) = (known v scope env fits slot.from (pos l) from).form in
-    let right : Stands v (form scope slot.to) (pos r) = (known v scope env fits slot.to (pos r) to).form in
+so_slot v scope env fits size term slot ran =
+    let l : ℕ = ran.valid.l in
+    let r : ℕ = ran.valid.r in
+    let left : Stands v (form scope slot.from) (pos l) = (known v scope env fits slot.from (pos l) ran.valid.is_left).form in
+    let right : Stands v (form scope slot.to) (pos r) = (known v scope env fits slot.to (pos r) ran.valid.is_right).form in
     so_append v (is_valid scope (form scope slot.from) (form scope slot.to)) (touches scope term slot.sym (form scope slot.from) (form scope slot.to))
-      (so_valid v scope env fits size (form scope slot.from) (form scope slot.to) l r left right valid inside)
-      (result_so v scope env fits size term (form scope slot.from) (form scope slot.to) l r left right valid inside slot.sym d d.kid there refl result)
+      (so_valid v scope env fits size (form scope slot.from) (form scope slot.to) l r left right ran.valid.order ran.valid.inside)
+      (result_so v scope env fits size term (form scope slot.from) (form scope slot.to) l r left right ran.valid.order ran.valid.inside slot.sym ran.done ran.done.kid ran.there refl ran.result)

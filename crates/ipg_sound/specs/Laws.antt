@@ -10,13 +10,14 @@ use Rattle.ipg_facts.specs.Numbers.{all_of}
 use Rattle.ipg_facts.specs.Joint.{joint}
 use Rattle.ipg_num.specs.declared.op.Answer.TheVariants.{Val}
 use Rattle.ipg_core.specs.declared.grammar.CoreExpr.{CoreExpr}
-use Rattle.ipg_core.specs.declared.grammar.CoreSlot.{CoreSlot}
-use Rattle.ipg_core.specs.Environment.{Environment, Done, done_at}
+use Rattle.ipg_core.specs.declared.grammar.CoreTerm.{CoreTerm}
+use Rattle.ipg_core.specs.Environment.{Environment}
 use Rattle.ipg_core.specs.Eval.{eval}
 use Rattle.ipg_facts.specs.Reading.{Scope, read}
 use Rattle.ipg_sound.specs.Valued.{Valuation, are_so}
-use Rattle.ipg_facts.specs.Members.{slot_members}
-use Rattle.ipg_sound.specs.Known.{AreSo, Fits, Knows, IsResult}
+use Rattle.ipg_facts.specs.Members.{members, own_members}
+use Rattle.ipg_sound.specs.Known.{AreSo, Fits, Knows}
+use Rattle.ipg_sound.specs.Ran.{TermRan, CallsWhole}
 
 -- values in the box that make the formula hold
 abbrev pub Solves : Assignment → Formula × Boxed → Type 0
@@ -38,11 +39,15 @@ abbrev pub ValuesAreKnown : Type 0
 ValuesAreKnown = (v : Valuation) (scope : Scope) (env : Environment) → Fits v scope env
     → (e : CoreExpr) (z : ℤ) → eval e env ≡ Val z → Knows v (read scope e) z
 
--- a slot that has a result on its interval puts what holds
-abbrev pub SlotsAreKnown : Type 0
-SlotsAreKnown = (v : Valuation) (scope : Scope) (env : Environment) → Fits v scope env → env.eoi ≤ 2 ^ 30
-    → (term : ℕ) (slot : CoreSlot) (l r : ℕ) (d : Done) → eval slot.from env ≡ Val (pos l) → eval slot.to env ≡ Val (pos r) → l ≤ r → r ≤ env.eoi
-    → done_at env.done term ≡ Some d → IsResult scope.marks slot.sym l r d.kid → AreSo v (slot_members scope term slot)
+-- what a term that has run puts holds
+abbrev pub MembersAreKnown : Type 0
+MembersAreKnown = (v : Valuation) (scope : Scope) (env : Environment) → Fits v scope env → env.eoi ≤ 2 ^ 30
+    → (number : ℕ) (term : CoreTerm) → TermRan scope.marks env number term → AreSo v (members scope number (Some term))
+
+-- what the edge's own term puts holds where its call is made on the whole part
+abbrev pub OwnMembersAreKnown : Type 0
+OwnMembersAreKnown = (v : Valuation) (scope : Scope) (env : Environment) → Fits v scope env
+    → (branch : ℕ) (term : CoreTerm) → CallsWhole env branch term → AreSo v (own_members scope branch (Some term))
 
 -- no two expressions are spelled alike
 abbrev pub SpellingsDiffer : Type 0

@@ -1,6 +1,6 @@
 //! Laws of the conditions, each the contract of a function that does nothing.
 
-ghost use Rattle.ipg_sound.specs.Laws.{FactsSolve, PartsSolveJoint, SlotsAreKnown, SpellingsDiffer, ValuesAreKnown};
+ghost use Rattle.ipg_sound.specs.Laws.{FactsSolve, MembersAreKnown, OwnMembersAreKnown, PartsSolveJoint, SpellingsDiffer, ValuesAreKnown};
 
 /// Facts that hold where variables have values by their keys make their formula over numbers hold, in its box.
 pub fn facts_solve()
@@ -23,8 +23,13 @@ pub fn spellings_differ()
     ensures { SpellingsDiffer }
 {}
 
-/// What a slot puts holds where it has a result on its interval: the interval is valid, and the result touches of it
-/// what results of its symbol do.
-pub fn slots_are_known()
-    ensures { SlotsAreKnown }
+/// What a term that has run puts holds: intervals are valid, results touch of them what results of their symbols do,
+/// attributes have their values, tests are true, and a switch took one branch.
+pub fn members_are_known()
+    ensures { MembersAreKnown }
+{}
+
+/// What the edge's own term puts holds where its call is made on the whole part.
+pub fn own_members_are_known()
+    ensures { OwnMembersAreKnown }
 {}
