@@ -1,3 +1,5 @@
+pub mod Induct
+pub mod Words
 pub mod Joints
 pub mod Numbering
 pub mod Whole

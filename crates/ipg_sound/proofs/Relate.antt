@@ -26,17 +26,10 @@ use Rattle.ipg_facts.specs.Reading.{Scope, Reading, length_of, opaque, nought, p
 use Rattle.ipg_sound.specs.Valued.{Valuation}
 use Rattle.ipg_sound.specs.Known.{AreSo, Stands, Knows, IsRanged, IsItemField, IsPlace, IsBehind, Fits}
 use Rattle.ipg_sound.specs.Laws.{ValuesAreKnown}
+use Rattle.ipg_sound.proofs.Induct.{Sure, bare, induct}
+use Rattle.ipg_sound.proofs.Words.{words_are_spelled}
 use Rattle.ipg_sound.proofs.Forms.{stands_at, stands_number, stands_variable, stands_plus, stands_minus, stands_scaled, stands_negated, stands_shifted, so_append, so_leq, so_less, so_equal, so_first, so_second, so_below, so_above, constant_value}
 use Rattle.ipg_sound.proofs.Answers.{found_is, limited_is, Kept, kept, first_of, flag_is, not_true, not_false, eq_true, eq_false, lt_true, lt_false, le_true, le_false, not_zero, zero_is, minus_is}
-
-abbrev pub Sure : (CoreExpr → Type 0) → Type 0
-Sure P = (e : CoreExpr) × P e
-
-abbrev pub bare : {P : CoreExpr → Type 0} → CoreExpr-F (Sure P) → CoreExpr-F CoreExpr
-bare {P} y = map-CoreExpr (Sure P) CoreExpr (λ e. e.0) y
-
-pub induct : (P : CoreExpr → Type 0) → ((y : CoreExpr-F (Sure P)) → P (roll-CoreExpr (bare y))) → (e : CoreExpr) → P e
-induct P step = ind-CoreExpr P (λ x y is. subst (λ z. P (roll-CoreExpr z)) is (step y))
 
 differs : (b : Bool) → b ≡ true → b ≡ false → ⊥
 differs b e f = cc
@@ -366,7 +359,7 @@ module _ (v : Valuation) where
         let valued : eval (roll-CoreExpr (bare y)) env ≡ limited_reading (evals y) env = ap (λ f. f env) (fold-roll-CoreExpr core.Reading limited_reading (bare y)) in
         subst (λ r. Knows v r z) (sym made)
         (layer y z (kept (core.reading (evals y) env) z (sym valued ∙ e))
-        (ap (λ (r : Reading). v (value scope.side r.words)) (sym made) ∙ fits.opaques (roll-CoreExpr (bare y)) z e))
+        (ap (λ (r : Reading). v (value scope.side r.words)) (sym made) ∙ ap (λ ws. v (value scope.side ws)) (words_are_spelled scope (roll-CoreExpr (bare y))) ∙ fits.opaques (roll-CoreExpr (bare y)) z e))
 
     pub known : (e : CoreExpr) → IsKnown e
     known = induct IsKnown rolled
