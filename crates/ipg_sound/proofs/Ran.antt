@@ -1,5 +1,8 @@
 -- What terms put holds where they have run.
-use Rattle.std.proofs.Common.{◌≡◌, ℕ, zero, suc, ◌≤◌, ◌^◌, Bool, true, false, ◌||◌, List, [], ◌∷◌, ◌++◌, map, refl, sym, ap, subst, ◌∙◌, ℤ, pos, Some}
+use Rattle.std.proofs.Common.{◌≡◌, ℕ, zero, suc, ◌≤◌, ◌^◌, Bool, true, false, ◌||◌, List, [], ◌∷◌, ◌++◌, map, refl, sym, ap, subst, ◌∙◌, ℤ, pos, Option, Some, None, ◌⊎◌, inl, inr, if◌then◌else◌, nat_lt}
+use Rattle.std.specs.Prelude.{slice_get, slice_set}
+use Rattle.ipg_core.specs.declared.grammar.Sym.{Sym}
+use Rattle.ipg_facts.specs.declared.fact.Bounds.{Bounds}
 use Rattle.ipg_lin.specs.Formula.{some}
 use Rattle.ipg_num.specs.Number.{limited}
 use Rattle.ipg_num.specs.declared.op.Answer.TheVariants.{Val}
@@ -7,21 +10,21 @@ use Rattle.ipg_core.specs.declared.grammar.CoreExpr.{CoreExpr}
 use Rattle.ipg_core.specs.declared.grammar.CoreSlot.{CoreSlot}
 use Rattle.ipg_core.specs.declared.grammar.CoreTerm.{CoreTerm}
 use Rattle.ipg_core.specs.declared.grammar.CoreTerm.TheVariants.{Slot, Set, Test, Repeat, Many, Pick}
-use Rattle.ipg_core.specs.Environment.{Environment}
+use Rattle.ipg_core.specs.Environment.{Environment, done_at, items_so_far}
 use Rattle.ipg_core.specs.Eval as core
-use Rattle.ipg_core.specs.Eval.{eval, is_zero, limited_reading, opened}
+use Rattle.ipg_core.specs.Eval.{eval, is_zero, limited_reading, opened, greatest_end}
 use Rattle.ipg_core.specs.declared.grammar.CoreExpr.{fold_out-CoreExpr}
 use Rattle.ipg_sound.proofs.Answers.{kept}
 use Rattle.ipg_facts.specs.declared.fact.Fact.{Fact}
 use Rattle.ipg_facts.specs.declared.fact.Fact.TheVariants as facts
 use Rattle.ipg_facts.specs.Key.{attribute, loop}
 use Rattle.ipg_facts.specs.Form.{variable, equal, leq, less}
-use Rattle.ipg_facts.specs.Reading.{Scope, length_of, nought, read, form}
-use Rattle.ipg_facts.specs.Members.{members, branches, slot_members, own_members, is_whole, takes, runs}
+use Rattle.ipg_facts.specs.Reading.{Scope, length_of, nought, read, form, least_width, item_of, item_at, if_there, touching}
+use Rattle.ipg_facts.specs.Members.{members, branches, slot_members, own_members, is_whole, takes, runs, terms_members, passed, passed_all, arrays_with}
 use Rattle.ipg_sound.specs.Valued.{Valuation, is_so}
-use Rattle.ipg_sound.specs.Known.{AreSo, Stands, Fits}
-use Rattle.ipg_sound.specs.Ran.{SlotRan, Chosen, PickRan, TermRan, IsWholeCall, Turns, TakesWhole, CallsWhole}
-use Rattle.ipg_sound.specs.Laws.{MembersAreKnown, OwnMembersAreKnown}
+use Rattle.ipg_sound.specs.Known.{AreSo, Stands, Fits, IsBehind}
+use Rattle.ipg_sound.specs.Ran.{SlotRan, Chosen, PickRan, TermRan, ArrayRan, AreBetween, AtRan, AllRan, IsWholeCall, Turns, TakesWhole, CallsWhole}
+use Rattle.ipg_sound.specs.Laws.{MembersAreKnown, OwnMembersAreKnown, TermsAreKnown}
 use Rattle.ipg_sound.proofs.Forms.{so_append, so_equal, so_leq, so_less, all_is, any_is}
 use Rattle.ipg_sound.proofs.Relate.{stands_nought, stands_key, stands_length, known}
 use Rattle.ipg_sound.proofs.Slots.{so_slot, so_valid}
@@ -112,3 +115,88 @@ members_are_known v scope env fits size number term ran = members_so v scope env
 
 pub own_members_are_known : OwnMembersAreKnown
 own_members_are_known v scope env fits branch term call = own_so v scope env fits branch term call
+
+deeper : {A : Type 0} (xs : List A) (u t : ℕ) (y : A) → (slice_get (slice_set xs u y) t ≡ slice_get xs t) ⊎ ((t ≡ u) × (slice_get (slice_set xs u y) t ≡ Some y))
+    → (slice_get (slice_set xs u y) t ≡ slice_get xs t) ⊎ ((suc t ≡ suc u) × (slice_get (slice_set xs u y) t ≡ Some y))
+deeper xs u t y (inl e) = inl e
+deeper xs u t y (inr e) = inr (ap suc e.0, e.1)
+
+-- an entry that is set, or another one
+set_get : {A : Type 0} (xs : List A) (u t : ℕ) (y : A) → (slice_get (slice_set xs u y) t ≡ slice_get xs t) ⊎ ((t ≡ u) × (slice_get (slice_set xs u y) t ≡ Some y))
+set_get [] u t y = inl refl
+set_get (x ∷ xs) zero zero y = inr (refl, refl)
+set_get (x ∷ xs) zero (suc t) y = inl refl
+set_get (x ∷ xs) (suc u) zero y = inl refl
+set_get (x ∷ xs) (suc u) (suc t) y = deeper xs u t y (set_get xs u t y)
+
+module _ (v : Valuation) (scope : Scope) (env : Environment) (fits : Fits v scope env) where
+  abbrev found_at : ℕ → Option ℕ
+  found_at t = greatest_end (items_so_far (done_at env.done t))
+
+  behind_array : (marks : List Bool) (u : ℕ) (first last : CoreExpr) (item : Sym) (found : Option ℕ) → (ran : ArrayRan marks env u first last item) → AreBetween env.eoi ran.a ran.b found
+      → IsBehind v env.eoi (Some (record { first = form scope first; last = form scope last })) found
+  behind_array marks u first last item None ran h = (ran.a, ran.b, (known v scope env fits first ran.a ran.is_first).form, (known v scope env fits last ran.b ran.is_last).form, h)
+  behind_array marks u first last item (Some end) ran h = (ran.a, ran.b, (known v scope env fits first ran.a ran.is_first).form, (known v scope env fits last ran.b ran.is_last).form, h.0, h.1)
+
+  module _ (u : ℕ) (first last from to : CoreExpr) (item : Sym) (is_term : slice_get scope.terms u ≡ Some (Repeat first last item from to)) (ran : ArrayRan scope.marks env u first last item) where
+    abbrev bounds : Bounds
+    bounds = record { first = form scope first; last = form scope last }
+
+    abbrev arrays : List (Option Bounds)
+    arrays = slice_set scope.arrays u (Some bounds)
+
+    set_or_kept : (t : ℕ) → nat_lt 0 (least_width scope.marks (item_at scope t)) ≡ true → (slice_get arrays t ≡ slice_get scope.arrays t) ⊎ ((t ≡ u) × (slice_get arrays t ≡ Some (Some bounds)))
+        → IsBehind v env.eoi (if_there (slice_get arrays t)) (found_at t)
+    set_or_kept t wide (inl same) =
+        subst (λ o. IsBehind v env.eoi (if_there o) (found_at t)) (sym same)
+          (subst (λ b. IsBehind v env.eoi (if b then if_there (slice_get scope.arrays t) else None) (found_at t)) wide (fits.ends t))
+    set_or_kept t wide (inr set) =
+        let touches : nat_lt 0 (least_width scope.marks (Some item)) ≡ true =
+          ap (λ o. nat_lt 0 (least_width scope.marks (item_of o))) (sym is_term) ∙ ap (λ n. nat_lt 0 (least_width scope.marks (item_at scope n))) (sym set.0) ∙ wide in
+        subst (λ o. IsBehind v env.eoi (if_there o) (found_at t)) (sym set.1)
+          (behind_array scope.marks u first last item (found_at t) ran (subst (λ n. AreBetween env.eoi ran.a ran.b (found_at n)) (sym set.0) (ran.between touches)))
+
+    by_width : (wide : Bool) (t : ℕ) → nat_lt 0 (least_width scope.marks (item_at scope t)) ≡ wide → IsBehind v env.eoi (if wide then if_there (slice_get arrays t) else None) (found_at t)
+    by_width true t e = set_or_kept t e (set_get scope.arrays u t (Some bounds))
+    by_width false t e = subst (λ b. IsBehind v env.eoi (if b then if_there (slice_get scope.arrays t) else None) (found_at t)) e (fits.ends t)
+
+    array_fits : Fits v (record scope { arrays = arrays }) env
+    array_fits = record {
+      length = fits.length;
+      own = fits.own;
+      outer = fits.outer;
+      turn = fits.turn;
+      results = fits.results;
+      numbers = fits.numbers;
+      opaques = fits.opaques;
+      items = fits.items;
+      ends = λ t. by_width (nat_lt 0 (least_width scope.marks (item_at scope t))) t refl;
+    }
+
+  passed_fits : (u : ℕ) (term : Option CoreTerm) → slice_get scope.terms u ≡ term → AtRan scope.marks env u term → Fits v (record scope { arrays = arrays_with scope u term }) env
+  unfolding arrays_with
+  passed_fits u None e ran = fits
+  passed_fits u (Some (Slot slot)) e ran = fits
+  passed_fits u (Some (Set attr value)) e ran = fits
+  passed_fits u (Some (Test value)) e ran = fits
+  passed_fits u (Some (Repeat first last item from to)) e ran = array_fits u first last from to item e ran
+  passed_fits u (Some (Many item from to)) e ran = fits
+  passed_fits u (Some (Pick cases other)) e ran = fits
+
+at_so : (v : Valuation) (scope : Scope) (env : Environment) → Fits v scope env → env.eoi ≤ 2 ^ 30 → (u : ℕ) (term : Option CoreTerm) → AtRan scope.marks env u term → AreSo v (members scope u term)
+unfolding members
+at_so v scope env fits size u None ran = refl
+at_so v scope env fits size u (Some term) ran = members_so v scope env fits size u term ran
+
+passed_ran : (scope : Scope) (env : Environment) (u : ℕ) (order : List ℕ) → AllRan scope env order → AllRan (passed scope u) env order
+unfolding passed
+passed_ran scope env u [] ran = tt
+passed_ran scope env u (w ∷ order) ran = (ran.0, passed_ran scope env u order ran.1)
+
+pub terms_are_known : TermsAreKnown
+unfolding terms_members passed_all passed
+terms_are_known v scope env fits size [] ran = (refl, fits)
+terms_are_known v scope env fits size (u ∷ order) ran =
+    let next : Fits v (passed scope u) env = passed_fits v scope env fits u (slice_get scope.terms u) refl ran.0 in
+    let rest = terms_are_known v (passed scope u) env next size order (passed_ran scope env u order ran.1) in
+    (so_append v (members scope u (slice_get scope.terms u)) (terms_members (passed scope u) order) (at_so v scope env fits size u (slice_get scope.terms u) ran.0) rest.0, rest.1)

@@ -15,9 +15,9 @@ use Rattle.ipg_core.specs.Environment.{Environment}
 use Rattle.ipg_core.specs.Eval.{eval}
 use Rattle.ipg_facts.specs.Reading.{Scope, read}
 use Rattle.ipg_sound.specs.Valued.{Valuation, are_so}
-use Rattle.ipg_facts.specs.Members.{members, own_members}
+use Rattle.ipg_facts.specs.Members.{members, own_members, terms_members, passed_all}
 use Rattle.ipg_sound.specs.Known.{AreSo, Fits, Knows}
-use Rattle.ipg_sound.specs.Ran.{TermRan, CallsWhole}
+use Rattle.ipg_sound.specs.Ran.{TermRan, AllRan, CallsWhole}
 
 -- values in the box that make the formula hold
 abbrev pub Solves : Assignment → Formula × Boxed → Type 0
@@ -43,6 +43,11 @@ ValuesAreKnown = (v : Valuation) (scope : Scope) (env : Environment) → Fits v 
 abbrev pub MembersAreKnown : Type 0
 MembersAreKnown = (v : Valuation) (scope : Scope) (env : Environment) → Fits v scope env → env.eoi ≤ 2 ^ 30
     → (number : ℕ) (term : CoreTerm) → TermRan scope.marks env number term → AreSo v (members scope number (Some term))
+
+-- what terms put that have run, one after another, holds; variables still fit where their arrays' bounds are known
+abbrev pub TermsAreKnown : Type 0
+TermsAreKnown = (v : Valuation) (scope : Scope) (env : Environment) → Fits v scope env → env.eoi ≤ 2 ^ 30
+    → (order : List ℕ) → AllRan scope env order → AreSo v (terms_members scope order) × Fits v (passed_all scope order) env
 
 -- what the edge's own term puts holds where its call is made on the whole part
 abbrev pub OwnMembersAreKnown : Type 0

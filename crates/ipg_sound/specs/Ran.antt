@@ -1,14 +1,16 @@
 -- What it says of an environment that a term has run, and that a term makes a call on the whole part.
-use Rattle.std.specs.Prelude.{◌≡◌, ℕ, zero, suc, ◌≤◌, List, [], ◌∷◌, Option, Some, None, Bool, true, false, ℤ, pos, ◌≤ℤ◌, ◌<ℤ◌}
+use Rattle.std.specs.Prelude.{◌≡◌, ℕ, zero, suc, ◌≤◌, List, [], ◌∷◌, Option, Some, None, Bool, true, false, ℤ, pos, ◌≤ℤ◌, ◌<ℤ◌, nat_lt, slice_get}
 use Rattle.ipg_num.specs.Number.{limited}
 use Rattle.ipg_num.specs.declared.op.Answer.TheVariants.{Val}
+use Rattle.ipg_core.specs.declared.grammar.Sym.{Sym}
 use Rattle.ipg_core.specs.declared.grammar.CoreExpr.{CoreExpr}
 use Rattle.ipg_core.specs.declared.grammar.CoreSlot.{CoreSlot}
 use Rattle.ipg_core.specs.declared.grammar.CoreTerm.{CoreTerm}
 use Rattle.ipg_core.specs.declared.grammar.CoreTerm.TheVariants.{Slot, Set, Test, Repeat, Many, Pick}
-use Rattle.ipg_core.specs.Environment.{Environment, Done, value_at, done_at}
-use Rattle.ipg_core.specs.Eval.{eval, is_zero}
-use Rattle.ipg_sound.specs.Known.{IsResult}
+use Rattle.ipg_core.specs.Environment.{Environment, Done, value_at, done_at, items_so_far}
+use Rattle.ipg_core.specs.Eval.{eval, is_zero, greatest_end}
+use Rattle.ipg_facts.specs.Reading.{Scope, least_width}
+use Rattle.ipg_sound.specs.Known.{IsPlace, IsResult}
 
 -- the ends of an interval that is valid
 pub record IsValid (env : Environment) (from to : CoreExpr) : Type 0 where
@@ -37,13 +39,35 @@ PickRan marks env term [] other = SlotRan marks env term other
 PickRan marks env term (c ∷ cases) other =
     (x : ℤ) × (eval c.0 env ≡ Val x) × Chosen (is_zero x) (SlotRan marks env term c.1) (PickRan marks env term cases other)
 
+-- what two bounds say of the items between them, each of which touches: there are some where they are apart
+abbrev pub AreBetween : ℕ → ℤ → ℤ → Option ℕ → Type 0
+AreBetween eoi a b None = b ≤ℤ a
+AreBetween eoi a b (Some end) = (a <ℤ b) × IsPlace eoi end
+
+-- an array that has run
+pub record ArrayRan (marks : List Bool) (env : Environment) (term : ℕ) (first last : CoreExpr) (item : Sym) : Type 0 where
+  pub a : ℤ
+  pub b : ℤ
+  pub is_first : eval first env ≡ Val a
+  pub is_last : eval last env ≡ Val b
+  pub between : nat_lt 0 (least_width marks (Some item)) ≡ true → AreBetween env.eoi a b (greatest_end (items_so_far (done_at env.done term)))
+
 abbrev pub TermRan : List Bool → Environment → ℕ → CoreTerm → Type 0
 TermRan marks env term (Slot slot) = SlotRan marks env term slot
 TermRan marks env term (Set attr e) = (z : ℤ) × (eval e env ≡ Val z) × (value_at env.own attr ≡ Some z)
 TermRan marks env term (Test e) = (z : ℤ) × (eval e env ≡ Val z) × (is_zero z ≡ false)
-TermRan marks env term (Repeat first last item from to) = Unit {0}
+TermRan marks env term (Repeat first last item from to) = ArrayRan marks env term first last item
 TermRan marks env term (Many item from to) = IsValid env from to
 TermRan marks env term (Pick cases other) = PickRan marks env term cases other
+
+abbrev pub AtRan : List Bool → Environment → ℕ → Option CoreTerm → Type 0
+AtRan marks env term None = Unit {0}
+AtRan marks env term (Some t) = TermRan marks env term t
+
+-- the terms of these numbers have run
+abbrev pub AllRan : Scope → Environment → List ℕ → Type 0
+AllRan scope env [] = Unit {0}
+AllRan scope env (term ∷ order) = AtRan scope.marks env term (slice_get scope.terms term) × AllRan scope env order
 
 -- an interval is the whole part
 pub record IsWholeCall (env : Environment) (from to : CoreExpr) : Type 0 where

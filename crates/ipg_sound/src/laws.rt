@@ -1,6 +1,6 @@
 //! Laws of the conditions, each the contract of a function that does nothing.
 
-ghost use Rattle.ipg_sound.specs.Laws.{FactsSolve, MembersAreKnown, OwnMembersAreKnown, PartsSolveJoint, SpellingsDiffer, ValuesAreKnown};
+ghost use Rattle.ipg_sound.specs.Laws.{FactsSolve, MembersAreKnown, OwnMembersAreKnown, PartsSolveJoint, SpellingsDiffer, TermsAreKnown, ValuesAreKnown};
 
 /// Facts that hold where variables have values by their keys make their formula over numbers hold, in its box.
 pub fn facts_solve()
@@ -32,4 +32,9 @@ pub fn members_are_known()
 /// What the edge's own term puts holds where its call is made on the whole part.
 pub fn own_members_are_known()
     ensures { OwnMembersAreKnown }
+{}
+
+/// What terms put that have run, one after another, holds: the bounds of arrays are known behind them.
+pub fn terms_are_known()
+    ensures { TermsAreKnown }
 {}
