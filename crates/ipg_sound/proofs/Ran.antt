@@ -19,7 +19,7 @@ use Rattle.ipg_facts.specs.declared.fact.Fact.{Fact}
 use Rattle.ipg_facts.specs.declared.fact.Fact.TheVariants as facts
 use Rattle.ipg_facts.specs.Key.{attribute, loop}
 use Rattle.ipg_facts.specs.Form.{variable, equal, leq, less}
-use Rattle.ipg_facts.specs.Reading.{Scope, length_of, nought, read, form, least_width, item_of, item_at, if_there, touching}
+use Rattle.ipg_facts.specs.Reading.{Scope, length_of, nought, read, form, least_width, item_of, item_at, if_there}
 use Rattle.ipg_facts.specs.Members.{members, branches, slot_members, own_members, is_whole, takes, runs, terms_members, passed, passed_all, arrays_with}
 use Rattle.ipg_sound.specs.Valued.{Valuation, is_so}
 use Rattle.ipg_sound.specs.Known.{AreSo, Stands, Fits, IsBehind}
@@ -53,7 +53,7 @@ module _ (v : Valuation) (scope : Scope) (env : Environment) (fits : Fits v scop
     unfolding branches
     chosen_so false earlier c cases other x e f h ran rest =
         one_so (earlier ++ ((read scope c.0).holds ++ slot_members scope number c.1)) (map (is_so v) (branches scope number (earlier ++ (read scope c.0).fails) cases other))
-          (so_append v earlier _ h (so_append v (read scope c.0).holds (slot_members scope number c.1) ((known v scope env fits c.0 x e).holds f) (so_slot v scope env fits size number c.1 ran)))
+        (so_append v earlier _ h (so_append v (read scope c.0).holds (slot_members scope number c.1) ((known v scope env fits c.0 x e).holds f) (so_slot v scope env fits size number c.1 ran)))
     chosen_so true earlier c cases other x e f h ran rest =
         or_true _ _ (rest (earlier ++ (read scope c.0).fails) (so_append v earlier (read scope c.0).fails h ((known v scope env fits c.0 x e).fails f)) ran)
 
@@ -71,7 +71,7 @@ module _ (v : Valuation) (scope : Scope) (env : Environment) (fits : Fits v scop
     members_so (Slot slot) ran = so_slot v scope env fits size number slot ran
     members_so (Set attr e) ran =
         so_equal v (variable (attribute scope.side attr) []) (form scope e) ran.0 ran.0
-          (stands_key v (attribute scope.side attr) [] ran.0 refl (fits.own attr ran.0 ran.2 (is_limited e ran.0 ran.1))) (known v scope env fits e ran.0 ran.1).form refl
+        (stands_key v (attribute scope.side attr) [] ran.0 refl (fits.own attr ran.0 ran.2 (is_limited e ran.0 ran.1))) (known v scope env fits e ran.0 ran.1).form refl
     members_so (Test e) ran = (known v scope env fits e ran.0 ran.1).holds ran.2
     members_so (Repeat first last item from to) ran = refl
     members_so (Many item from to) ran =
@@ -82,16 +82,16 @@ module _ (v : Valuation) (scope : Scope) (env : Environment) (fits : Fits v scop
   unfolding is_whole
   whole_so from to call =
       so_append v (equal (form scope from) nought) (equal (form scope to) (length_of scope))
-        (so_equal v (form scope from) nought (pos 0) (pos 0) (known v scope env fits from (pos 0) call.is_left).form (stands_nought v) refl)
-        (so_equal v (form scope to) (length_of scope) (pos env.eoi) (pos env.eoi) (known v scope env fits to (pos env.eoi) call.is_right).form (stands_length v scope env fits) refl)
+      (so_equal v (form scope from) nought (pos 0) (pos 0) (known v scope env fits from (pos 0) call.is_left).form (stands_nought v) refl)
+      (so_equal v (form scope to) (length_of scope) (pos env.eoi) (pos env.eoi) (known v scope env fits to (pos env.eoi) call.is_right).form (stands_length v scope env fits) refl)
 
   runs_so : (first last : CoreExpr) → Turns env first last → AreSo v (runs scope first last)
   unfolding runs
   runs_so first last t =
       let i : Stands v (variable (loop scope.side) []) t.turn = stands_key v (loop scope.side) [] t.turn refl (fits.turn t.turn t.is_turn t.number) in
       so_append v (leq (form scope first) (variable (loop scope.side) [])) (less (variable (loop scope.side) []) (form scope last))
-        (so_leq v (form scope first) (variable (loop scope.side) []) t.a t.turn (known v scope env fits first t.a t.is_first).form i t.begun)
-        (so_less v (variable (loop scope.side) []) (form scope last) t.turn t.b i (known v scope env fits last t.b t.is_last).form t.ends)
+      (so_leq v (form scope first) (variable (loop scope.side) []) t.a t.turn (known v scope env fits first t.a t.is_first).form i t.begun)
+      (so_less v (variable (loop scope.side) []) (form scope last) t.turn t.b i (known v scope env fits last t.b t.is_last).form t.ends)
 
   takes_so : (cases : List (CoreExpr × CoreSlot)) (other : CoreSlot) (b : ℕ) → TakesWhole env cases other b → AreSo v (takes scope cases other b)
   unfolding takes
@@ -149,12 +149,12 @@ module _ (v : Valuation) (scope : Scope) (env : Environment) (fits : Fits v scop
         → IsBehind v env.eoi (if_there (slice_get arrays t)) (found_at t)
     set_or_kept t wide (inl same) =
         subst (λ o. IsBehind v env.eoi (if_there o) (found_at t)) (sym same)
-          (subst (λ b. IsBehind v env.eoi (if b then if_there (slice_get scope.arrays t) else None) (found_at t)) wide (fits.ends t))
+        (subst (λ b. IsBehind v env.eoi (if b then if_there (slice_get scope.arrays t) else None) (found_at t)) wide (fits.ends t))
     set_or_kept t wide (inr set) =
         let touches : nat_lt 0 (least_width scope.marks (Some item)) ≡ true =
-          ap (λ o. nat_lt 0 (least_width scope.marks (item_of o))) (sym is_term) ∙ ap (λ n. nat_lt 0 (least_width scope.marks (item_at scope n))) (sym set.0) ∙ wide in
+        ap (λ o. nat_lt 0 (least_width scope.marks (item_of o))) (sym is_term) ∙ ap (λ n. nat_lt 0 (least_width scope.marks (item_at scope n))) (sym set.0) ∙ wide in
         subst (λ o. IsBehind v env.eoi (if_there o) (found_at t)) (sym set.1)
-          (behind_array scope.marks u first last item (found_at t) ran (subst (λ n. AreBetween env.eoi ran.a ran.b (found_at n)) (sym set.0) (ran.between touches)))
+        (behind_array scope.marks u first last item (found_at t) ran (subst (λ n. AreBetween env.eoi ran.a ran.b (found_at n)) (sym set.0) (ran.between touches)))
 
     by_width : (wide : Bool) (t : ℕ) → nat_lt 0 (least_width scope.marks (item_at scope t)) ≡ wide → IsBehind v env.eoi (if wide then if_there (slice_get arrays t) else None) (found_at t)
     by_width true t e = set_or_kept t e (set_get scope.arrays u t (Some bounds))

@@ -1,6 +1,6 @@
 -- What a slot puts holds where it has a result.
-use Rattle.std.proofs.Common.{◌≡◌, ℕ, zero, suc, ◌+◌, ◌-◌, ◌<◌, ◌≤◌, ◌^◌, Bool, true, false, ◌&&◌, ◌||◌, List, [], ◌∷◌, ◌++◌, length, refl, sym, ap, subst, ◌∙◌, arith, ℤ, pos, negsuc, ◌+ℤ◌, Option, Some, None, if◌then◌else◌, nat_lt, nat_eq}
-use Rattle.std.specs.Prelude.{◌≤ℤ◌, ◌<ℤ◌, bytes_eq, codes}
+use Rattle.std.proofs.Common.{◌≡◌, ℕ, zero, suc, ◌+◌, ◌-◌, ◌<◌, ◌≤◌, ◌^◌, Bool, true, false, ◌&&◌, ◌||◌, List, [], ◌++◌, length, refl, sym, ap, subst, ◌∙◌, arith, ℤ, pos, negsuc, ◌+ℤ◌, Option, Some, None, if◌then◌else◌, nat_lt, nat_eq}
+use Rattle.std.specs.Prelude.{◌≤ℤ◌, bytes_eq, codes}
 use Rattle.std.proofs.lemmas.Int.{ints}
 use Rattle.std.proofs.lemmas.Bool.Decides.{nat_tests}
 use Rattle.std.proofs.lemmas.Slice.Eq.{bytes_eq-Decides}
@@ -13,16 +13,14 @@ use Rattle.ipg_core.specs.declared.grammar.Sym.{Sym}
 use Rattle.ipg_core.specs.declared.grammar.Sym.TheVariants.{Text, Prim, Rule}
 use Rattle.ipg_core.specs.declared.grammar.CoreSlot.{CoreSlot}
 use Rattle.ipg_core.specs.Grammar.{same_sym, is_text, primitive_number}
-use Rattle.ipg_core.specs.Tree.{Tree, Node, Kid, Sub, Token, Number, Raw, sym_of, rule_of}
+use Rattle.ipg_core.specs.Tree.{Tree, Kid, Sub, Token, Number, Raw, sym_of}
 use Rattle.ipg_core.specs.Touch.{Ends, width, untouched, moved, first_of, tree_ends, ends_of}
-use Rattle.ipg_core.specs.Touch as touch
-use Rattle.ipg_core.specs.Environment.{Environment, Done, done_at, seen, field_of, is_read_by, number_attr, whole_of, half_of}
-use Rattle.ipg_core.specs.Eval.{eval}
+use Rattle.ipg_core.specs.Environment.{Environment, Done, done_at, seen, field_of, number_attr}
 use Rattle.ipg_core.specs.MustTouch.{is_marked}
 use Rattle.ipg_facts.specs.declared.fact.Form.{Form}
 use Rattle.ipg_facts.specs.Key.{start, end, named}
-use Rattle.ipg_facts.specs.Form.{variable, leq, less, equal, choice, shifted}
-use Rattle.ipg_facts.specs.Reading.{Scope, length_of, nought, greatest, whole_greatest, half_greatest, ranges, form}
+use Rattle.ipg_facts.specs.Form.{variable, leq, less, equal, shifted}
+use Rattle.ipg_facts.specs.Reading.{Scope, length_of, nought, greatest, ranges, form}
 use Rattle.ipg_facts.specs.Members.{is_valid, start_of, end_of, touches_none, touches_some, touches_first, touches_all, attr_ranges, number_ranges, text_touches, number_touches, primitive_touches, rule_touches, touches, on_interval, slot_members}
 use Rattle.ipg_sound.specs.Valued.{Valuation}
 use Rattle.ipg_sound.specs.Known.{AreSo, Stands, Fits, IsRanged, AreRanged, IsTreeOf, IsResult}
@@ -78,9 +76,10 @@ ends_at w a b e = ap (λ t. a + (if t then untouched (b - a) else (let ends : En
 first_within : (w a b : ℕ) → a ≤ b → w ≤ b - a → ((moved a (first_of (b - a) w)).start ≤ b) × ((moved a (first_of (b - a) w)).end ≤ b)
 unfolding moved first_of untouched
 first_within zero a b h k = (omega arith, omega arith)
-first_within (suc w) a b h k =
-    (let e : (moved a (first_of (b - a) (suc w))).start ≡ a = starts_at (suc w) a b (suc_is w) in omega arith,
-     let e : (moved a (first_of (b - a) (suc w))).end ≡ a + suc w = ends_at (suc w) a b (suc_is w) in omega arith)
+first_within (suc w) a b h k = (
+  let e : (moved a (first_of (b - a) (suc w))).start ≡ a = starts_at (suc w) a b (suc_is w) in omega arith,
+  let e : (moved a (first_of (b - a) (suc w))).end ≡ a + suc w = ends_at (suc w) a b (suc_is w) in omega arith,
+)
 
 whole_there : (test : Bool) (most low n : ℕ) → (if test then Some most else None) ≡ Some n → (z : ℤ) × ((if test then Some (pos low) else None) ≡ Some z)
 whole_there true most low n e = (pos low, refl)
@@ -123,8 +122,8 @@ module _ (v : Valuation) (scope : Scope) (env : Environment) (fits : Fits v scop
   unfolding is_valid
   so_valid l r a b s t h k =
       so_append v (leq nought l) (leq l r ++ leq r (length_of scope)) (so_leq v nought l (pos 0) (pos a) (stands_nought v) s (omega (arith, ints)))
-        (so_append v (leq l r) (leq r (length_of scope)) (so_leq v l r (pos a) (pos b) s t (omega (arith, ints)))
-          (so_leq v r (length_of scope) (pos b) (pos env.eoi) t (stands_length v scope env fits) (omega (arith, ints))))
+      (so_append v (leq l r) (leq r (length_of scope)) (so_leq v l r (pos a) (pos b) s t (omega (arith, ints)))
+      (so_leq v r (length_of scope) (pos b) (pos env.eoi) t (stands_length v scope env fits) (omega (arith, ints))))
 
   -- a result of the term, on [a, b], with these ends
   module _ (term : ℕ) (l r : Form) (a b x y : ℕ) (s : Stands v l (pos a)) (t : Stands v r (pos b))
@@ -133,31 +132,31 @@ module _ (v : Valuation) (scope : Scope) (env : Environment) (fits : Fits v scop
     unfolding touches_none
     so_none e f =
         so_append v (equal (start_of scope term) r) (equal (end_of scope term) l) (so_equal v (start_of scope term) r (pos x) (pos b) begins t (ap pos e))
-          (so_equal v (end_of scope term) l (pos y) (pos a) ends s (ap pos f))
+        (so_equal v (end_of scope term) l (pos y) (pos a) ends s (ap pos f))
 
     so_some : a ≤ x → x < y → y ≤ b → AreSo v (touches_some scope term l r)
     unfolding touches_some
     so_some h k m =
         so_append v (leq l (start_of scope term)) (less (start_of scope term) (end_of scope term) ++ leq (end_of scope term) r)
-          (so_leq v l (start_of scope term) (pos a) (pos x) s begins (omega (arith, ints)))
-          (so_append v (less (start_of scope term) (end_of scope term)) (leq (end_of scope term) r)
-            (so_less v (start_of scope term) (end_of scope term) (pos x) (pos y) begins ends (omega (arith, ints)))
-            (so_leq v (end_of scope term) r (pos y) (pos b) ends t (omega (arith, ints))))
+        (so_leq v l (start_of scope term) (pos a) (pos x) s begins (omega (arith, ints)))
+        (so_append v (less (start_of scope term) (end_of scope term)) (leq (end_of scope term) r)
+        (so_less v (start_of scope term) (end_of scope term) (pos x) (pos y) begins ends (omega (arith, ints)))
+        (so_leq v (end_of scope term) r (pos y) (pos b) ends t (omega (arith, ints))))
 
     so_width : (w : ℕ) → x ≡ a → y ≡ a + w → a + w ≤ b → AreSo v (touches_first scope term l r w)
     unfolding touches_first
     so_width w e f h =
         so_append v (equal (start_of scope term) l) (equal (end_of scope term) (shifted l (pos w)) ++ leq (end_of scope term) r)
-          (so_equal v (start_of scope term) l (pos x) (pos a) begins s (ap pos e))
-          (so_append v (equal (end_of scope term) (shifted l (pos w))) (leq (end_of scope term) r)
-            (so_equal v (end_of scope term) (shifted l (pos w)) (pos y) (pos a +ℤ pos w) ends (stands_shifted v l (pos w) (pos a) s) (ap pos f))
-            (so_leq v (end_of scope term) r (pos y) (pos b) ends t (omega (arith, ints))))
+        (so_equal v (start_of scope term) l (pos x) (pos a) begins s (ap pos e))
+        (so_append v (equal (end_of scope term) (shifted l (pos w))) (leq (end_of scope term) r)
+        (so_equal v (end_of scope term) (shifted l (pos w)) (pos y) (pos a +ℤ pos w) ends (stands_shifted v l (pos w) (pos a) s) (ap pos f))
+        (so_leq v (end_of scope term) r (pos y) (pos b) ends t (omega (arith, ints))))
 
     so_all : x ≡ a → y ≡ b → AreSo v (touches_all scope term l r)
     unfolding touches_all
     so_all e f =
         so_append v (equal (start_of scope term) l) (equal (end_of scope term) r) (so_equal v (start_of scope term) l (pos x) (pos a) begins s (ap pos e))
-          (so_equal v (end_of scope term) r (pos y) (pos b) ends t (ap pos f))
+        (so_equal v (end_of scope term) r (pos y) (pos b) ends t (ap pos f))
 
     -- a terminal of w bytes
     so_text : (w : ℕ) → a ≤ b → w ≤ b - a → x ≡ (moved a (first_of (b - a) w)).start → y ≡ (moved a (first_of (b - a) w)).end → AreSo v (text_touches scope term l r w)
@@ -198,7 +197,7 @@ module _ (v : Valuation) (scope : Scope) (env : Environment) (fits : Fits v scop
       let z = attr_there prim name high low n g in
       let within : IsRanged (Some n) z.0 = subst (λ o. IsRanged o z.0) g (ranged name z.0 z.1) in
       so_ranges v (variable (named scope.side term name) []) (Some n) z.0
-        (stands_key v (named scope.side term name) [] z.0 refl (fits.numbers term d from to prim high low name z.0 e f z.1 (in_range n z.0 (most_of prim name n g) within))) within
+      (stands_key v (named scope.side term name) [] z.0 refl (fits.numbers term d from to prim high low name z.0 e f z.1 (in_range n z.0 (most_of prim name n g) within))) within
 
   so_attr : (term : ℕ) (d : Done) (from to : ℕ) (prim : Primitive) (high low : ℕ) (name : List ℕ) → done_at env.done term ≡ Some d → d.kid ≡ Number from to prim high low → AreRanged prim high low
       → AreSo v (attr_ranges scope term prim name)
@@ -210,8 +209,8 @@ module _ (v : Valuation) (scope : Scope) (env : Environment) (fits : Fits v scop
   unfolding number_ranges
   so_numbers term d from to prim high low e f ranged =
       so_append v (attr_ranges scope term prim (codes "hi")) _ (so_attr term d from to prim high low (codes "hi") e f ranged)
-        (so_append v (attr_ranges scope term prim (codes "lo")) (attr_ranges scope term prim (codes "val")) (so_attr term d from to prim high low (codes "lo") e f ranged)
-          (so_attr term d from to prim high low (codes "val") e f ranged))
+      (so_append v (attr_ranges scope term prim (codes "lo")) (attr_ranges scope term prim (codes "val")) (so_attr term d from to prim high low (codes "lo") e f ranged)
+      (so_attr term d from to prim high low (codes "val") e f ranged))
 
   -- the ends of a result are the values of its fields
   read_is : (term : ℕ) (d : Done) (z : Option ℤ) → done_at env.done term ≡ Some d → seen env.names (sym_of d.kid) Start (done_at env.done term) ≡ field_of env.names Start d.kid
@@ -238,9 +237,9 @@ module _ (v : Valuation) (scope : Scope) (env : Environment) (fits : Fits v scop
         let is : ends_of d.kid ≡ ends = ap ends_of f ∙ ap (λ n. moved n (first_of (to - n) (length token))) p ∙ ap (λ n. moved a (first_of (n - a) (length token))) q ∙ ap (λ bs. moved a (first_of (b - a) (length bs))) same in
         let in_part : (ends.start ≤ b) × (ends.end ≤ b) = first_within (length bytes) a b valid h in
         so_text term l r a b ends.start ends.end s t
-          (begins_at term d ends.start e (ap (field_of env.names Start) f ∙ ap (λ (k : Ends). Some (pos k.start)) (sym (ap ends_of f) ∙ is)) (omega arith))
-          (ends_at_place term d ends.end e (ap (field_of env.names End) f ∙ ap (λ (k : Ends). Some (pos k.end)) (sym (ap ends_of f) ∙ is)) (omega arith))
-          (length bytes) valid h refl refl
+        (begins_at term d ends.start e (ap (field_of env.names Start) f ∙ ap (λ (k : Ends). Some (pos k.start)) (sym (ap ends_of f) ∙ is)) (omega arith))
+        (ends_at_place term d ends.end e (ap (field_of env.names End) f ∙ ap (λ (k : Ends). Some (pos k.end)) (sym (ap ends_of f) ∙ is)) (omega arith))
+        (length bytes) valid h refl refl
 
     number_so : (d : Done) (from to : ℕ) (p prim : Primitive) (high low : ℕ) → done_at env.done term ≡ Some d → d.kid ≡ Number from to p high low → from ≡ a → to ≡ b → p ≡ prim
         → width prim ≤ b - a → nat_eq (width prim) 0 ≡ false → AreRanged prim high low → AreSo v (number_touches scope term l r prim)
@@ -250,17 +249,17 @@ module _ (v : Valuation) (scope : Scope) (env : Environment) (fits : Fits v scop
         let is : ends_of d.kid ≡ ends = ap ends_of f ∙ ap (λ n. moved n (first_of (to - n) (width p))) g ∙ ap (λ n. moved a (first_of (n - a) (width p))) q ∙ ap (λ m. moved a (first_of (b - a) (width m))) same in
         let in_part : (ends.start ≤ b) × (ends.end ≤ b) = first_within (width prim) a b valid h in
         so_append v (touches_first scope term l r (width prim)) (number_ranges scope term prim)
-          (so_width term l r a b ends.start ends.end s t
-            (begins_at term d ends.start e (ap (field_of env.names Start) f ∙ ap (λ (k : Ends). Some (pos k.start)) (sym (ap ends_of f) ∙ is)) (omega arith))
-            (ends_at_place term d ends.end e (ap (field_of env.names End) f ∙ ap (λ (k : Ends). Some (pos k.end)) (sym (ap ends_of f) ∙ is)) (omega arith))
-            (width prim) (starts_at (width prim) a b some) (ends_at (width prim) a b some) (omega arith))
-          (so_numbers term d from to prim high low e (f ∙ ap (λ m. Number from to m high low) same) ranged)
+        (so_width term l r a b ends.start ends.end s t
+        (begins_at term d ends.start e (ap (field_of env.names Start) f ∙ ap (λ (k : Ends). Some (pos k.start)) (sym (ap ends_of f) ∙ is)) (omega arith))
+        (ends_at_place term d ends.end e (ap (field_of env.names End) f ∙ ap (λ (k : Ends). Some (pos k.end)) (sym (ap ends_of f) ∙ is)) (omega arith))
+        (width prim) (starts_at (width prim) a b some) (ends_at (width prim) a b some) (omega arith))
+        (so_numbers term d from to prim high low e (f ∙ ap (λ m. Number from to m high low) same) ranged)
 
     raw_so : (d : Done) (from to : ℕ) (bytes : List ℕ) → done_at env.done term ≡ Some d → d.kid ≡ Raw from to bytes → from ≡ a → to ≡ b → AreSo v (touches_all scope term l r)
     raw_so d from to bytes e f g q =
         so_all term l r a b a b s t
-          (begins_at term d a e (ap (field_of env.names Start) f ∙ ap (λ n. Some (pos n)) g) (omega arith))
-          (ends_at_place term d b e (ap (field_of env.names End) f ∙ ap (λ n. Some (pos n)) q) (omega arith)) refl refl
+        (begins_at term d a e (ap (field_of env.names Start) f ∙ ap (λ n. Some (pos n)) g) (omega arith))
+        (ends_at_place term d b e (ap (field_of env.names End) f ∙ ap (λ n. Some (pos n)) q) (omega arith)) refl refl
 
     tree_so : (d : Done) (from to callee : ℕ) (tree : Tree) → done_at env.done term ≡ Some d → d.kid ≡ Sub from to tree → from ≡ a → IsTreeOf scope.marks callee (b - a) tree
         → AreSo v (rule_touches scope term l r (is_marked scope.marks callee))
@@ -270,9 +269,9 @@ module _ (v : Valuation) (scope : Scope) (env : Environment) (fits : Fits v scop
         let p : n ≤ b - a = is.starts in
         let q : m ≤ b - a = is.ends in
         so_rule term l r a b (a + n) (a + m) s t
-          (begins_at term d (a + n) e (ap (field_of env.names Start) f ∙ ap (λ k. Some (pos k)) (sub_start from to tree ∙ ap (λ k. k + n) g)) (omega arith))
-          (ends_at_place term d (a + m) e (ap (field_of env.names End) f ∙ ap (λ k. Some (pos k)) (sub_end from to tree ∙ ap (λ k. k + m) g)) (omega arith))
-          (is_marked scope.marks callee) valid n m p q refl refl (nat_lt n m) refl is.must is.none
+        (begins_at term d (a + n) e (ap (field_of env.names Start) f ∙ ap (λ k. Some (pos k)) (sub_start from to tree ∙ ap (λ k. k + n) g)) (omega arith))
+        (ends_at_place term d (a + m) e (ap (field_of env.names End) f ∙ ap (λ k. Some (pos k)) (sub_end from to tree ∙ ap (λ k. k + m) g)) (omega arith))
+        (is_marked scope.marks callee) valid n m p q refl refl (nat_lt n m) refl is.must is.none
 
     result_so : (sym : Sym) (d : Done) (k : Kid) → done_at env.done term ≡ Some d → d.kid ≡ k → IsResult scope.marks sym a b k → AreSo v (touches scope term sym l r)
     unfolding touches primitive_touches
@@ -296,5 +295,5 @@ so_slot v scope env fits size term slot ran =
     let left : Stands v (form scope slot.from) (pos l) = (known v scope env fits slot.from (pos l) ran.valid.is_left).form in
     let right : Stands v (form scope slot.to) (pos r) = (known v scope env fits slot.to (pos r) ran.valid.is_right).form in
     so_append v (is_valid scope (form scope slot.from) (form scope slot.to)) (touches scope term slot.sym (form scope slot.from) (form scope slot.to))
-      (so_valid v scope env fits size (form scope slot.from) (form scope slot.to) l r left right ran.valid.order ran.valid.inside)
-      (result_so v scope env fits size term (form scope slot.from) (form scope slot.to) l r left right ran.valid.order ran.valid.inside slot.sym ran.done ran.done.kid ran.there refl ran.result)
+    (so_valid v scope env fits size (form scope slot.from) (form scope slot.to) l r left right ran.valid.order ran.valid.inside)
+    (result_so v scope env fits size term (form scope slot.from) (form scope slot.to) l r left right ran.valid.order ran.valid.inside slot.sym ran.done ran.done.kid ran.there refl ran.result)

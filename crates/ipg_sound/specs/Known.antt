@@ -6,7 +6,7 @@ use Rattle.ipg_num.specs.declared.op.Answer.TheVariants.{Val}
 use Rattle.ipg_core.specs.declared.grammar.CoreField.{CoreField}
 use Rattle.ipg_core.specs.declared.grammar.CoreField.TheVariants.{Attr, Start, End}
 use Rattle.ipg_core.specs.declared.grammar.Primitive.{Primitive}
-use Rattle.ipg_core.specs.declared.grammar.Primitive.TheVariants.{U8, U16LE, U16BE, U32LE, U32BE, U64LE, U64BE, Bytes}
+use Rattle.ipg_core.specs.declared.grammar.Primitive.TheVariants.{Bytes}
 use Rattle.ipg_core.specs.declared.grammar.Sym.{Sym}
 use Rattle.ipg_core.specs.declared.grammar.Sym.TheVariants.{Text, Prim, Rule}
 use Rattle.ipg_core.specs.Tree.{Tree, Kid, Sub, Token, Number, Raw, rule_of}
@@ -22,7 +22,7 @@ use Rattle.ipg_facts.specs.declared.fact.Form.{Form}
 use Rattle.ipg_facts.specs.declared.fact.Fact.{Fact}
 use Rattle.ipg_facts.specs.declared.fact.Bounds.{Bounds}
 use Rattle.ipg_facts.specs.Key.{whole, attribute, loop, field, named, value, holder_side, spelled}
-use Rattle.ipg_facts.specs.Reading.{Scope, Reading, least_width, item_at, greatest, greatest_of, touching, read}
+use Rattle.ipg_facts.specs.Reading.{Scope, Reading, least_width, item_at, greatest, greatest_of, touching}
 use Rattle.ipg_sound.specs.Valued.{Valuation, are_so}
 
 -- every fact holds
