@@ -9,3 +9,4 @@ pub mod Relate
 pub mod Rebuild
 pub mod Slots
 pub mod Ran
+pub mod Grows

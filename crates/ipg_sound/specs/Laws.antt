@@ -1,5 +1,5 @@
 -- Laws of conditions: facts that hold give a solution, and solutions of parts one of their joint.
-use Rattle.std.specs.Prelude.{◌≡◌, ◌^◌, ◌<◌, ◌≤◌, Some, List, [], ◌∷◌, length, ℤ, pos, negsuc, ◌≤ℤ◌, IsTrue, true, ℕ}
+use Rattle.std.specs.Prelude.{◌≡◌, ◌^◌, ◌<◌, ◌≤◌, Some, List, [], ◌∷◌, length, ℤ, pos, negsuc, ◌≤ℤ◌, IsTrue, true, ℕ, Bool}
 use Rattle.ipg_lin.specs.Form.{Assignment}
 use Rattle.ipg_lin.specs.Formula.{holds_at, width, LiesIn}
 use Rattle.ipg_lin.specs.declared.formula.Formula.{Formula}
@@ -17,6 +17,9 @@ use Rattle.ipg_facts.specs.Reading.{Scope, read}
 use Rattle.ipg_sound.specs.Valued.{Valuation, are_so}
 use Rattle.ipg_facts.specs.Members.{members, own_members, terms_members, passed_all}
 use Rattle.ipg_sound.specs.Known.{AreSo, Fits, Knows}
+use Rattle.std.specs.List.{AllByRecursion}
+use Rattle.ipg_core.specs.Mention.{mentions}
+use Rattle.ipg_sound.specs.Grows.{Grows, IsSettled}
 use Rattle.ipg_sound.specs.Ran.{TermRan, AllRan, CallsWhole}
 
 -- values in the box that make the formula hold
@@ -53,6 +56,11 @@ TermsAreKnown = (v : Valuation) (scope : Scope) (env : Environment) → Fits v s
 abbrev pub OwnMembersAreKnown : Type 0
 OwnMembersAreKnown = (v : Valuation) (scope : Scope) (env : Environment) → Fits v scope env
     → (branch : ℕ) (term : CoreTerm) → CallsWhole env branch term → AreSo v (own_members scope branch (Some term))
+
+-- a value stays where its environment goes on
+abbrev pub ValuesStay : Type 0
+ValuesStay = (has_ended : ℕ → Bool) (env later : Environment) → Grows has_ended env later
+    → (e : CoreExpr) (z : ℤ) → AllByRecursion (IsSettled has_ended) (mentions e) → eval e env ≡ Val z → eval e later ≡ Val z
 
 -- no two expressions are spelled alike
 abbrev pub SpellingsDiffer : Type 0

@@ -4,6 +4,8 @@ pub mod Valued
 pub mod Known
 -- what a term that has run says of an environment
 pub mod Ran
+-- an environment that goes on
+pub mod Grows
 -- a call that is made on the whole part
 pub mod Reached
 -- what the laws say

@@ -1,6 +1,6 @@
 //! Laws of the conditions, each the contract of a function that does nothing.
 
-ghost use Rattle.ipg_sound.specs.Laws.{FactsSolve, MembersAreKnown, OwnMembersAreKnown, PartsSolveJoint, SpellingsDiffer, TermsAreKnown, ValuesAreKnown};
+ghost use Rattle.ipg_sound.specs.Laws.{FactsSolve, MembersAreKnown, OwnMembersAreKnown, PartsSolveJoint, SpellingsDiffer, TermsAreKnown, ValuesAreKnown, ValuesStay};
 
 /// Facts that hold where variables have values by their keys make their formula over numbers hold, in its box.
 pub fn facts_solve()
@@ -37,4 +37,9 @@ pub fn own_members_are_known()
 /// What terms put that have run, one after another, holds: the bounds of arrays are known behind them.
 pub fn terms_are_known()
     ensures { TermsAreKnown }
+{}
+
+/// A value stays where its environment goes on, if behind the items that are mentioned nothing is added.
+pub fn values_stay()
+    ensures { ValuesStay }
 {}
