@@ -1,19 +1,19 @@
 -- A value stays where its environment goes on.
-use Rattle.std.proofs.Common.{◌≡◌, ℕ, Bool, true, false, not, List, [], ◌∷◌, ◌++◌, refl, sym, ap, subst, ◌∙◌, ℤ, pos, Option, Some, None, if◌then◌else◌}
+use Rattle.std.proofs.Common.{◌≡◌, ℕ, Bool, true, false, not, List, [], ◌∷◌, ◌++◌, sym, ap, subst, ◌∙◌, ℤ, pos, Option, Some, None, if◌then◌else◌}
 use Rattle.std.specs.List.{AllByRecursion}
 use Rattle.ipg_num.specs.Number.{limited, flag, apply_of, negate_of}
 use Rattle.ipg_num.specs.declared.op.Answer.{Answer}
-use Rattle.ipg_num.specs.declared.op.Answer.TheVariants.{Val, Fail, Range}
+use Rattle.ipg_num.specs.declared.op.Answer.TheVariants.{Val}
 use Rattle.ipg_core.specs.declared.grammar.CoreExpr.{CoreExpr, map-CoreExpr, roll-CoreExpr, fold-roll-CoreExpr}
 use Rattle.ipg_core.specs.declared.grammar.CoreExpr.TheOpen.{CoreExpr-F}
-use Rattle.ipg_core.specs.Environment.{Environment, value_at, done_at, items_so_far, seen, field_of_item}
+use Rattle.ipg_core.specs.Environment.{Environment, done_at, items_so_far, field_of_item}
 use Rattle.ipg_core.specs.Eval as core
 use Rattle.ipg_core.specs.Eval.{eval, on_value, found, is_zero, behind, greatest_end, limited_reading}
-use Rattle.ipg_core.specs.Mention.{Mention, AfterOf, ItemOf, mentions, mentions_step, field_mentions}
+use Rattle.ipg_core.specs.Mention.{Mention, mentions, mentions_step, field_mentions}
 use Rattle.ipg_sound.specs.Grows.{Grows, IsSettled}
 use Rattle.ipg_sound.specs.Laws.{ValuesStay}
 use Rattle.ipg_sound.proofs.Induct.{Sure, bare, induct}
-use Rattle.ipg_sound.proofs.Answers.{found_is, Kept, kept, First, first_of}
+use Rattle.ipg_sound.proofs.Answers.{found_is, kept, first_of}
 
 all_left : {A : Type 0} (P : A → Type 0) (xs ys : List A) → AllByRecursion P (xs ++ ys) → AllByRecursion P xs
 all_left P [] ys h = tt
@@ -67,7 +67,7 @@ module _ (ended : ℕ → Bool) (env later : Environment) (grows : Grows ended e
   layer (CoreExpr-F.Item term index f) z m e =
       let i = first_of (eval index.0 env) (λ i. found (field_of_item env.names f (core.item_at (items_so_far (done_at env.done term)) i))) z e in
       then_is (eval index.0 later) (λ i. found (field_of_item later.names f (core.item_at (items_so_far (done_at later.done term)) i))) i.first z
-        (index.1 i.first (all_left (IsSettled ended) (mentions index.0) (field_mentions f) m.1) i.is) (found_at _ z (grows.items term f i.first z (found_is _ z i.goes)))
+      (index.1 i.first (all_left (IsSettled ended) (mentions index.0) (field_mentions f) m.1) i.is) (found_at _ z (grows.items term f i.first z (found_is _ z i.goes)))
   layer (CoreExpr-F.After term left) z m e =
       behind_is (greatest_end (items_so_far (done_at env.done term))) (greatest_end (items_so_far (done_at later.done term))) (eval left.0 env) (eval left.0 later) z (grows.ended term m.0) (left.1 z m.1) e
   layer (CoreExpr-F.Neg a) z m e =
@@ -78,20 +78,20 @@ module _ (ended : ℕ → Bool) (env later : Environment) (grows : Grows ended e
       let x = first_of (eval a.0 env) (λ x. on_value (eval b.0 env) (λ y. apply_of op x y)) z e in
       let y = first_of (eval b.0 env) (λ y. apply_of op x.first y) z x.goes in
       then_is (eval a.0 later) (λ x. on_value (eval b.0 later) (λ y. apply_of op x y)) x.first z (a.1 x.first (all_left (IsSettled ended) (mentions a.0) (mentions b.0) m) x.is)
-        (then_is (eval b.0 later) (λ y. apply_of op x.first y) y.first z (b.1 y.first (all_right (IsSettled ended) (mentions a.0) (mentions b.0) m) y.is) y.goes)
+      (then_is (eval b.0 later) (λ y. apply_of op x.first y) y.first z (b.1 y.first (all_right (IsSettled ended) (mentions a.0) (mentions b.0) m) y.is) y.goes)
   layer (CoreExpr-F.Both a b) z m e =
       let x = first_of (eval a.0 env) (λ x. if is_zero x then flag false else on_value (eval b.0 env) (λ y. flag (not (is_zero y)))) z e in
       then_is (eval a.0 later) (λ x. if is_zero x then flag false else on_value (eval b.0 later) (λ y. flag (not (is_zero y)))) x.first z (a.1 x.first (all_left (IsSettled ended) (mentions a.0) (mentions b.0) m) x.is)
-        (both_is (is_zero x.first) (eval b.0 env) (eval b.0 later) z (λ y f. b.1 y (all_right (IsSettled ended) (mentions a.0) (mentions b.0) m) f) x.goes)
+      (both_is (is_zero x.first) (eval b.0 env) (eval b.0 later) z (λ y f. b.1 y (all_right (IsSettled ended) (mentions a.0) (mentions b.0) m) f) x.goes)
   layer (CoreExpr-F.Either a b) z m e =
       let x = first_of (eval a.0 env) (λ x. if is_zero x then on_value (eval b.0 env) (λ y. flag (not (is_zero y))) else flag true) z e in
       then_is (eval a.0 later) (λ x. if is_zero x then on_value (eval b.0 later) (λ y. flag (not (is_zero y))) else flag true) x.first z (a.1 x.first (all_left (IsSettled ended) (mentions a.0) (mentions b.0) m) x.is)
-        (either_is (is_zero x.first) (eval b.0 env) (eval b.0 later) z (λ y f. b.1 y (all_right (IsSettled ended) (mentions a.0) (mentions b.0) m) f) x.goes)
+      (either_is (is_zero x.first) (eval b.0 env) (eval b.0 later) z (λ y f. b.1 y (all_right (IsSettled ended) (mentions a.0) (mentions b.0) m) f) x.goes)
   layer (CoreExpr-F.Cond c a b) z m e =
       let x = first_of (eval c.0 env) (λ x. if is_zero x then eval b.0 env else eval a.0 env) z e in
       let rest : AllByRecursion (IsSettled ended) (mentions a.0 ++ mentions b.0) = all_right (IsSettled ended) (mentions c.0) (mentions a.0 ++ mentions b.0) m in
       then_is (eval c.0 later) (λ x. if is_zero x then eval b.0 later else eval a.0 later) x.first z (c.1 x.first (all_left (IsSettled ended) (mentions c.0) (mentions a.0 ++ mentions b.0) m) x.is)
-        (cond_is (is_zero x.first) (eval a.0 env) (eval b.0 env) (eval a.0 later) (eval b.0 later) z (a.1 z (all_left (IsSettled ended) (mentions a.0) (mentions b.0) rest)) (b.1 z (all_right (IsSettled ended) (mentions a.0) (mentions b.0) rest)) x.goes)
+      (cond_is (is_zero x.first) (eval a.0 env) (eval b.0 env) (eval a.0 later) (eval b.0 later) z (a.1 z (all_left (IsSettled ended) (mentions a.0) (mentions b.0) rest)) (b.1 z (all_right (IsSettled ended) (mentions a.0) (mentions b.0) rest)) x.goes)
 
   rolled : (y : CoreExpr-F (Sure Stays)) → Stays (roll-CoreExpr (bare y))
   unfolding eval
