@@ -195,10 +195,10 @@ module _ (v : Valuation) where
       let d : Stands v (minus a b) (pos 0) = stands_at _ _ _ (let e : x -ℤ y ≡ pos 0 = omega (arith, ints) in e) (stands_minus a b x y s t) in
       so_both (minus a b) (scaled (negsuc 0) (minus a b)) d (stands_at _ _ _ (let e : pos 0 -ℤ pos 0 ≡ pos 0 = refl in e) (stands_negated (minus a b) (pos 0) d))
 
-  all_is : (fs : List Fact) → is_so v (facts.All fs) ≡ are_so v fs
+  pub all_is : (fs : List Fact) → is_so v (facts.All fs) ≡ are_so v fs
   all_is fs = ap (is_so v) (sym (facts.rolls-All fs)) ∙ fold-roll-Fact Bool (so_step v) (Fact-F.All fs)
 
-  any_is : (fs : List Fact) → is_so v (facts.Any fs) ≡ some (map (is_so v) fs)
+  pub any_is : (fs : List Fact) → is_so v (facts.Any fs) ≡ some (map (is_so v) fs)
   any_is fs = ap (is_so v) (sym (facts.rolls-Any fs)) ∙ fold-roll-Fact Bool (so_step v) (Fact-F.Any fs)
 
   -- one of two holds

@@ -1,3 +1,5 @@
+pub mod Induct
+pub mod Words
 pub mod Joints
 pub mod Numbering
 pub mod Whole
@@ -5,3 +7,6 @@ pub mod Forms
 pub mod Answers
 pub mod Relate
 pub mod Rebuild
+pub mod Slots
+pub mod Ran
+pub mod Grows

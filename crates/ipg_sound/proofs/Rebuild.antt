@@ -15,7 +15,7 @@ use Rattle.ipg_core.specs.Grammar.{primitive_number}
 use Rattle.ipg_facts.specs.Key.{word, operator_number, spelled_number, spelled_field, spelled_byte, spelled_sym}
 use Rattle.ipg_facts.specs.Reading.{Scope, Reading, plain, reading, read}
 use Rattle.ipg_sound.specs.Laws.{SpellingsDiffer}
-use Rattle.ipg_sound.proofs.Relate.{Sure, bare, induct}
+use Rattle.ipg_sound.proofs.Induct.{Sure, bare, induct}
 
 -- what has been read of a spelling: expressions, the bytes of a text, a symbol
 record Read : Type 0 where

@@ -11,7 +11,7 @@ use Rattle.ipg_num.specs.declared.op.Answer.TheVariants.{Val}
 use Rattle.ipg_core.specs.declared.grammar.CoreField.{CoreField}
 use Rattle.ipg_core.specs.declared.grammar.CoreField.TheVariants.{Attr, Start, End}
 use Rattle.ipg_core.specs.declared.grammar.Sym.{Sym}
-use Rattle.ipg_core.specs.declared.grammar.CoreExpr.{CoreExpr, map-CoreExpr, roll-CoreExpr, fold-roll-CoreExpr, ind-CoreExpr}
+use Rattle.ipg_core.specs.declared.grammar.CoreExpr.{CoreExpr, map-CoreExpr, roll-CoreExpr, fold-roll-CoreExpr}
 use Rattle.ipg_core.specs.declared.grammar.CoreExpr.TheOpen.{CoreExpr-F}
 use Rattle.ipg_core.specs.Grammar.{name_at}
 use Rattle.ipg_core.specs.Environment.{Environment, done_at, items_so_far, field_of_item}
@@ -26,23 +26,16 @@ use Rattle.ipg_facts.specs.Reading.{Scope, Reading, length_of, opaque, nought, p
 use Rattle.ipg_sound.specs.Valued.{Valuation}
 use Rattle.ipg_sound.specs.Known.{AreSo, Stands, Knows, IsRanged, IsItemField, IsPlace, IsBehind, Fits}
 use Rattle.ipg_sound.specs.Laws.{ValuesAreKnown}
+use Rattle.ipg_sound.proofs.Induct.{Sure, bare, induct}
+use Rattle.ipg_sound.proofs.Words.{words_are_spelled}
 use Rattle.ipg_sound.proofs.Forms.{stands_at, stands_number, stands_variable, stands_plus, stands_minus, stands_scaled, stands_negated, stands_shifted, so_append, so_leq, so_less, so_equal, so_first, so_second, so_below, so_above, constant_value}
 use Rattle.ipg_sound.proofs.Answers.{found_is, limited_is, Kept, kept, first_of, flag_is, not_true, not_false, eq_true, eq_false, lt_true, lt_false, le_true, le_false, not_zero, zero_is, minus_is}
-
-abbrev pub Sure : (CoreExpr → Type 0) → Type 0
-Sure P = (e : CoreExpr) × P e
-
-abbrev pub bare : {P : CoreExpr → Type 0} → CoreExpr-F (Sure P) → CoreExpr-F CoreExpr
-bare {P} y = map-CoreExpr (Sure P) CoreExpr (λ e. e.0) y
-
-pub induct : (P : CoreExpr → Type 0) → ((y : CoreExpr-F (Sure P)) → P (roll-CoreExpr (bare y))) → (e : CoreExpr) → P e
-induct P step = ind-CoreExpr P (λ x y is. subst (λ z. P (roll-CoreExpr z)) is (step y))
 
 differs : (b : Bool) → b ≡ true → b ≡ false → ⊥
 differs b e f = cc
 
 module _ (v : Valuation) where
-  stands_nought : Stands v nought (pos 0)
+  pub stands_nought : Stands v nought (pos 0)
   stands_nought = stands_number v (pos 0)
 
   -- a form other than 0, and one that is 0
@@ -58,7 +51,7 @@ module _ (v : Valuation) where
     fails = λ e. so_equal v a nought z (pos 0) s stands_nought (zero_is z e);
   }
 
-  stands_key : (key : Key) (fs : List Fact) (z : ℤ) → AreSo v fs → v key ≡ z → Stands v (variable key fs) z
+  pub stands_key : (key : Key) (fs : List Fact) (z : ℤ) → AreSo v fs → v key ≡ z → Stands v (variable key fs) z
   stands_key key fs z h e = stands_at v (variable key fs) (v key) z e (stands_variable v key fs h)
 
   stands_chosen : (b : Bool) (a o : Form) (z : ℤ) → Stands v a z → Stands v o z → Stands v (if b then a else o) z
@@ -181,14 +174,14 @@ module _ (v : Valuation) where
   so_denied ops.BitOr a b e x y z f s t u h = so_nought e z u h
   so_denied ops.BitXor a b e x y z f s t u h = so_nought e z u h
 
-  so_ranges : (a : Form) (most : Option ℕ) (z : ℤ) → Stands v a z → IsRanged most z → AreSo v (ranges a most)
+  pub so_ranges : (a : Form) (most : Option ℕ) (z : ℤ) → Stands v a z → IsRanged most z → AreSo v (ranges a most)
   unfolding ranges
   so_ranges a None z s h = refl
   so_ranges a (Some n) z s h =
       so_append v (leq nought a) (leq a (number (pos n))) (so_leq v nought a (pos 0) z stands_nought s h.0) (so_leq v a (number (pos n)) z (pos n) s (stands_number v (pos n)) h.1)
 
   module _ (scope : Scope) (env : Environment) (fits : Fits v scope env) where
-    stands_length : Stands v (length_of scope) (pos env.eoi)
+    pub stands_length : Stands v (length_of scope) (pos env.eoi)
     stands_length = stands_key (whole scope.side) [] (pos env.eoi) refl fits.length
 
     stands_opaque : (words : List ℕ) (z : ℤ) → v (value scope.side words) ≡ z → Stands v (opaque scope words) z
@@ -366,7 +359,7 @@ module _ (v : Valuation) where
         let valued : eval (roll-CoreExpr (bare y)) env ≡ limited_reading (evals y) env = ap (λ f. f env) (fold-roll-CoreExpr core.Reading limited_reading (bare y)) in
         subst (λ r. Knows v r z) (sym made)
         (layer y z (kept (core.reading (evals y) env) z (sym valued ∙ e))
-        (ap (λ (r : Reading). v (value scope.side r.words)) (sym made) ∙ fits.opaques (roll-CoreExpr (bare y)) z e))
+        (ap (λ (r : Reading). v (value scope.side r.words)) (sym made) ∙ ap (λ ws. v (value scope.side ws)) (words_are_spelled scope (roll-CoreExpr (bare y))) ∙ fits.opaques (roll-CoreExpr (bare y)) z e))
 
     pub known : (e : CoreExpr) → IsKnown e
     known = induct IsKnown rolled

@@ -1,5 +1,5 @@
 -- Laws of conditions: facts that hold give a solution, and solutions of parts one of their joint.
-use Rattle.std.specs.Prelude.{◌≡◌, ◌<◌, ◌≤◌, List, [], ◌∷◌, length, ℤ, pos, negsuc, ◌≤ℤ◌, IsTrue, true}
+use Rattle.std.specs.Prelude.{◌≡◌, ◌^◌, ◌<◌, ◌≤◌, Some, List, [], ◌∷◌, length, ℤ, pos, negsuc, ◌≤ℤ◌, IsTrue, true, ℕ, Bool}
 use Rattle.ipg_lin.specs.Form.{Assignment}
 use Rattle.ipg_lin.specs.Formula.{holds_at, width, LiesIn}
 use Rattle.ipg_lin.specs.declared.formula.Formula.{Formula}
@@ -10,11 +10,17 @@ use Rattle.ipg_facts.specs.Numbers.{all_of}
 use Rattle.ipg_facts.specs.Joint.{joint}
 use Rattle.ipg_num.specs.declared.op.Answer.TheVariants.{Val}
 use Rattle.ipg_core.specs.declared.grammar.CoreExpr.{CoreExpr}
+use Rattle.ipg_core.specs.declared.grammar.CoreTerm.{CoreTerm}
 use Rattle.ipg_core.specs.Environment.{Environment}
 use Rattle.ipg_core.specs.Eval.{eval}
 use Rattle.ipg_facts.specs.Reading.{Scope, read}
 use Rattle.ipg_sound.specs.Valued.{Valuation, are_so}
-use Rattle.ipg_sound.specs.Known.{Fits, Knows}
+use Rattle.ipg_facts.specs.Members.{members, own_members, terms_members, passed_all}
+use Rattle.ipg_sound.specs.Known.{AreSo, Fits, Knows}
+use Rattle.std.specs.List.{AllByRecursion}
+use Rattle.ipg_core.specs.Mention.{mentions}
+use Rattle.ipg_sound.specs.Grows.{Grows, IsSettled}
+use Rattle.ipg_sound.specs.Ran.{TermRan, AllRan, CallsWhole}
 
 -- values in the box that make the formula hold
 abbrev pub Solves : Assignment → Formula × Boxed → Type 0
@@ -35,6 +41,26 @@ FactsSolve = (v : Valuation) (facts : List Fact) → IsInRange v → are_so v fa
 abbrev pub ValuesAreKnown : Type 0
 ValuesAreKnown = (v : Valuation) (scope : Scope) (env : Environment) → Fits v scope env
     → (e : CoreExpr) (z : ℤ) → eval e env ≡ Val z → Knows v (read scope e) z
+
+-- what a term that has run puts holds
+abbrev pub MembersAreKnown : Type 0
+MembersAreKnown = (v : Valuation) (scope : Scope) (env : Environment) → Fits v scope env → env.eoi ≤ 2 ^ 30
+    → (number : ℕ) (term : CoreTerm) → TermRan scope.marks env number term → AreSo v (members scope number (Some term))
+
+-- what terms put that have run, one after another, holds; variables still fit where their arrays' bounds are known
+abbrev pub TermsAreKnown : Type 0
+TermsAreKnown = (v : Valuation) (scope : Scope) (env : Environment) → Fits v scope env → env.eoi ≤ 2 ^ 30
+    → (order : List ℕ) → AllRan scope env order → AreSo v (terms_members scope order) × Fits v (passed_all scope order) env
+
+-- what the edge's own term puts holds where its call is made on the whole part
+abbrev pub OwnMembersAreKnown : Type 0
+OwnMembersAreKnown = (v : Valuation) (scope : Scope) (env : Environment) → Fits v scope env
+    → (branch : ℕ) (term : CoreTerm) → CallsWhole env branch term → AreSo v (own_members scope branch (Some term))
+
+-- a value stays where its environment goes on
+abbrev pub ValuesStay : Type 0
+ValuesStay = (has_ended : ℕ → Bool) (env later : Environment) → Grows has_ended env later
+    → (e : CoreExpr) (z : ℤ) → AllByRecursion (IsSettled has_ended) (mentions e) → eval e env ≡ Val z → eval e later ≡ Val z
 
 -- no two expressions are spelled alike
 abbrev pub SpellingsDiffer : Type 0

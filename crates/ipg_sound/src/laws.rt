@@ -1,6 +1,6 @@
 //! Laws of the conditions, each the contract of a function that does nothing.
 
-ghost use Rattle.ipg_sound.specs.Laws.{FactsSolve, PartsSolveJoint, SpellingsDiffer, ValuesAreKnown};
+ghost use Rattle.ipg_sound.specs.Laws.{FactsSolve, MembersAreKnown, OwnMembersAreKnown, PartsSolveJoint, SpellingsDiffer, TermsAreKnown, ValuesAreKnown, ValuesStay};
 
 /// Facts that hold where variables have values by their keys make their formula over numbers hold, in its box.
 pub fn facts_solve()
@@ -21,4 +21,25 @@ pub fn values_are_known()
 /// No two expressions are spelled alike, so a key of an expression's value is of that expression alone.
 pub fn spellings_differ()
     ensures { SpellingsDiffer }
+{}
+
+/// What a term that has run puts holds: intervals are valid, results touch of them what results of their symbols do,
+/// attributes have their values, tests are true, and a switch took one branch.
+pub fn members_are_known()
+    ensures { MembersAreKnown }
+{}
+
+/// What the edge's own term puts holds where its call is made on the whole part.
+pub fn own_members_are_known()
+    ensures { OwnMembersAreKnown }
+{}
+
+/// What terms put that have run, one after another, holds: the bounds of arrays are known behind them.
+pub fn terms_are_known()
+    ensures { TermsAreKnown }
+{}
+
+/// A value stays where its environment goes on, if behind the items that are mentioned nothing is added.
+pub fn values_stay()
+    ensures { ValuesStay }
 {}
