@@ -14,3 +14,5 @@ pub mod Resolved
 pub mod Faults
 -- what a resolved grammar keeps
 pub mod Bare
+-- what functions inside the crate promise each other
+pub mod Marks
