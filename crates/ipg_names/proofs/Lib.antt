@@ -1,3 +1,5 @@
 pub mod Bytes
 pub mod Lists
+pub mod Once
+pub mod Folds
 pub mod Spots

@@ -15,4 +15,6 @@ pub mod Faults
 -- what a resolved grammar keeps
 pub mod Bare
 -- what functions inside the crate promise each other
+pub mod View
 pub mod Marks
+pub mod Lookup

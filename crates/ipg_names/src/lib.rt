@@ -4,6 +4,8 @@
 mod fault;
 mod marks;
 mod named;
+mod names;
+mod roster;
 
 pub use fault::NameFault;
 pub use named::{NamedAlt, NamedPlace, NamedRule, NamedSlot, NamedTerm};

@@ -1,0 +1,24 @@
+-- The rules that the code holds, as the roster of them.
+use Rattle.std.specs.Prelude.{ℕ, ◌≤◌, List, map, length}
+use Rattle.std.specs.List.{AllByRecursion}
+use Rattle.ipg_ast.specs.declared.grammar.Rule.{Rule, out-Rule}
+use Rattle.ipg_ast.specs.declared.grammar.Alt.{Alt, out-Alt}
+use Rattle.ipg_ast.specs.Shape.{max_alts}
+use Rattle.ipg_names.specs.declared.roster.Entry as code
+use Rattle.ipg_names.specs.Roster.{Entry, local}
+
+abbrev pub entry_view : code.Entry → Entry
+entry_view e = record { rule = e.rule.now; holder = e.holder; outer = e.outer.now }
+
+abbrev pub entries_view : List code.Entry → List Entry
+entries_view entries = map entry_view entries
+
+abbrev pub HasFewAlts : Rule → Type 0
+HasFewAlts rule = length (out-Rule rule).alts ≤ max_alts
+
+abbrev pub HaveFewAlts : List Rule → Type 0
+HaveFewAlts rules = AllByRecursion HasFewAlts rules
+
+-- the local rules of one alternative
+abbrev pub local_entries : ℕ × ℕ → Alt → List Entry
+local_entries at alt = map (local at.0 at.1 alt) (out-Alt alt).locals
