@@ -1,5 +1,6 @@
 -- Lists item by item.
-use Rattle.std.proofs.Common.{◌≡◌, ℕ, suc, ◌+◌, ◌<◌, ◌≤◌, List, [], ◌∷◌, ◌++◌, length, take, drop, get_or, refl, sym, ap, ◌∙◌, arith, min, length-take}
+use Rattle.std.proofs.Common.{◌≡◌, ℕ, zero, suc, ◌+◌, ◌<◌, ◌≤◌, List, [], ◌∷◌, ◌++◌, length, take, drop, get_or, map, refl, sym, ap, subst, ◌∙◌, append_assoc, arith, length-take}
+use Rattle.std.specs.List.{AllByRecursion}
 use Rattle.std.proofs.Math.Seq.{drop-cons, take-suc}
 
 -- the item at an index and the items after it
@@ -16,3 +17,18 @@ take_item xs i x is within =
 
 pub taken : {A : Type 0} (xs : List A) (i : ℕ) → i < length xs → length (take i xs) ≡ i
 taken xs i within = omega (arith, length-take i xs)
+
+-- what holds of each item holds of the one at an index
+pub all_at : {A : Type 0} (P : A → Type 0) (xs : List A) (i : ℕ) (x : A) → AllByRecursion P xs → x ≡ get_or xs i x → i < length xs → P x
+all_at P [] i x h is within = absurd (omega arith)
+all_at P (y ∷ xs) zero x h is within = subst P (sym is) h.0
+all_at P (y ∷ xs) (suc i) x h is within = all_at P xs i x h.1 is (omega arith)
+
+pub map_push : {A B : Type 0} (f : A → B) (xs : List A) (x : A) → map f (xs ++ x ∷ []) ≡ map f xs ++ f x ∷ []
+map_push f [] x = refl
+map_push f (y ∷ xs) x = ap (λ ys. f y ∷ ys) (map_push f xs x)
+
+-- pieces put after one another: what stands and what is left give the whole
+pub pieces : {A : Type 0} (old piece new rest whole all : List A) → new ≡ old ++ piece → whole ≡ piece ++ rest → old ++ whole ≡ all → new ++ rest ≡ all
+pieces old piece new rest whole all put splits so_far =
+    ap (λ n. n ++ rest) put ∙ append_assoc old piece rest ∙ ap (λ t. old ++ t) (sym splits) ∙ so_far
