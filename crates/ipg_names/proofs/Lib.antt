@@ -3,4 +3,7 @@ pub mod Lists
 pub mod Once
 pub mod Folds
 pub mod Rosters
+pub mod Firsts
+pub mod HeadTable
+pub mod FieldTable
 pub mod Spots

@@ -1,6 +1,8 @@
 -- Names put into a set one after another.
-use Rattle.std.proofs.Common.{◌≡◌, ℕ, ◌+◌, ◌<◌, Bool, true, false, ◌||◌, List, [], ◌∷◌, ◌++◌, length, drop, get_or, flat_map, Result, OnOk, map, refl, sym, ap, ◌∙◌, cond, bytes_eq}
-use Rattle.std.specs.List.{list_any}
+use Rattle.std.proofs.Common.{◌≡◌, ℕ, ◌+◌, ◌<◌, Bool, true, false, ◌||◌, List, [], ◌∷◌, ◌++◌, length, drop, get_or, flat_map, Result, OnOk, Some, None, ◌≤◌, not, nat_lt, arith, map, refl, sym, ap, ◌∙◌, cond, bytes_eq}
+use Rattle.std.specs.List.{list_any, position, position_or_len}
+use Rattle.std.proofs.lemmas.List.Sums.{prefix_len-le-length}
+use Rattle.std.proofs.lemmas.Bool.Decides.{nat_tests}
 use denote.Ref.{Bor}
 use Rattle.ipg_names.specs.Names.{NameList, once}
 use Rattle.std.proofs.lemmas.Result.{on_ok_weaker}
@@ -47,3 +49,31 @@ turn {now = now} f items i x new all is within more so_far =
     ap (λ n. once n (flat_map f (drop (i + 1) items))) more.is
     ∙ sym (once_append now (f x) (flat_map f (drop (i + 1) items)))
     ∙ ap (λ xs. once now (flat_map f xs)) (sym (at_item items i x is within)) ∙ so_far
+
+-- ---- the number of a name
+
+place_shown : (p : List ℕ → Bool) (keys : List (Bor (List ℕ))) → position_or_len (λ name. p name.now) keys ≡ position_or_len p (names_of keys)
+place_shown p [] = refl
+place_shown p (key ∷ keys) = ap (λ n. cond (not (p key.now)) (1 + n) 0) (place_shown p keys)
+
+there : (b : Bool) (n at : ℕ) → Some n ≡ cond b (Some at) None → n ≡ at
+there true n at e = cc
+there false n at e = absurd (cc)
+
+nowhere : (b : Bool) (at : ℕ) → None ≡ cond b (Some at) None → b ≡ false
+nowhere true at e = absurd (cc)
+nowhere false at e = refl
+
+not_below : (at count : ℕ) → at ≤ count → nat_lt at count ≡ false → count ≡ at
+not_below at count h e = grind (arith, nat_tests)
+
+-- found at a place, or nowhere
+pub found_there : (name : List ℕ) (keys : List (Bor (List ℕ))) (n : ℕ) → Some n ≡ position (λ key. bytes_eq name key.now) keys
+    → n ≡ position_or_len (bytes_eq name) (map (λ key. key.now) keys)
+found_there name keys n e = there _ n _ e ∙ place_shown (bytes_eq name) keys
+
+pub found_nowhere : (name : List ℕ) (keys : List (Bor (List ℕ))) → None ≡ position (λ key. bytes_eq name key.now) keys
+    → length keys ≡ position_or_len (bytes_eq name) (map (λ key. key.now) keys)
+found_nowhere name keys e =
+    let test : Bor (List ℕ) → Bool = λ key. not (bytes_eq name key.now) in
+    not_below _ _ (prefix_len-le-length test keys) (nowhere _ _ e) ∙ place_shown (bytes_eq name) keys

@@ -1,5 +1,5 @@
 -- What a table says of a name, as its marks are put in, and the nearest term by it.
-use Rattle.std.proofs.Common.{◌≡◌, ℕ, zero, suc, ◌+◌, ◌<◌, ◌≤◌, Bool, true, false, ◌||◌, List, [], ◌∷◌, ◌++◌, length, take, drop, get_or, Option, Some, None, refl, sym, ap, ◌∙◌, cond, bytes_eq, nat_eq, append_assoc, arith, length-drop, length-append}
+use Rattle.std.proofs.Common.{◌≡◌, ℕ, zero, suc, ◌+◌, ◌<◌, ◌≤◌, Bool, true, false, ◌||◌, List, [], ◌∷◌, ◌++◌, length, take, drop, get_or, Option, Some, None, is_some, refl, sym, ap, ◌∙◌, cond, bytes_eq, nat_eq, append_assoc, arith, length-drop, length-append}
 use Rattle.std.specs.List.{list_any}
 use Rattle.std.proofs.lemmas.Slice.Eq.{bytes_eq-Decides}
 use Rattle.std.proofs.lemmas.Bool.Decides.{nat_tests}
@@ -120,7 +120,7 @@ module _ {A : Type 0} (p : A → Bool) where
       let here = none_on x n xs h in
       ap (λ b. last_from p (m + 1) (cond b (Some m) None) (take k xs)) here.0 ∙ none_before k (n + 1) (m + 1) xs here.1
 
-  first_append : (n : ℕ) (xs ys : List A) → first_from p n (xs ++ ys) ≡ or_else (first_from p n xs) (first_from p (n + length xs) ys)
+  pub first_append : (n : ℕ) (xs ys : List A) → first_from p n (xs ++ ys) ≡ or_else (first_from p n xs) (first_from p (n + length xs) ys)
   first_append n [] ys = ap (λ m. first_from p m ys) (let e : n ≡ n + 0 = omega arith in e)
   first_append n (x ∷ xs) ys = by (p x) (first_append (n + 1) xs ys)
     where
@@ -180,7 +180,7 @@ module _ {A : Type 0} (p : A → Bool) where
       ∙ first_append (first + 1) (drop (first + 1) xs) (x ∷ [])
       ∙ ap (λ m. or_else (right_of p xs first) (cond (p x) (Some m) None)) (let e : first + 1 + length (drop (first + 1) xs) ≡ length xs = omega (arith, length-drop (first + 1) xs, within.1) in e)
 
-  else_none : (o : Option ℕ) → or_else o None ≡ o
+  pub else_none : (o : Option ℕ) → or_else o None ≡ o
   else_none None = refl
   else_none (Some n) = refl
 
@@ -247,3 +247,20 @@ module _ {A : Type 0} (p : A → Bool) where
       by : (o : Option ℕ) → spots_from o p xs (u + 1) ≡ cond (p y) (marked (Passed u) (spots_from o p xs u)) (spots_from o p xs u)
       by None = none (p y)
       by (Some first) = ap (λ l. let made : declared.Spots = record { first = first; second = right_of p xs first; left = l } in Some made) left ∙ each (p y) first
+
+  -- ---- whether there is one at all
+
+  pub found_any : (n : ℕ) (xs : List A) → is_some (first_from p n xs) ≡ list_any p xs
+  found_any n [] = refl
+  found_any n (x ∷ xs) = by (p x) (found_any (n + 1) xs)
+    where
+      by : (b : Bool) → is_some (first_from p (n + 1) xs) ≡ list_any p xs → is_some (cond b (Some n) (first_from p (n + 1) xs)) ≡ (b || list_any p xs)
+      by true f = refl
+      by false f = f
+
+  spots_some : (o : Option ℕ) (xs : List A) (u : ℕ) → is_some (spots_from o p xs u) ≡ is_some o
+  spots_some None xs u = refl
+  spots_some (Some n) xs u = refl
+
+  pub spots_any : (xs : List A) (u : ℕ) → is_some (spots_of p xs u) ≡ list_any p xs
+  spots_any xs u = spots_some (first_from p 0 xs) xs u ∙ found_any 0 xs

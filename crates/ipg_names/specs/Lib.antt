@@ -15,6 +15,8 @@ pub mod Faults
 -- what a resolved grammar keeps
 pub mod Bare
 -- what functions inside the crate promise each other
-pub mod View
 pub mod Marks
+pub mod View
+pub mod Fields
 pub mod Lookup
+pub mod Site

@@ -5,7 +5,8 @@ use Rattle.ipg_ast.specs.declared.grammar.Rule.{Rule, out-Rule}
 use Rattle.ipg_ast.specs.declared.grammar.Alt.{Alt, out-Alt}
 use Rattle.ipg_ast.specs.Shape.{max_alts}
 use Rattle.ipg_names.specs.declared.roster.Entry as code
-use Rattle.ipg_names.specs.Roster.{Entry, local}
+use Rattle.ipg_names.specs.Roster.{Entry, local, name_of, head_at, alts_of}
+use Rattle.ipg_names.specs.Marks.{IsShort}
 
 abbrev pub entry_view : code.Entry → Entry
 entry_view e = record { rule = e.rule.now; holder = e.holder; outer = e.outer.now }
@@ -22,3 +23,19 @@ HaveFewAlts rules = AllByRecursion HasFewAlts rules
 -- the local rules of one alternative
 abbrev pub local_entries : ℕ × ℕ → Alt → List Entry
 local_entries at alt = map (local at.0 at.1 alt) (out-Alt alt).locals
+
+abbrev pub entry_name : code.Entry → List ℕ
+entry_name e = name_of (entry_view e)
+
+abbrev pub entry_at : code.Entry → ℕ
+entry_at e = head_at (entry_view e)
+
+-- at most so many terms
+abbrev pub HasShortTerms : Alt → Type 0
+HasShortTerms alt = IsShort (out-Alt alt).terms
+
+-- what the conditions of a call say of one rule
+pub record IsFit (entry : Entry) : Type 0 where
+  pub few : length (alts_of entry) ≤ max_alts
+  pub short : AllByRecursion HasShortTerms (alts_of entry)
+  pub outer : IsShort entry.outer

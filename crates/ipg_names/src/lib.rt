@@ -1,11 +1,16 @@
 //! The names of a grammar, resolved.
 #![tactic(auto)]
 
+mod attrs;
 mod fault;
+mod fields;
+mod heads;
 mod marks;
 mod named;
 mod names;
+mod primitives;
 mod roster;
+mod scope;
 
 pub use fault::NameFault;
 pub use named::{NamedAlt, NamedPlace, NamedRule, NamedSlot, NamedTerm};
