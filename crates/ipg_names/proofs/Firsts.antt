@@ -1,6 +1,8 @@
 -- The first of faults that are put after one another.
-use Rattle.std.proofs.Common.{◌≡◌, ℕ, Bool, true, false, ◌||◌, ◌&&◌, nat_lt, nat_eq, List, [], ◌∷◌, ◌++◌, Option, Some, None, refl, sym, ap, ◌∙◌, cond, arith}
+use Rattle.std.proofs.Common.{◌≡◌, ℕ, Bool, true, false, ◌||◌, ◌&&◌, nat_lt, nat_eq, ◌+◌, ◌<◌, ◌≤◌, length, drop, get_or, flat_map, List, [], ◌∷◌, ◌++◌, Option, Some, None, refl, sym, ap, ◌∙◌, cond, arith}
 use Rattle.std.proofs.lemmas.Bool.Decides.{nat_tests}
+use Rattle.std.proofs.lemmas.List.{drop_all}
+use Rattle.ipg_names.proofs.Lists.{at_item}
 use Rattle.ipg_names.specs.declared.fault.NameFault.{NameFault}
 use Rattle.ipg_names.specs.Fault.{number_of, place_of, is_before, earlier, first_of}
 use Rattle.ipg_names.specs.Faults.{when, unless}
@@ -42,3 +44,28 @@ first_when false fault = refl
 pub first_unless : (b : Bool) (fault : NameFault) → first_of (unless b fault) ≡ cond b None (Some fault)
 first_unless true fault = refl
 first_unless false fault = refl
+
+pub ruleset firsts = (first_append, first_when, first_unless)
+
+-- the first of a list of faults
+pub record First (found : Option NameFault) (faults : List NameFault) : Type 0 where
+  pub is : found ≡ first_of faults
+
+pub join : {a b : Option NameFault} {xs ys : List NameFault} (found : Option NameFault) → First a xs → First b ys → found ≡ earlier a b → First found (xs ++ ys)
+join {a = a} {b = b} {xs = xs} {ys = ys} found f g e = record {
+  is = e ∙ ap (λ o. earlier o b) f.is ∙ ap (earlier (first_of xs)) g.is ∙ sym (first_append xs ys);
+}
+
+-- one turn of a loop
+pub turn : {A : Type 0} {found : Option NameFault} (f : A → List NameFault) (items : List A) (i : ℕ) (x : A) (old new all : Option NameFault) → x ≡ get_or items i x → i < length items
+    → First found (f x) → new ≡ earlier old found → earlier old (first_of (flat_map f (drop i items))) ≡ all → earlier new (first_of (flat_map f (drop (i + 1) items))) ≡ all
+turn {found = found} f items i x old new all is within first put so_far =
+    let rest = flat_map f (drop (i + 1) items) in
+    ap (λ n. earlier n (first_of rest)) put ∙ earlier_assoc old found (first_of rest)
+    ∙ ap (λ n. earlier old (earlier n (first_of rest))) first.is
+    ∙ ap (earlier old) (sym (first_append (f x) rest))
+    ∙ ap (λ xs. earlier old (first_of (flat_map f xs))) (sym (at_item items i x is within))
+    ∙ so_far
+
+pub done : {A : Type 0} (f : A → List NameFault) (items : List A) (i : ℕ) (old all : Option NameFault) → length items ≤ i → earlier old (first_of (flat_map f (drop i items))) ≡ all → old ≡ all
+done f items i old all past so_far = sym (earlier_none old) ∙ sym (ap (λ xs. earlier old (first_of (flat_map f xs))) (drop_all i items past)) ∙ so_far

@@ -6,4 +6,5 @@ pub mod Rosters
 pub mod Firsts
 pub mod HeadTable
 pub mod FieldTable
+pub mod Narrowed
 pub mod Spots

@@ -23,7 +23,8 @@ use Rattle.ipg_names.specs.declared.fault.NameFault.TheVariants.{DuplicateRule, 
 use Rattle.ipg_names.specs.Primitives.{primitive_of}
 use Rattle.ipg_names.specs.Roster.{Entry, name_of, head_at, alts_of, roster_of}
 use Rattle.ipg_names.specs.Names.{attr_names}
-use Rattle.ipg_names.specs.Scope.{Scope, is_var, inside}
+use Rattle.ipg_names.specs.Scope.{Scope, is_var}
+pub use Rattle.ipg_names.specs.Scope.{inside}
 use Rattle.ipg_names.specs.Resolved.{alt_scopes}
 
 abbrev pub Faults : Type 0
@@ -50,8 +51,12 @@ head_faults earlier (entry ∷ entries) =
 abbrev pub rule_fault : Scope → List ℕ → ℕ → Faults
 rule_fault scope name at = unless (is_some (scope.sym name)) (UnknownRule at)
 
+-- an own attribute, the loop variable, an attribute of the holder
+abbrev pub is_known : Scope → List ℕ → Bool
+is_known scope name = scope.own name || (is_var scope.var name || scope.outer name)
+
 abbrev pub name_fault : Scope → Ident → Faults
-name_fault scope i = unless (scope.own i.name || (is_var scope.var i.name || scope.outer i.name)) (UnknownAttr i.span.from)
+name_fault scope i = unless (is_known scope i.name) (UnknownAttr i.span.from)
 
 -- no alternative of the symbol sets the field, or some and not all
 abbrev pub attr_fault : Scope → Sym → Ident → Faults
@@ -64,11 +69,14 @@ field_fault scope (Some sym) (field.Id f) = attr_fault scope sym f
 field_fault scope (Some sym) field.Start = []
 field_fault scope (Some sym) field.End = []
 
+abbrev pub occurrence_fault : Option ℕ → ℕ → Faults
+occurrence_fault referred at = unless (is_some referred) (NoOccurrence at)
+
 -- the rule, the term that is referred to, the field
 abbrev pub reference_fault : Scope → Option ℕ → Ident → Field → Faults
 reference_fault scope referred of f =
     rule_fault scope of.name of.span.from
-    ++ (unless (is_some referred) (NoOccurrence of.span.from) ++ field_fault scope (scope.sym of.name) f)
+    ++ (occurrence_fault referred of.span.from ++ field_fault scope (scope.sym of.name) f)
 
 abbrev pub faults_step : Scope → Expr-F Faults → Faults
 faults_step scope (Expr-F.Num n) = []
@@ -89,10 +97,13 @@ expr_faults scope = fold-Expr Faults (faults_step scope)
 
 -- ---- terms and rules
 
+abbrev pub ends_faults : Scope → Expr → Expr → Faults
+ends_faults scope l r = expr_faults scope l ++ expr_faults scope r
+
 abbrev pub place_faults : Scope → Place → Faults
 place_faults scope place.Open = []
 place_faults scope (place.Length e) = expr_faults scope e
-place_faults scope (place.Ends l r) = expr_faults scope l ++ expr_faults scope r
+place_faults scope (place.Ends l r) = ends_faults scope l r
 
 abbrev pub what_fault : Scope → What → ℕ → Faults
 what_fault scope (what.Text bytes) at = []
@@ -104,15 +115,20 @@ slot_faults scope slot = what_fault scope slot.what slot.span.from ++ place_faul
 abbrev pub case_faults : Scope → Case → Faults
 case_faults scope c = expr_faults scope c.cond ++ slot_faults scope c.slot
 
--- an attribute that an earlier term sets; a loop variable that is an attribute of the alternative
+-- an attribute that an earlier term sets
+abbrev pub set_fault : Scope → Ident → Faults
+set_fault scope i = when (scope.before i.name) (DuplicateAttr i.span.from)
+
+-- a loop variable that is an attribute of the alternative
+abbrev pub var_fault : Scope → Ident → Faults
+var_fault scope i = when (scope.own i.name) (DuplicateAttr i.span.from)
+
 abbrev pub term_faults : Scope → Term → Faults
 term_faults scope (term.Slot slot) = slot_faults scope slot
-term_faults scope (term.Set name value) = when (scope.before name.name) (DuplicateAttr name.span.from) ++ expr_faults scope value
+term_faults scope (term.Set name value) = set_fault scope name ++ expr_faults scope value
 term_faults scope (term.Test at cond) = expr_faults scope cond
 term_faults scope (term.Repeat var first last item from to) =
-    when (scope.own var.name) (DuplicateAttr var.span.from)
-    ++ (expr_faults scope first ++ (expr_faults scope last ++ (rule_fault scope item.name item.span.from
-    ++ (expr_faults (inside scope var.name item.name) from ++ expr_faults (inside scope var.name item.name) to))))
+    var_fault scope var ++ (ends_faults scope first last ++ (rule_fault scope item.name item.span.from ++ ends_faults (inside scope var.name item.name) from to))
 term_faults scope (term.Many at item place) = rule_fault scope item.name item.span.from ++ place_faults scope place
 term_faults scope (term.Pick at cases other) = flat_map (case_faults scope) cases ++ slot_faults scope other
 

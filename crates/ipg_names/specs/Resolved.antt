@@ -97,13 +97,16 @@ slot_in scope slot = record { sym = what_symbol scope slot.what; place = place_i
 abbrev pub case_in : Scope → Case → CoreExpr × NamedSlot
 case_in scope c = (expr_in scope c.cond, slot_in scope c.slot)
 
+-- an array, whose item interval has a scope of its own
+abbrev pub repeat_in : Scope → Expr → Expr → Sym → Scope → Expr → Expr → NamedTerm
+repeat_in scope first last sym own from to = named.Repeat (expr_in scope first) (expr_in scope last) sym (expr_in own from) (expr_in own to)
+
 abbrev pub term_in : Scope → written.Term → NamedTerm
 term_in scope (term.Slot slot) = named.Slot (slot_in scope slot)
 term_in scope (term.Set name value) = named.Set (attr_number scope name.name) (expr_in scope value)
 term_in scope (term.Test at cond) = named.Test (expr_in scope cond)
 term_in scope (term.Repeat var first last item from to) =
-    named.Repeat (expr_in scope first) (expr_in scope last) (symbol scope item.name)
-    (expr_in (inside scope var.name item.name) from) (expr_in (inside scope var.name item.name) to)
+    repeat_in scope first last (symbol scope item.name) (inside scope var.name item.name) from to
 term_in scope (term.Many at item place) = named.Many (symbol scope item.name) (place_in scope place)
 term_in scope (term.Pick at cases other) = named.Pick (map (case_in scope) cases) (slot_in scope other)
 

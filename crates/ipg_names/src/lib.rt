@@ -3,12 +3,14 @@
 
 mod attrs;
 mod fault;
+mod faults;
 mod fields;
 mod heads;
 mod marks;
 mod named;
 mod names;
 mod primitives;
+mod resolved;
 mod roster;
 mod scope;
 
