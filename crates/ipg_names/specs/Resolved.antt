@@ -30,7 +30,8 @@ use Rattle.ipg_names.specs.declared.named.NamedAlt.{NamedAlt}
 use Rattle.ipg_names.specs.declared.named.NamedRule.{NamedRule}
 use Rattle.ipg_names.specs.Roster.{Entry, name_of, alts_of, roster_of}
 use Rattle.ipg_names.specs.Names.{attr_names}
-use Rattle.ipg_names.specs.Scope.{Scope, attr_number, is_var, inside, home_of, scope_of}
+use Rattle.ipg_names.specs.Scope.{Scope, attr_number, is_var, inside, scope_of}
+pub use Rattle.ipg_names.specs.Scope.{home_of}
 
 -- ---- what names stand for
 

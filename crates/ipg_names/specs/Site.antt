@@ -1,5 +1,5 @@
 -- The tables of a term, as the scope that they say.
-use Rattle.std.specs.Prelude.{ℕ, Bool, true, false, List, [], map, Option, Some, None, option_map, is_some, slice_get, bytes_eq, if◌then◌else◌}
+use Rattle.std.specs.Prelude.{◌≡◌, ℕ, Bool, true, false, List, [], map, Option, Some, None, option_map, is_some, slice_get, bytes_eq, if◌then◌else◌}
 use Rattle.std.specs.List.{list_any, list_all}
 use denote.Ref.{Bor}
 use Rattle.indexmap.specs.IndexMap.{IndexMap}
@@ -9,12 +9,19 @@ use Rattle.ipg_names.specs.declared.marks.Spots.{Spots}
 use Rattle.ipg_names.specs.declared.roster.Entry as code
 use Rattle.ipg_names.specs.declared.scope.Site.{Site}
 use Rattle.ipg_names.specs.declared.scope.Inside.{Inside}
+use Rattle.ipg_names.specs.declared.scope.Tables.{Tables}
+use Rattle.ipg_names.specs.declared.scope.Marks.{Marks}
+use Rattle.ipg_ast.specs.declared.grammar.Term.{Term}
+use Rattle.ipg_names.specs.declared.marks.Family.TheVariants.{Calls, Items, Sets}
+use Rattle.ipg_names.specs.Terms.{has, sets}
+use Rattle.ipg_names.specs.View.{entries_view}
+use Rattle.ipg_names.specs.Fields.{rows_set, row_of}
 use Rattle.ipg_names.specs.declared.scope.Spot.{Spot}
 use Rattle.ipg_names.specs.declared.scope.Callee.{Callee}
 use Rattle.ipg_names.specs.declared.scope.Callee.TheVariants as callee
 use Rattle.ipg_names.specs.Primitives.{primitive_of, primitive_has}
-use Rattle.ipg_names.specs.Scope.{Scope, sym_else, is_visible}
-use Rattle.ipg_names.specs.Marks.{look, nearest_spot}
+use Rattle.ipg_names.specs.Scope.{Scope, sym_else, is_visible, rule_named}
+use Rattle.ipg_names.specs.Marks.{look, nearest_spot, spots_of}
 use Rattle.ipg_names.specs.Lookup.{shown}
 
 abbrev pub callee_sym : Callee → Sym
@@ -81,3 +88,21 @@ scope_at site inside = record {
 -- the same, which proofs open where they need it
 unfoldable pub spot_scope : Spot → Scope
 spot_scope spot = scope_at spot.site.now spot.inside
+
+unfoldable pub site_scope : Site → Scope
+site_scope site = scope_at site None
+
+-- the tables of a whole text are those of its roster
+pub record AreTables (tables : Tables) : Type 0 where
+  pub numbers : (x : List ℕ) → look tables.numbers.now x ≡ rule_named (entries_view tables.roster.now) x
+  pub fields : (f : List ℕ) → rows_set f tables.fields.now ≡ map (row_of f) (entries_view tables.roster.now)
+
+-- the tables of an alternative, of which the terms to the left of u are passed
+pub record AreMarks (terms : List Term) (u : ℕ) (marks : Marks) : Type 0 where
+  pub calls : (x : List ℕ) → look marks.calls x ≡ spots_of (has Calls x) terms u
+  pub items : (x : List ℕ) → look marks.items x ≡ spots_of (has Items x) terms u
+  pub sets : (x : List ℕ) → look marks.sets x ≡ spots_of (has Sets x) terms u
+
+-- a table of the attributes that terms set
+abbrev pub IsOuter : {S : Type 0} → List Term → IndexMap (Bor (List ℕ)) Spots S → Type 0
+IsOuter terms outer = (x : List ℕ) → is_some (look outer x) ≡ sets terms x

@@ -12,6 +12,7 @@ mod names;
 mod primitives;
 mod resolved;
 mod roster;
+mod rules;
 mod scope;
 
 pub use fault::NameFault;
