@@ -7,4 +7,6 @@ pub mod Firsts
 pub mod HeadTable
 pub mod FieldTable
 pub mod Narrowed
+pub mod Scopes
+pub mod Turns
 pub mod Spots

@@ -6,12 +6,17 @@ use Rattle.std.proofs.lemmas.Bool.Decides.{nat_tests}
 use Rattle.std.proofs.lemmas.Bool.{eqb-true}
 use Rattle.std.proofs.lemmas.List.{drop_all, drop-append-le}
 use Rattle.ipg_names.specs.declared.marks.Spots as declared
+use denote.Ref.{Bor}
+use Rattle.indexmap.specs.IndexMap.{IndexMap}
+use Rattle.ipg_ast.specs.declared.grammar.Term.{Term}
+use Rattle.ipg_names.specs.declared.marks.Family.{Family}
+use Rattle.ipg_names.specs.Terms.{names_in, has}
 use Rattle.ipg_names.specs.declared.marks.Mark.{Mark}
 use Rattle.ipg_names.specs.declared.marks.Mark.TheVariants.{Met, Passed}
 use Rattle.ipg_names.specs.Nearest.{first_from, last_from, or_else, left_of, right_of, nearest}
-use Rattle.ipg_names.specs.Marks.{marked, marks_on, nearest_spot, spots_from, spots_of}
+use Rattle.ipg_names.specs.Marks.{look, IsMarked, marked, marks_on, nearest_spot, spots_from, spots_of}
 use Rattle.ipg_names.proofs.Bytes.{same_bytes, bytes_turned}
-use Rattle.ipg_names.proofs.Lists.{take_item, taken}
+use Rattle.ipg_names.proofs.Lists.{at_item, take_item, taken}
 
 -- a name that is marked by what is said of it
 pub put : (f : List ℕ → Option declared.Spots) (mark : Mark) (name x : List ℕ) (now : Option declared.Spots) → now ≡ marked mark (f name)
@@ -113,7 +118,7 @@ module _ {A : Type 0} (p : A → Bool) where
       ap (λ b. cond b (Some m) (first_from p (m + 1) xs)) here.0 ∙ none_right zero (n + 1) (m + 1) xs here.1
   none_right (suc k) n m (x ∷ xs) h = none_right k (n + 1) m xs (none_on x n xs h).1
 
-  none_before : (k n m : ℕ) (xs : List A) → first_from p n xs ≡ None → last_from p m None (take k xs) ≡ None
+  pub none_before : (k n m : ℕ) (xs : List A) → first_from p n xs ≡ None → last_from p m None (take k xs) ≡ None
   none_before zero n m xs h = refl
   none_before (suc k) n m [] h = refl
   none_before (suc k) n m (x ∷ xs) h =
@@ -264,3 +269,12 @@ module _ {A : Type 0} (p : A → Bool) where
 
   pub spots_any : (xs : List A) (u : ℕ) → is_some (spots_of p xs u) ≡ list_any p xs
   spots_any xs u = spots_some (first_from p 0 xs) xs u ∙ found_any 0 xs
+
+-- a table as one term is passed
+pub pass_turn : {S : Type 0} (family : Family) (old new : IndexMap (Bor (List ℕ)) declared.Spots S) (terms : List Term) (u : ℕ) (term : Term) → term ≡ get_or terms u term → u < length terms
+    → IsMarked (Passed u) (names_in family term) old new → ((x : List ℕ) → look old x ≡ spots_of (has family x) terms u) → (x : List ℕ) → look new x ≡ spots_of (has family x) terms (u + 1)
+pass_turn family old new terms u term is within marks were x =
+    let p = has family x in
+    marks x ∙ marks_once (Passed u) x (names_in family term) (look old x)
+    ∙ ap (λ s. cond (p term) (marked (Passed u) s) s) (were x)
+    ∙ sym (passed p u terms (drop (u + 1) terms) term (at_item terms u term is within))

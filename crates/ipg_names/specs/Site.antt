@@ -20,7 +20,7 @@ use Rattle.ipg_names.specs.declared.scope.Spot.{Spot}
 use Rattle.ipg_names.specs.declared.scope.Callee.{Callee}
 use Rattle.ipg_names.specs.declared.scope.Callee.TheVariants as callee
 use Rattle.ipg_names.specs.Primitives.{primitive_of, primitive_has}
-use Rattle.ipg_names.specs.Scope.{Scope, sym_else, is_visible, rule_named}
+use Rattle.ipg_names.specs.Scope.{Scope, sym_else, is_visible, rule_named, home_of, scope_of}
 use Rattle.ipg_names.specs.Marks.{look, nearest_spot, spots_of}
 use Rattle.ipg_names.specs.Lookup.{shown}
 
@@ -96,6 +96,11 @@ site_scope site = scope_at site None
 pub record AreTables (tables : Tables) : Type 0 where
   pub numbers : (x : List ℕ) → look tables.numbers.now x ≡ rule_named (entries_view tables.roster.now) x
   pub fields : (f : List ℕ) → rows_set f tables.fields.now ≡ map (row_of f) (entries_view tables.roster.now)
+
+-- the scopes of the terms of an alternative at a place, by the tables of the whole text
+abbrev pub scopes_at : Tables → code.Entry → ℕ × ℕ → List Term → ℕ → Scope
+scopes_at tables entry at terms u =
+    scope_of (entries_view tables.roster.now) (shown tables.attrs.now.names) (home_of at entry.holder) entry.outer.now terms u
 
 -- the tables of an alternative, of which the terms to the left of u are passed
 pub record AreMarks (terms : List Term) (u : ℕ) (marks : Marks) : Type 0 where

@@ -10,10 +10,14 @@ mod marks;
 mod named;
 mod names;
 mod primitives;
+mod resolve;
 mod resolved;
 mod roster;
 mod rules;
 mod scope;
+mod whole;
 
 pub use fault::NameFault;
 pub use named::{NamedAlt, NamedPlace, NamedRule, NamedSlot, NamedTerm};
+pub use resolve::resolve;
+pub use whole::Named;

@@ -10,7 +10,7 @@ ghost use Rattle.ipg_names.specs.Marks.{IsShort, IsMarked};
 ghost use Rattle.ipg_names.specs.View.{entry_view, entries_view, HasShortTerms, IsFit};
 ghost use Rattle.ipg_names.specs.Lookup.{shown};
 ghost use Rattle.ipg_names.specs.Roster.{alts_of};
-ghost use Rattle.ipg_names.specs.Site.{site_scope, AreTables, AreMarks, IsOuter};
+ghost use Rattle.ipg_names.specs.Site.{site_scope, scopes_at, AreTables, AreMarks, IsOuter};
 
 use crate::fault::{NameFault, earlier};
 use crate::faults::term_fault;
@@ -75,21 +75,20 @@ fn home_of(at: (u32, u32), holder: Option<(u32, u32)>) -> (u32, u32)
     }
 }
 
-fn judged_alt<'a>(
+fn judged_terms<'a>(
     alloc: Global,
     tables: &Tables<'_, 'a>,
     entry: &Entry<'a>,
     at: (u32, u32),
     outer: &Places<'a>,
-    alt: &'a Alt,
-) -> Result<Judged<NamedAlt>, AllocError>
+    terms: &'a [Term],
+) -> Result<Judged<List<NamedTerm>>, AllocError>
     requires tables { AreTables tables.now }
     requires outer { IsOuter entry.now.outer.now outer.now }
-    requires short { HasShortTerms alt.now }
-    ensures made { IfOk result (λ judged. judged.made ≡ spec.alt_in (entries_view tables.now.roster.now) (shown tables.now.attrs.now.names) (entry_view entry.now) at alt.now) }
-    ensures fault { IfOk result (λ judged. judged.fault ≡ first_of (faults.alt_faults (entries_view tables.now.roster.now) (shown tables.now.attrs.now.names) (entry_view entry.now) at alt.now)) }
+    requires short { IsShort terms.now }
+    ensures made { IfOk result (λ judged. judged.made ≡ spec.terms_from (scopes_at tables.now entry.now at terms.now) 0 terms.now) }
+    ensures fault { IfOk result (λ judged. judged.fault ≡ first_of (faults.terms_faults (scopes_at tables.now entry.now at terms.now) 0 terms.now)) }
 {
-    let terms = alt.terms.as_slice();
     let mut marks = marks_of(alloc, terms)?;
     let mut made = Vec::with_capacity(alloc, terms.len())?;
     let mut fault = None;
@@ -107,10 +106,29 @@ fn judged_alt<'a>(
         pass(&mut marks, u as u32, term)?;
     }
     Ok(Judged {
-        made: NamedAlt {
-            terms: List::from_vec(made),
-        },
+        made: List::from_vec(made),
         fault,
+    })
+}
+
+fn judged_alt<'a>(
+    alloc: Global,
+    tables: &Tables<'_, 'a>,
+    entry: &Entry<'a>,
+    at: (u32, u32),
+    outer: &Places<'a>,
+    alt: &'a Alt,
+) -> Result<Judged<NamedAlt>, AllocError>
+    requires tables { AreTables tables.now }
+    requires outer { IsOuter entry.now.outer.now outer.now }
+    requires short { HasShortTerms alt.now }
+    ensures made { IfOk result (λ judged. judged.made ≡ spec.alt_in (entries_view tables.now.roster.now) (shown tables.now.attrs.now.names) (entry_view entry.now) at alt.now) }
+    ensures fault { IfOk result (λ judged. judged.fault ≡ first_of (faults.alt_faults (entries_view tables.now.roster.now) (shown tables.now.attrs.now.names) (entry_view entry.now) at alt.now)) }
+{
+    let judged = judged_terms(alloc, tables, entry, at, outer, alt.terms.as_slice())?;
+    Ok(Judged {
+        made: NamedAlt { terms: judged.made },
+        fault: judged.fault,
     })
 }
 
