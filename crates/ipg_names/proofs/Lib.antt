@@ -9,4 +9,6 @@ pub mod FieldTable
 pub mod Narrowed
 pub mod Scopes
 pub mod Turns
+pub mod Families
+pub mod Counts
 pub mod Spots

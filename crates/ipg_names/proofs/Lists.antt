@@ -1,5 +1,5 @@
 -- Lists item by item.
-use Rattle.std.proofs.Common.{◌≡◌, ℕ, zero, suc, ◌+◌, ◌<◌, ◌≤◌, List, [], ◌∷◌, ◌++◌, length, take, drop, get_or, map, refl, sym, ap, subst, ◌∙◌, append_assoc, append-nil, arith, length-take, Bool, ◌||◌}
+use Rattle.std.proofs.Common.{◌≡◌, ℕ, zero, suc, ◌+◌, ◌<◌, ◌≤◌, List, [], ◌∷◌, ◌++◌, length, take, drop, get_or, map, refl, sym, ap, subst, ◌∙◌, append_assoc, append-nil, arith, length-take, Bool, ◌||◌, slice_get, Some}
 use Rattle.std.specs.List.{AllByRecursion, list_any}
 use Rattle.std.proofs.lemmas.List.{drop_all}
 use Rattle.std.proofs.Math.Seq.{drop-cons, take-suc}
@@ -51,3 +51,11 @@ map_turn f xs i x made new all is within put so_far =
 
 pub map_done : {A B : Type 0} (f : A → B) (xs : List A) (i : ℕ) (made all : List B) → length xs ≤ i → made ++ map f (drop i xs) ≡ all → made ≡ all
 map_done f xs i made all past so_far = sym (append-nil made) ∙ sym (ap (λ t. made ++ map f t) (drop_all i xs past)) ∙ so_far
+
+drop_here : {A : Type 0} (xs : List A) (i : ℕ) (x : A) → slice_get xs i ≡ Some x → drop i xs ≡ x ∷ drop (suc i) xs
+drop_here [] i x h = absurd (cc)
+drop_here (y ∷ xs) zero x h = ap (λ z. z ∷ xs) (let same : y ≡ x = cc in same)
+drop_here (y ∷ xs) (suc i) x h = drop_here xs i x h
+
+pub drop_get : {A : Type 0} (xs : List A) (i : ℕ) (x : A) → slice_get xs i ≡ Some x → drop i xs ≡ x ∷ drop (i + 1) xs
+drop_get xs i x h = drop_here xs i x h ∙ ap (λ k. x ∷ drop k xs) (let e : suc i ≡ i + 1 = omega arith in e)

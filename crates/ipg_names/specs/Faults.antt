@@ -147,5 +147,8 @@ abbrev pub rules_faults : List Entry → List (List ℕ) → ℕ → List Entry 
 rules_faults roster names r [] = []
 rules_faults roster names r (entry ∷ entries) = alts_faults roster names entry r 0 (alts_of entry) ++ rules_faults roster names (r + 1) entries
 
+abbrev pub roster_faults : List Entry → List (List ℕ) → Faults
+roster_faults roster names = head_faults [] roster ++ rules_faults roster names 0 roster
+
 abbrev pub faults_of : Grammar → Faults
-faults_of g = head_faults [] (roster_of g) ++ rules_faults (roster_of g) (attr_names g) 0 (roster_of g)
+faults_of g = roster_faults (roster_of g) (attr_names g)

@@ -10,14 +10,15 @@ mod marks;
 mod named;
 mod names;
 mod primitives;
-mod resolve;
+mod resolving;
 mod resolved;
 mod roster;
+
 mod rules;
 mod scope;
 mod whole;
 
 pub use fault::NameFault;
 pub use named::{NamedAlt, NamedPlace, NamedRule, NamedSlot, NamedTerm};
-pub use resolve::resolve;
+pub use resolving::resolve;
 pub use whole::Named;

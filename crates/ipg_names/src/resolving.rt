@@ -1,11 +1,13 @@
 //! The names of a grammar, resolved.
-ghost use Rattle.std.specs.Prelude.{◌≡◌, ◌⊎◌, Some, None, IfOk, MatchResult};
+ghost use Rattle.std.specs.Prelude.{◌≡◌, ◌⊎◌, ◌<◌, ◌^◌, Some, None, IfOk, MatchResult, length, slice_get};
 ghost use Rattle.ipg_names.specs.Readable.{IsReadable};
 ghost use Rattle.ipg_names.specs.Fault.{first_of};
-ghost use Rattle.ipg_names.specs.Faults.{faults_of};
-ghost use Rattle.ipg_names.specs.Resolved.{names_of};
+ghost use Rattle.ipg_names.specs.Faults.{roster_faults, faults_of};
+ghost use Rattle.ipg_names.specs.Resolved.{rules_from, names_of};
 ghost use Rattle.ipg_names.specs.Names as spec;
 ghost use Rattle.ipg_names.specs.Lookup.{shown};
+ghost use Rattle.ipg_names.specs.View.{entries_view, IsFit};
+ghost use Rattle.std.specs.List.{AllByRecursion};
 
 use crate::attrs::Attrs;
 use crate::fault::{NameFault, earlier};
@@ -14,7 +16,7 @@ use crate::heads::heads_of;
 use crate::named::NamedRule;
 use crate::names::attr_names;
 use crate::resolved::copy;
-use crate::roster::roster;
+use crate::roster::{Entry, roster};
 use crate::rules::{Judged, judged_rules};
 use crate::scope::Tables;
 use crate::whole::Named;
@@ -61,10 +63,23 @@ fn judged<'a>(
     ensures fault { IfOk result (λ judged. judged.fault ≡ first_of (faults_of g.now)) }
 {
     let roster = roster(alloc, g.rules.as_slice())?;
-    let heads = heads_of(alloc, roster.as_slice())?;
-    let fields = fields(alloc, roster.as_slice())?;
+    judged_roster(alloc, roster.as_slice(), attrs)
+}
+
+fn judged_roster<'a>(
+    alloc: Global,
+    roster: &[Entry<'a>],
+    attrs: &Attrs<'a>,
+) -> Result<Judged<List<NamedRule>>, AllocError>
+    requires few { length roster.now < 2 ^ 32 }
+    requires fit { AllByRecursion IsFit (entries_view roster.now) }
+    ensures made { IfOk result (λ judged. judged.made ≡ rules_from (entries_view roster.now) (shown attrs.now.names) 0 (entries_view roster.now)) }
+    ensures fault { IfOk result (λ judged. judged.fault ≡ first_of (roster_faults (entries_view roster.now) (shown attrs.now.names))) }
+{
+    let heads = heads_of(alloc, roster)?;
+    let fields = fields(alloc, roster)?;
     let tables = Tables {
-        roster: roster.as_slice(),
+        roster,
         numbers: &heads.numbers,
         fields: fields.as_slice(),
         attrs,
@@ -76,14 +91,23 @@ fn judged<'a>(
     })
 }
 
+fn name_at(alloc: Global, attrs: &Attrs<'_>, at: usize) -> Result<Name, AllocError>
+    requires { at < length (shown attrs.now.names) }
+    ensures { IfOk result (λ name. slice_get (shown attrs.now.names) at ≡ Some name) }
+{
+    match attrs.names.get_index(at) {
+        Some(name) => copy(alloc, name),
+        None => unreachable!(),
+    }
+}
+
 fn names(alloc: Global, attrs: &Attrs<'_>) -> Result<List<Name>, AllocError>
     ensures { IfOk result (λ names. names ≡ shown attrs.now.names) }
 {
-    let mut names = Vec::with_capacity(alloc, attrs.names.len())?;
-    for at in 0..attrs.names.len() {
-        if let Some(name) = attrs.names.get_index(at) {
-            names.push(copy(alloc, name)?)?;
-        }
+    let count = attrs.names.len();
+    let mut names = Vec::with_capacity(alloc, count)?;
+    for at in 0..count {
+        names.push(name_at(alloc, attrs, at)?)?;
     }
     Ok(List::from_vec(names))
 }
