@@ -11,4 +11,6 @@ pub mod Scopes
 pub mod Turns
 pub mod Families
 pub mod Counts
+pub mod Within
+pub mod Mentions
 pub mod Spots
