@@ -13,4 +13,6 @@ pub mod Families
 pub mod Counts
 pub mod Within
 pub mod Mentions
+pub mod Found
+pub mod GoodTerms
 pub mod Spots

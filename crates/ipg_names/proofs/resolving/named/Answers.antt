@@ -1,4 +1,5 @@
 use Rattle.ipg_names.proofs.Mentions.{term_good}
+use Rattle.ipg_names.proofs.GoodTerms.{sets_some}
 use Rattle.ipg_names.proofs.Within.{once_distinct}
 use Rattle.ipg_names.proofs.resolving.named.Goals as goal
 
