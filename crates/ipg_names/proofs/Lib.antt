@@ -15,4 +15,5 @@ pub mod Within
 pub mod Mentions
 pub mod Found
 pub mod GoodTerms
+pub mod GoodNames
 pub mod Spots
