@@ -16,4 +16,5 @@ pub mod Mentions
 pub mod Found
 pub mod GoodTerms
 pub mod GoodNames
+pub mod Sizes
 pub mod Spots

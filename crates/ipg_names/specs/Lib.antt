@@ -14,6 +14,8 @@ pub mod Resolved
 pub mod Faults
 -- what a resolved grammar keeps
 pub mod Bare
+-- the laws that public functions promise
+pub mod Laws
 -- what functions inside the crate promise each other
 pub mod Marks
 pub mod View

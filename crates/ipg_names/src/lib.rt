@@ -6,6 +6,7 @@ mod fault;
 mod faults;
 mod fields;
 mod heads;
+pub mod laws;
 mod marks;
 mod named;
 mod names;
