@@ -1,6 +1,5 @@
-use ipg_ast::Grammar;
+use super::grammar_in;
 use ipg_names::{NameFault, Named, resolve};
-use std::alloc::Global;
 use std::test::Fail;
 
 struct Row {
@@ -63,9 +62,8 @@ fn told(answer: &Result<Named, NameFault>) -> (u32, u32) {
 fn refusals(rt: HostRuntime) -> Result<(), Fail> {
     let alloc = rt.alloc();
     for row in &ROWS {
-        let g = ipg_read::read(alloc, row.text)?;
-        let (number, at) = told(&resolve(alloc, &g));
-        assert_eq!(rt; (number, at), (row.number, row.at));
+        let g = grammar_in(alloc, row.text).ok_or("no grammar")?;
+        assert_eq!(rt; told(&resolve(alloc, &g)), (row.number, row.at));
     }
     Ok(())
 }
