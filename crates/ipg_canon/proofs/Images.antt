@@ -16,7 +16,7 @@ use Rattle.ipg_ast.specs.declared.grammar.Term.TheVariants as T
 use Rattle.ipg_ast.specs.declared.grammar.Alt.{Alt, out-Alt, roll-out-Alt}
 use Rattle.ipg_ast.specs.declared.grammar.Rule.{Rule, out-Rule, roll-out-Rule}
 use Rattle.ipg_ast.specs.declared.grammar.Grammar.{Grammar}
-use Rattle.ipg_ast.specs.Shape.{IsFormedLocalAlt, IsFormedLocal, IsFormedAlt, IsFormedRule, IsFormed}
+use Rattle.ipg_ast.specs.Shape.{IsFormedTerm, IsFormedTerms, IsFormedLocalAlt, IsFormedLocal, IsFormedAlt, IsFormedRule, IsFormed}
 use Rattle.ipg_syntax.specs.Classes.{either, both, op}
 use Rattle.ipg_syntax.specs.Written.{ExprTree, num, eoi, own, part, item, group, neg, isnt, two, choose, anywhere, long, ends, CaseTree, TermTree, slot_term, set_term, test_term, repeat_term, pick_term, LocalTree, AltTree, RuleTree}
 use Rattle.ipg_canon.specs.Bare.{every}
@@ -143,7 +143,7 @@ case_tree c any = record {
   is = ap₂ (λ e s. record { cond = e; slot = s }) (expr_of c.cond).is (slot_tree c.slot).is;
 }
 
-term_tree : (t : Term) → Unit {0} → Of (term_by made) t
+term_tree : (t : Term) → IsFormedTerm t → Of (term_by made) t
 term_tree (T.Slot s) any = record { tree = slot_term (slot_tree s).tree; is = ap (λ x. T.Slot x) (slot_tree s).is }
 term_tree (T.Set x e) any = record { tree = set_term x (expr_of e).tree; is = ap (λ y. T.Set x y) (expr_of e).is }
 term_tree (T.Test at e) any = record { tree = test_term at (expr_of e).tree; is = ap (λ y. T.Test at y) (expr_of e).is }
@@ -152,16 +152,17 @@ term_tree (T.Repeat x a b i l r) any = record {
   is = ap₂ (λ c d. T.Repeat x c d i (expr_by made (expr_of l).tree) (expr_by made (expr_of r).tree)) (expr_of a).is (expr_of b).is
       ∙ ap₂ (λ c d. T.Repeat x a b i c d) (expr_of l).is (expr_of r).is;
 }
+term_tree (T.Many at i p) any = absurd any
 term_tree (T.Pick at cs s) any =
     let cases : Of (every made_case) cs = each_of made_case Any case_tree cs (all_any cs) in
     record { tree = pick_term at cases.tree (slot_tree s).tree; is = ap₂ (λ x y. T.Pick at x y) (cases_made [] cases.tree ∙ cases.is) (slot_tree s).is }
 
-terms_tree : (ts : List Term) → Of (every (term_by made)) ts
-terms_tree ts = each_of (term_by made) Any term_tree ts (all_any ts)
+terms_tree : (ts : List Term) → IsFormedTerms ts → Of (every (term_by made)) ts
+terms_tree ts formed = each_of (term_by made) IsFormedTerm term_tree ts formed.each
 
 local_alt_tree : (a : Alt) → IsFormedLocalAlt a → Of made_local_alt a
 local_alt_tree a formed =
-    let ts : Of (every (term_by made)) (out-Alt a).terms = terms_tree (out-Alt a).terms in
+    let ts : Of (every (term_by made)) (out-Alt a).terms = terms_tree (out-Alt a).terms formed.terms in
     record { tree = ts.tree; is = ap₂ alt_of ts.is (sym formed.no_locals) ∙ roll-out-Alt a }
 
 local_tree : (r : Rule) → IsFormedLocal r → Of made_local r
@@ -171,7 +172,7 @@ local_tree r formed =
 
 alt_tree : (a : Alt) → IsFormedAlt a → Of made_alt a
 alt_tree a formed =
-    let ts : Of (every (term_by made)) (out-Alt a).terms = terms_tree (out-Alt a).terms in
+    let ts : Of (every (term_by made)) (out-Alt a).terms = terms_tree (out-Alt a).terms formed.terms in
     let ls : Of (every made_local) (out-Alt a).locals = each_of made_local IsFormedLocal local_tree (out-Alt a).locals formed.locals in
     record { tree = record { terms = ts.tree; locals = ls.tree }; is = ap₂ alt_of ts.is ls.is ∙ roll-out-Alt a }
 

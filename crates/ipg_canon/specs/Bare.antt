@@ -14,7 +14,7 @@ use Rattle.ipg_ast.specs.declared.grammar.Place.TheVariants.{Open, Length, Ends}
 use Rattle.ipg_ast.specs.declared.grammar.Slot.{Slot}
 use Rattle.ipg_ast.specs.declared.grammar.Case.{Case}
 use Rattle.ipg_ast.specs.declared.grammar.Term.{Term}
-use Rattle.ipg_ast.specs.declared.grammar.Term.TheVariants.{Slot as SlotTerm, Set, Test, Repeat, Pick}
+use Rattle.ipg_ast.specs.declared.grammar.Term.TheVariants.{Slot as SlotTerm, Set, Test, Repeat, Many, Pick}
 use Rattle.ipg_ast.specs.declared.grammar.Alt.{Alt, out-Alt, roll-Alt}
 use Rattle.ipg_ast.specs.declared.grammar.Rule.{Rule, out-Rule, roll-Rule}
 use Rattle.ipg_ast.specs.declared.grammar.Grammar.{Grammar}
@@ -68,6 +68,7 @@ bare_term (SlotTerm s) = SlotTerm (bare_slot s)
 bare_term (Set x e) = Set (bare_ident x) (bare_expr e)
 bare_term (Test at e) = Test no_span (bare_expr e)
 bare_term (Repeat x a b i l r) = Repeat (bare_ident x) (bare_expr a) (bare_expr b) (bare_ident i) (bare_expr l) (bare_expr r)
+bare_term (Many at i p) = Many no_span (bare_ident i) (bare_place p)
 bare_term (Pick at cs s) = Pick no_span (every bare_case cs) (bare_slot s)
 
 -- local rules have no local rules of their own

@@ -9,7 +9,7 @@ use Rattle.ipg_core.specs.declared.grammar.Primitive.TheVariants.{Bytes}
 use Rattle.ipg_core.specs.declared.grammar.CoreExpr.{CoreExpr}
 use Rattle.ipg_core.specs.declared.grammar.CoreSlot.{CoreSlot}
 use Rattle.ipg_core.specs.declared.grammar.CoreTerm.{CoreTerm}
-use Rattle.ipg_core.specs.declared.grammar.CoreTerm.TheVariants.{Slot, Set, Test, Repeat, Pick}
+use Rattle.ipg_core.specs.declared.grammar.CoreTerm.TheVariants.{Slot, Set, Test, Repeat, Many, Pick}
 use Rattle.ipg_core.specs.declared.grammar.CoreAlt.{CoreAlt}
 use Rattle.ipg_core.specs.declared.grammar.CoreRule.{CoreRule}
 use Rattle.ipg_num.specs.declared.op.Answer.{Answer}
@@ -20,11 +20,11 @@ use Rattle.ipg_core.specs.Tree.{Kid}
 use Rattle.ipg_core.specs.Environment.{Values}
 use Rattle.ipg_core.specs.Eval.{is_zero, eval}
 use Rattle.ipg_core.specs.Run.{NoTree, Run, finish, stop, some_of, value_of}
-use Rattle.ipg_core.specs.Meaning.{Call, Frame, State, Place, environment, value_in, ask, token_on, number_on, primitive_on, symbol_on, slot_on, items_on, times, pick_on, term_on, terms_on, start, alt_on, alts_on, rule_run, rule_on, den}
+use Rattle.ipg_core.specs.Meaning.{Call, Frame, State, Place, environment, value_in, ask, token_on, number_on, primitive_on, symbol_on, slot_on, items_on, times, item_end, item_on, many_on, turns, repetition_on, pick_on, term_on, terms_on, start, alt_on, alts_on, rule_run, rule_on, den}
 use Rattle.ipg_core.specs.Mention.{EachSym}
 use Rattle.ipg_core.specs.Total.{IsForward, IsLater}
 use Rattle.ipg_core.specs.Laws.{ForwardIsTotal}
-use Rattle.ipg_core.proofs.Settled.{Settled, settled_ok, settled_no_tree, settled_range, settled_bind, settled_else}
+use Rattle.ipg_core.proofs.Settled.{Settled, settled_ok, settled_no_tree, settled_range, settled_bind, settled_else, settled_kept}
 
 settled_finish : {A : Type 0} (a : A) → Settled (finish a).answer
 unfolding finish
@@ -102,6 +102,24 @@ module _ (call : Call) (f : Frame) where
       settled_bind _ _ (value_settles state None c.0) (λ x _.
       settled_chosen (is_zero x) _ _ (pick_settles (record p { branch = p.branch + 1 }) state cases other h.1 k) (slot_settles p state None c.1 h.0))
 
+  item_settles : (p : Place) (own : Values) (from to : ℕ) (sym : Sym) → Leads call sym → Settled (item_on call f p own from to sym).answer
+  unfolding item_on
+  item_settles p own from to sym h = settled_bind _ _ (settled_some (item_end from to sym)) (λ end _. symbol_settles p own from end sym h)
+
+  many_settles : (p : Place) (own : Values) (sym : Sym) → Leads call sym → (n from to : ℕ) (items : List Kid) → Settled (many_on call f p own sym n from to items).answer
+  unfolding many_on
+  many_settles p own sym h zero from to items = settled_finish items
+  many_settles p own sym h (suc n) from to items =
+      settled_kept _ items _ (item_settles p own from to sym h) (λ end more. many_settles p own sym h n end to more)
+
+  repetition_settles : (p : Place) (state : State) (slot : CoreSlot) → Leads call slot.sym → Settled (repetition_on call f p state slot).answer
+  unfolding repetition_on
+  repetition_settles p state slot h =
+      settled_bind _ _ (value_settles state None slot.from) (λ l _.
+      settled_bind _ _ (value_settles state None slot.to) (λ r _.
+      settled_bind _ _ (settled_some (interval (length f.bytes) l r)) (λ ends _.
+      many_settles p state.own slot.sym h (turns ends.0 ends.1) ends.0 ends.1 [])))
+
   term_settles : (state : State) (u : ℕ) (term : Option CoreTerm) → LeadsSome call term → Settled (term_on call f state u term).answer
   term_settles state u None h = settled_stop
   term_settles state u (Some (Slot slot)) h = settled_bind _ _ (slot_settles _ state None slot h) (λ kid _. settled_finish _)
@@ -112,6 +130,7 @@ module _ (call : Call) (f : Frame) where
       settled_bind _ _ (value_settles state None first) (λ a _.
       settled_bind _ _ (value_settles state None last) (λ b _.
       settled_bind _ _ (items_settle u state (record { sym = sym; from = from; to = to }) (times (b -ℤ a)) a [] h) (λ items _. settled_finish _)))
+  term_settles state u (Some (Many sym from to)) h = settled_bind _ _ (repetition_settles _ state _ h) (λ items _. settled_finish _)
   term_settles state u (Some (Pick cases other)) h =
       settled_bind _ _ (pick_settles _ state cases other h.0 h.1) (λ kid _. settled_finish _)
 
@@ -147,6 +166,7 @@ module _ (P Q : Sym → Type 0) (follows : (sym : Sym) → P sym → Q sym) wher
   term_follows (Set attr e) h = tt
   term_follows (Test e) h = tt
   term_follows (Repeat first last item from to) h = follows item h
+  term_follows (Many item from to) h = follows item h
   term_follows (Pick cases other) h = (cases_follow cases h.0, follows other.sym h.1)
 
   terms_follow : (terms : List CoreTerm) → AllByRecursion (EachSym P) terms → AllByRecursion (EachSym Q) terms

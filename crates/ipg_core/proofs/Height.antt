@@ -6,7 +6,7 @@ use Rattle.ipg_core.specs.declared.grammar.Sym.TheVariants.{Text, Prim, Rule}
 use Rattle.ipg_core.specs.declared.grammar.CoreExpr.{CoreExpr}
 use Rattle.ipg_core.specs.declared.grammar.CoreSlot.{CoreSlot}
 use Rattle.ipg_core.specs.declared.grammar.CoreTerm.{CoreTerm}
-use Rattle.ipg_core.specs.declared.grammar.CoreTerm.TheVariants.{Slot, Set, Test, Repeat, Pick}
+use Rattle.ipg_core.specs.declared.grammar.CoreTerm.TheVariants.{Slot, Set, Test, Repeat, Many, Pick}
 use Rattle.ipg_core.specs.declared.grammar.CoreAlt.{CoreAlt}
 use Rattle.ipg_core.specs.declared.grammar.CoreRule.{CoreRule}
 use Rattle.ipg_core.specs.Grammar.{Grammar, rule_at, holder_of}
@@ -15,9 +15,9 @@ use Rattle.ipg_core.specs.Tree.{Kid}
 use Rattle.ipg_core.specs.Environment.{Values}
 use Rattle.ipg_core.specs.Eval.{is_zero}
 use Rattle.ipg_core.specs.Run.{Run, some_of}
-use Rattle.ipg_core.specs.Meaning.{Call, Frame, State, Place, value_in, outer_for, ask, symbol_on, slot_on, items_on, times, pick_on, term_on, terms_on, start, alt_on, alts_on, rule_run, rule_on, den}
+use Rattle.ipg_core.specs.Meaning.{Call, Frame, State, Place, value_in, outer_for, ask, symbol_on, slot_on, items_on, times, item_end, item_on, many_on, turns, repetition_on, pick_on, term_on, terms_on, start, alt_on, alts_on, rule_run, rule_on, den}
 use Rattle.ipg_core.specs.Laws.{HeightsAgree}
-use Rattle.ipg_core.proofs.Settled.{Settled, Agree, agree_refl, agree_bind, agree_else}
+use Rattle.ipg_core.proofs.Settled.{Settled, Agree, agree_refl, agree_bind, agree_else, agree_kept}
 
 -- the second answers as the first wherever that settles
 pub record CallsAgree (call call' : Call) : Type 0 where
@@ -59,6 +59,24 @@ module _ (call call' : Call) (calls : CallsAgree call call') (f : Frame) where
       agree_bind (agree_refl (value_in f state None c.0)) (λ x.
       chosen_agrees (is_zero x) _ _ _ _ (pick_agrees (record p { branch = p.branch + 1 }) state cases other) (slot_agrees p state None c.1))
 
+  item_agrees : (p : Place) (own : Values) (from to : ℕ) (sym : Sym) → Agree (item_on call f p own from to sym) (item_on call' f p own from to sym)
+  unfolding item_on
+  item_agrees p own from to sym = agree_bind (agree_refl (some_of (item_end from to sym))) (λ end. symbol_agrees p own from end sym)
+
+  many_agrees : (p : Place) (own : Values) (sym : Sym) (n from to : ℕ) (items : List Kid) → Agree (many_on call f p own sym n from to items) (many_on call' f p own sym n from to items)
+  unfolding many_on
+  many_agrees p own sym zero from to items = agree_refl _
+  many_agrees p own sym (suc n) from to items =
+      agree_kept (item_agrees p own from to sym) items (λ end more. many_agrees p own sym n end to more)
+
+  repetition_agrees : (p : Place) (state : State) (slot : CoreSlot) → Agree (repetition_on call f p state slot) (repetition_on call' f p state slot)
+  unfolding repetition_on
+  repetition_agrees p state slot =
+      agree_bind (agree_refl (value_in f state None slot.from)) (λ l.
+      agree_bind (agree_refl (value_in f state None slot.to)) (λ r.
+      agree_bind (agree_refl (some_of (interval (length f.bytes) l r))) (λ ends.
+      many_agrees p state.own slot.sym (turns ends.0 ends.1) ends.0 ends.1 [])))
+
   term_agrees : (state : State) (u : ℕ) (term : Option CoreTerm) → Agree (term_on call f state u term) (term_on call' f state u term)
   term_agrees state u None = agree_refl _
   term_agrees state u (Some (Slot slot)) = agree_bind (slot_agrees _ state None slot) (λ kid. agree_refl _)
@@ -68,6 +86,7 @@ module _ (call call' : Call) (calls : CallsAgree call call') (f : Frame) where
       agree_bind (agree_refl (value_in f state None first)) (λ a.
       agree_bind (agree_refl (value_in f state None last)) (λ b.
       agree_bind (items_agree u state _ (times (b -ℤ a)) a []) (λ items. agree_refl _)))
+  term_agrees state u (Some (Many sym from to)) = agree_bind (repetition_agrees _ state _) (λ items. agree_refl _)
   term_agrees state u (Some (Pick cases other)) = agree_bind (pick_agrees _ state cases other) (λ kid. agree_refl _)
 
   terms_agree : (terms : List CoreTerm) (order : List ℕ) (state : State) → Agree (terms_on call f terms order state) (terms_on call' f terms order state)

@@ -2,3 +2,10 @@ pub mod Settled
 pub mod Height
 pub mod Forward
 pub mod EvalLemmas
+pub mod Orders
+pub mod Yields
+pub mod Within
+pub mod Turns
+pub mod Touching
+pub mod Asks
+pub mod Grows

@@ -1,6 +1,9 @@
 -- Answers that the height sufficed for, and how runs pass them on.
-use Rattle.std.proofs.Common.{◌≡◌, ◌≢◌, refl, ap, ◌∙◌, List, Result, Ok, Err}
+use Rattle.std.proofs.Common.{◌≡◌, ◌≢◌, ℕ, refl, ap, ◌∙◌, List, Result, Ok, Err, Bool, true, false, if◌then◌else◌}
 use Rattle.ipg_core.specs.Run.{Stop, NoTree, OutOfRange, Deep, Asked, Run, finish, stop, after, go_on, ◌>>=◌, or_next, or_else}
+use Rattle.ipg_core.specs.Tree.{Kid}
+use Rattle.ipg_core.specs.Touch.{touches, ends_of}
+use Rattle.ipg_core.specs.Meaning.{kept}
 
 pub record Settled {A : Type 0} (answer : Result A Stop) : Type 0 where
   pub not_deep : answer ≢ Err Deep
@@ -65,3 +68,35 @@ settled_next (Err Deep) next h k = absurd (h.not_deep refl)
 pub settled_else : {A : Type 0} (run next : Run A) → Settled run.answer → Settled next.answer → Settled (or_else run next).answer
 unfolding or_else after
 settled_else run next h k = settled_next run.answer next h k
+
+-- an item that a repetition keeps or ends with
+settled_item : (b : Bool) (x y : Run (List Kid)) → Settled x.answer → Settled y.answer → Settled (if b then x else y).answer
+settled_item true x y h k = h
+settled_item false x y h k = k
+
+settled_keep : (answer : Result Kid Stop) (items : List Kid) (go : ℕ → List Kid → Run (List Kid)) → Settled answer → ((end : ℕ) (more : List Kid) → Settled (go end more).answer) → Settled (kept answer items go).answer
+unfolding kept stop finish
+settled_keep (Ok item) items go h k = settled_item (touches (ends_of item)) _ _ (k _ _) (settled_ok items)
+settled_keep (Err NoTree) items go h k = settled_ok items
+settled_keep (Err OutOfRange) items go h k = settled_range
+settled_keep (Err Deep) items go h k = absurd (h.not_deep refl)
+
+pub settled_kept : (item : Run Kid) (items : List Kid) (go : ℕ → List Kid → Run (List Kid)) → Settled item.answer → ((end : ℕ) (more : List Kid) → Settled (go end more).answer) → Settled (after item.asked (kept item.answer items go)).answer
+unfolding after
+settled_kept item items go h k = settled_keep item.answer items go h k
+
+agree_item : (b : Bool) (x x' y : Run (List Kid)) → Agree x x' → Settled (if b then x else y).answer → (if b then x' else y) ≡ (if b then x else y)
+agree_item true x x' y h s = h.agree s
+agree_item false x x' y h s = refl
+
+agree_keep : (answer : Result Kid Stop) (asked : List Asked) (other : Run Kid) (items : List Kid) (go go' : ℕ → List Kid → Run (List Kid)) → (Settled answer → other ≡ record { answer = answer; asked = asked }) → ((end : ℕ) (more : List Kid) → Agree (go end more) (go' end more)) → Settled (kept answer items go).answer → after other.asked (kept other.answer items go') ≡ after asked (kept answer items go)
+unfolding kept stop finish
+agree_keep (Ok item) asked other items go go' h k s =
+    ap (λ run. after run.asked (kept run.answer items go')) (h (settled_ok item)) ∙ ap (after asked) (agree_item (touches (ends_of item)) _ _ _ (k _ _) s)
+agree_keep (Err NoTree) asked other items go go' h k s = ap (λ run. after run.asked (kept run.answer items go')) (h settled_no_tree)
+agree_keep (Err OutOfRange) asked other items go go' h k s = ap (λ run. after run.asked (kept run.answer items go')) (h settled_range)
+agree_keep (Err Deep) asked other items go go' h k s = absurd (s.not_deep refl)
+
+pub agree_kept : {item other : Run Kid} → Agree item other → (items : List Kid) {go go' : ℕ → List Kid → Run (List Kid)} → ((end : ℕ) (more : List Kid) → Agree (go end more) (go' end more)) → Agree (after item.asked (kept item.answer items go)) (after other.asked (kept other.answer items go'))
+unfolding after
+agree_kept {item} {other} h items {go} {go'} k = record { agree = λ s. agree_keep item.answer item.asked other items go go' h.agree k s }

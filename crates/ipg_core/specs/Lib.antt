@@ -12,7 +12,11 @@ pub mod Meaning
 pub mod Mention
 pub mod Order
 pub mod Good
+-- what lies where in a result, and which rules must touch a byte
+pub mod Within
+pub mod MustTouch
 -- when parsing by it ends
+pub mod Grown
 pub mod Total
 -- how a tree is printed
 pub mod Lines

@@ -155,6 +155,14 @@ many_on call f place own sym (suc n) p r items =
 abbrev pub turns : ℕ → ℕ → ℕ
 turns l r = (r - l) + 1
 
+-- a repetition: its left end, its right end, a valid interval, its items
+unfoldable pub repetition_on : Call → Frame → Place → State → CoreSlot → Run (List Kid)
+repetition_on call f place state slot = do
+  from ← value_in f state None slot.from
+  to ← value_in f state None slot.to
+  ends ← some_of (interval (length f.bytes) from to)
+  many_on call f place state.own slot.sym (turns ends.0 ends.1) ends.0 ends.1 []
+
 -- the first branch whose condition isn't 0, else the last one
 unfoldable pub pick_on : Call → Frame → Place → State → List (CoreExpr × CoreSlot) → CoreSlot → Run Kid
 pick_on call f place state [] other = slot_on call f place state None other
@@ -181,10 +189,7 @@ term_on call f state u (Some (Repeat first last sym from to)) = do
   items ← items_on call f u state (record { sym = sym; from = from; to = to }) (times (b -ℤ a)) a []
   finish (with_kid state u false (Array sym (kids_of items)))
 term_on call f state u (Some (Many sym from to)) = do
-  l ← value_in f state None from
-  r ← value_in f state None to
-  ends ← some_of (interval (length f.bytes) l r)
-  items ← many_on call f (record { term = u; branch = 0 }) state.own sym (turns ends.0 ends.1) ends.0 ends.1 []
+  items ← repetition_on call f (record { term = u; branch = 0 }) state (record { sym = sym; from = from; to = to })
   finish (with_kid state u false (Repetition sym (kids_of items)))
 term_on call f state u (Some (Pick cases other)) = do
   kid ← pick_on call f (record { term = u; branch = 0 }) state cases other

@@ -1,5 +1,5 @@
 -- A total grammar: parsing by it ends, within a height that is known beforehand.
-use Rattle.std.specs.Prelude.{◌≡◌, ◌≢◌, ℕ, ◌+◌, ◌*◌, ◌^◌, ◌<◌, ◌≤◌, List, length, Err, Some}
+use Rattle.std.specs.Prelude.{◌≡◌, ◌≢◌, ℕ, ◌+◌, ◌*◌, ◌<◌, List, length, Err, Some}
 use Rattle.std.specs.List.{AllByRecursion}
 use Rattle.ipg_core.specs.declared.grammar.Sym.{Sym}
 use Rattle.ipg_core.specs.declared.grammar.Sym.TheVariants.{Text, Prim, Rule}
@@ -9,22 +9,19 @@ use Rattle.ipg_core.specs.Environment.{Values}
 use Rattle.ipg_core.specs.Run.{Deep}
 use Rattle.ipg_core.specs.Mention.{EachSym}
 use Rattle.ipg_core.specs.Meaning.{den}
+use Rattle.ipg_core.specs.Grown.{IsInput, Grown}
 
--- the length of the longest input
-abbrev pub max_input : ℕ
-max_input = 2 ^ 30
-
--- what a rule may be asked on
-pub record Fits (g : Grammar) (r : ℕ) (s : List ℕ) : Type 0 where
+-- what a rule may be asked
+pub record Fits (g : Grammar) (r : ℕ) (s : List ℕ) (outer : Values) : Type 0 where
   pub rule : r < length g.rules
-  pub size : length s ≤ max_input
-  pub bytes : AllByRecursion (λ b. b < 256) s
+  pub input : IsInput s
+  pub grown : Grown g r s outer
 
 abbrev pub height_for : Grammar → List ℕ → ℕ
 height_for g s = (length s + 1) * length g.rules
 
 abbrev pub Total : Grammar → Type 0
-Total g = (r : ℕ) (s : List ℕ) (outer : Values) → Fits g r s → den g (height_for g s) r s outer ≢ Err Deep
+Total g = (r : ℕ) (s : List ℕ) (outer : Values) → Fits g r s outer → den g (height_for g s) r s outer ≢ Err Deep
 
 -- a symbol of the rule r leads on: it is no rule, or a later one
 abbrev pub IsLater : Grammar → ℕ → Sym → Type 0

@@ -296,17 +296,19 @@ fn number_line(
     Ok(line)
 }
 
-fn array_line(
+/// The line of an array or a repetition.
+fn items_line(
     alloc: Global,
     names: &Names<'_>,
     depth: u64,
+    kind: &[u8],
     sym: &Sym,
     items: &[PlainKid],
 ) -> Result<Vec<u8>, AllocError>
-    ensures { IfOk result (λ l. l.items ≡ spec.array_line (grammar_view names.now) depth sym.now (kids_of (kid_views items.now))) }
+    ensures { IfOk result (λ l. l.items ≡ spec.items_line (grammar_view names.now) depth kind.now sym.now (kids_of (kid_views items.now))) }
 {
     let mut line = begun(alloc, depth)?;
-    add(&mut line, b"for")?;
+    add(&mut line, kind)?;
     add(&mut line, sym_name(names, sym))?;
     add_number(&mut line, items.len() as u64)?;
     line.push(b'\n')?;
@@ -377,8 +379,14 @@ fn kid_lines(
             Ok(())
         }
         PlainKid::Array { sym, items } => {
-            lines.push(array_line(alloc, names, depth, sym, items.as_slice())?)?;
-            kids_lines(alloc, names, below(depth)?, at, items.as_slice(), lines)
+            let items = items.as_slice();
+            lines.push(items_line(alloc, names, depth, b"for", sym, items)?)?;
+            kids_lines(alloc, names, below(depth)?, at, items, lines)
+        }
+        PlainKid::Many { sym, items } => {
+            let items = items.as_slice();
+            lines.push(items_line(alloc, names, depth, b"many", sym, items)?)?;
+            kids_lines(alloc, names, below(depth)?, at, items, lines)
         }
     }
 }

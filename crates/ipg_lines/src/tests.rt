@@ -361,6 +361,121 @@ fn a_local_rule_sees_its_holder(rt: HostRuntime) -> Result<(), Fail> {
     Ok(())
 }
 
+/// `many ITEM[FROM, TO]`
+fn many(item: Sym, from: i64, to: CoreExpr) -> CoreTerm {
+    CoreTerm::Many {
+        item,
+        from: CoreExpr::Num(from),
+        to,
+    }
+}
+
+/// Where the repetition at term 0 ended.
+fn behind_many(alloc: Global) -> Made<CoreExpr> {
+    Ok(CoreExpr::After {
+        term: 0,
+        left: Held::new(alloc, CoreExpr::Num(0))?,
+    })
+}
+
+/// `S -> many ITEM Bytes ;`
+fn many_then_bytes(alloc: Global, item: Sym) -> Made<CoreRule> {
+    let rest = slot(bytes(), behind_many(alloc)?, CoreExpr::Eoi);
+    let terms = vec![in alloc; many(item, 0, CoreExpr::Eoi), CoreTerm::Slot(rest)]?;
+    simple(alloc, b"S", terms)
+}
+
+/// `S -> many U8 Bytes ;`: a third item would end past the part.
+#[test]
+fn a_repetition_to_the_end(rt: HostRuntime) -> Result<(), Fail> {
+    let alloc = rt.alloc();
+    let text = printed(alloc, &[many_then_bytes(alloc, byte())?], &[], b"ab")?;
+    let want: &[u8] = b"0 S 0 2 start=0 end=2\n\
+        1 many U8 2\n\
+        2 U8 0 1 val=97\n\
+        2 U8 1 2 val=98\n\
+        1 Bytes 2 2 -\n";
+    assert_eq!(rt; text.as_deref(), Ok(want));
+    Ok(())
+}
+
+/// `S -> many U16LE Bytes ;`: an item takes its width.
+#[test]
+fn a_repetition_of_wider_numbers(rt: HostRuntime) -> Result<(), Fail> {
+    let alloc = rt.alloc();
+    let pair = Sym::Prim(Primitive::U16LE);
+    let text = printed(alloc, &[many_then_bytes(alloc, pair)?], &[], b"abc")?;
+    let want: &[u8] = b"0 S 0 3 start=0 end=3\n\
+        1 many U16LE 1\n\
+        2 U16LE 0 2 val=25185\n\
+        1 Bytes 2 3 63\n";
+    assert_eq!(rt; text.as_deref(), Ok(want));
+    Ok(())
+}
+
+/// `S -> many A Bytes ; A -> "x" / "" ;`: an item that touches nothing ends it, and isn't kept.
+#[test]
+fn a_repetition_up_to_an_empty_item(rt: HostRuntime) -> Result<(), Fail> {
+    let alloc = rt.alloc();
+    let x = Sym::Text(name(alloc, b"x")?);
+    let some = alt(alloc, vec![in alloc; between(x, 0, 1)]?)?;
+    let empty = Sym::Text(name(alloc, b"")?);
+    let none = alt(alloc, vec![in alloc; between(empty, 0, 0)]?)?;
+    let rules = [
+        many_then_bytes(alloc, Sym::Rule(1))?,
+        rule(alloc, b"A", vec![in alloc; some, none]?)?,
+    ];
+    let text = printed(alloc, &rules, &[], b"xxa")?;
+    let want: &[u8] = b"0 S 0 3 start=0 end=3\n\
+        1 many A 2\n\
+        2 A 0 3 start=0 end=1\n\
+        3 tok 0 1 78\n\
+        2 A 1 3 start=1 end=2\n\
+        3 tok 1 2 78\n\
+        1 Bytes 2 3 61\n";
+    assert_eq!(rt; text.as_deref(), Ok(want));
+    Ok(())
+}
+
+/// `S -> many A[1, 0] / Bytes ; A -> U8 ;`: the interval isn't valid.
+#[test]
+fn a_repetition_on_no_interval(rt: HostRuntime) -> Result<(), Fail> {
+    let alloc = rt.alloc();
+    let first = alt(
+        alloc,
+        vec![in alloc; many(Sym::Rule(1), 1, CoreExpr::Num(0))]?,
+    )?;
+    let second = alt(alloc, vec![in alloc; over_all(bytes())]?)?;
+    let rules = [
+        rule(alloc, b"S", vec![in alloc; first, second]?)?,
+        simple(alloc, b"A", vec![in alloc; between(byte(), 0, 1)]?)?,
+    ];
+    let text = printed(alloc, &rules, &[], b"ab")?;
+    let want: &[u8] = b"0 S 0 2 start=0 end=2\n1 Bytes 0 2 6162\n";
+    assert_eq!(rt; text.as_deref(), Ok(want));
+    Ok(())
+}
+
+/// `S -> many A "z" ; A -> U8 ?(1 << (U8.val + 57) > 0) ;`: the second item leaves 64 bits.
+#[test]
+fn a_repetition_with_an_item_out_of_range(rt: HostRuntime) -> Result<(), Fail> {
+    let alloc = rt.alloc();
+    let shift = two(alloc, Op2::Add, seen(0, byte(), 0), CoreExpr::Num(57))?;
+    let power = two(alloc, Op2::Shl, CoreExpr::Num(1), shift)?;
+    let test = CoreTerm::Test(two(alloc, Op2::Gt, power, CoreExpr::Num(0))?);
+    let z = Sym::Text(name(alloc, b"z")?);
+    let to = two(alloc, Op2::Add, behind_many(alloc)?, CoreExpr::Num(1))?;
+    let behind = CoreTerm::Slot(slot(z, behind_many(alloc)?, to));
+    let terms = vec![in alloc; many(Sym::Rule(1), 0, CoreExpr::Eoi), behind]?;
+    let rules = [
+        simple(alloc, b"S", terms)?,
+        simple(alloc, b"A", vec![in alloc; between(byte(), 0, 1), test]?)?,
+    ];
+    let text = printed(alloc, &rules, &[b"val"], b"\x01\x06")?;
+    assert_eq!(rt; text, Err(Halt::OutOfRange));
+    Ok(())
+}
+
 /// `Digit -> U8 ?(U8.val >= 48 && U8.val <= 57) ;`
 fn digit(alloc: Global) -> Made<CoreRule> {
     let least = two(alloc, Op2::Ge, seen(0, byte(), 0), CoreExpr::Num(48))?;

@@ -15,11 +15,15 @@ use Rattle.ipg_core.specs.Tree.{Tree, Kid, Sub, Array, kids_of}
 use Rattle.ipg_core.specs.Environment.{Values}
 use Rattle.ipg_plain.specs.declared.environment.Running.{Running}
 use Rattle.ipg_core.specs.Eval.{is_zero}
-use Rattle.ipg_core.specs.Meaning.{Call, Frame, State, Place, value_in, slot_on, pick_on, term_on, terms_on, alt_on, alts_on, times, with_kid, den, rule_on, start, ask, outer_for, symbol_on, items_on}
+use Rattle.ipg_core.specs.Meaning.{Call, Frame, State, Place, value_in, slot_on, pick_on, term_on, terms_on, alt_on, alts_on, times, with_kid, den, rule_on, start, ask, outer_for, symbol_on, items_on, item_on, kept, many_on, turns}
 use Rattle.ipg_core.specs.Run.{Stop, NoTree, OutOfRange, Deep, Run, finish, stop, after, go_on, ◌>>=◌, or_next, or_else, some_of}
 use Rattle.ipg_plain.specs.declared.frame.Halt.{Halt}
 use Rattle.ipg_plain.specs.declared.frame.Halt.TheVariants as halts
-use Rattle.ipg_plain.specs.Gives.{Halts, Gives, running_in}
+use Rattle.ipg_plain.specs.Gives.{Halts, Gives, Keeps, running_in}
+use Rattle.ipg_plain.specs.View.{kid_view}
+use Rattle.ipg_plain.specs.declared.tree.PlainKid.{PlainKid}
+use Rattle.ipg_core.specs.Touch.{touches, ends_of}
+use Rattle.ipg_core.specs.declared.grammar.Sym.{Sym}
 
 pub bind_ok : {A B : Type 0} (run : Run A) (go : A → Run B) (a : A) → run.answer ≡ Ok a → (run >>= go).answer ≡ (go a).answer
 unfolding ◌>>=◌ go_on after
@@ -175,3 +179,48 @@ slice_get_below (y ∷ xs) (suc i) x e = let h = slice_get_below xs i x e in ome
 
 pub part_length : (s : List ℕ) (l r : ℕ) → l ≤ r → r ≤ length s → length (part s l r) ≡ r - l
 part_length s l r h k = let d : r - l ≤ length (drop l s) = omega (arith, length-drop l s) in length-take-le (r - l) (drop l s) d
+
+module _ (call : Call) (f : Frame) (place : Place) (own : Values) (sym' : Sym) (to : ℕ) where
+  -- one turn of a repetition fewer is left
+  pub keeps_next : (n from : ℕ) (items : List Kid) (k : PlainKid) → Keeps (Ok (Some k)) (item_on call f place own from to sym').answer
+      → (many_on call f place own sym' (suc n) from to items).answer ≡ (many_on call f place own sym' n (ends_of (kid_view k)).end to (items ++ kid_view k ∷ [])).answer
+  unfolding many_on after
+  keeps_next n from items k h = ap (λ (run : Run (List Kid)). run.answer) (h items (λ end more. many_on call f place own sym' n end to more))
+
+  pub keeps_end : (n from : ℕ) (items : List Kid) → Keeps (Ok None) (item_on call f place own from to sym').answer → (many_on call f place own sym' (suc n) from to items).answer ≡ Ok items
+  unfolding many_on after
+  keeps_end n from items h = ap (λ (run : Run (List Kid)). run.answer) (h items (λ end more. many_on call f place own sym' n end to more)) ∙ finished items
+
+  pub keeps_halt : (n from : ℕ) (items : List Kid) (e : Halt) → Keeps (Err e) (item_on call f place own from to sym').answer → Halts e (many_on call f place own sym' (suc n) from to items).answer
+  unfolding many_on after
+  keeps_halt n from items e h = h items (λ end more. many_on call f place own sym' n end to more)
+
+  pub no_turns : (from : ℕ) (items : List Kid) → (many_on call f place own sym' 0 from to items).answer ≡ Ok items
+  unfolding many_on
+  no_turns from items = finished items
+
+-- how a turn that found an item, or none, or a halt, goes on
+kept_ok : (answer : Result Kid Stop) (k : Kid) → answer ≡ Ok k → touches (ends_of k) ≡ true → (items : List Kid) (go : ℕ → List Kid → Run (List Kid)) → kept answer items go ≡ go (ends_of k).end (items ++ k ∷ [])
+unfolding kept
+kept_ok answer k e t items go = rw e (chosen_true (touches (ends_of k)) _ _ t)
+
+pub kept_touching : (answer : Result Kid Stop) (k : PlainKid) → answer ≡ Ok (kid_view k) → touches (ends_of (kid_view k)) ≡ true → Keeps (Ok (Some k)) answer
+kept_touching answer k e t = kept_ok answer (kid_view k) e t
+
+pub kept_untouching : (answer : Result Kid Stop) (k : Kid) → answer ≡ Ok k → touches (ends_of k) ≡ false → Keeps (Ok None) answer
+unfolding kept
+kept_untouching answer k e t items go = rw e (chosen_false (touches (ends_of k)) _ _ t)
+
+pub kept_no_tree : (answer : Result Kid Stop) → answer ≡ Err NoTree → Keeps (Ok None) answer
+unfolding kept
+kept_no_tree answer e items go = rw e refl
+
+pub kept_halt : (answer : Result Kid Stop) (e : Halt) → (e ≡ halts.NoTree → ⊥) → Halts e answer → Keeps (Err e) answer
+unfolding kept stop
+kept_halt answer halts.NoTree n h items go = absurd (n refl)
+kept_halt answer halts.OutOfRange n h items go = rw h refl
+kept_halt answer halts.Deep n h items go = rw h refl
+kept_halt answer halts.Memory n h items go = tt
+
+pub one_fewer : (from to turn : ℕ) → turn < (to - from) + 1 → turns from to - turn ≡ suc (turns from to - (turn + 1))
+one_fewer from to turn lt = omega arith

@@ -2,7 +2,7 @@
 use Rattle.std.proofs.Common.{◌≡◌, ◌≢◌, refl, ap, arith, ℕ, zero, suc, ◌<◌, List, [], ◌∷◌, Option, Some, None, length}
 use Rattle.std.specs.Prelude.{slice_set}
 use Rattle.ipg_core.specs.Environment.{Done, done_at}
-use Rattle.ipg_core.specs.Tree.{Kid, Sub, Token, Number, Raw, Array, items_of}
+use Rattle.ipg_core.specs.Tree.{Kid, Sub, Token, Number, Raw, Array, Many, items_of}
 use Rattle.ipg_core.specs.Environment.{items_so_far}
 use Rattle.ipg_plain.specs.declared.environment.Environment.{Environment}
 use Rattle.ipg_plain.specs.declared.environment.Running.{Running}
@@ -37,6 +37,7 @@ kid_items_placed (Token from to bytes) h = tt
 kid_items_placed (Number from to prim high low) h = tt
 kid_items_placed (Raw from to bytes) h = tt
 kid_items_placed (Array sym items) h = h
+kid_items_placed (Many sym items) h = h
 
 running_placed : (ds : List (Option Done)) (r : Option Running) → AreDonePlaced ds → (terms : ℕ) → IsRunningIn terms r → AreDonePlaced (with_running ds r)
 running_placed ds None h terms k = h

@@ -1,7 +1,7 @@
 -- What results within a part touch together lies in it.
 use Rattle.std.proofs.Common.{arith, ℕ, ◌-◌, ◌≤◌, Bool, true, false, if◌then◌else◌, List, [], ◌∷◌, Option, Some, None, length}
 use Rattle.std.specs.Prelude.{nat_eq}
-use Rattle.ipg_core.specs.Tree.{Node, Kid, Sub, Token, Number, Raw, Array, Kids, no_kids, kid, kids_of}
+use Rattle.ipg_core.specs.Tree.{Node, Kid, Sub, Token, Number, Raw, Array, Many, Kids, no_kids, kid, kids_of}
 use Rattle.ipg_core.specs.Touch.{Ends, touches, untouched, moved, first_of, ends_of, together, kids_touch, kid_touches, width}
 use Rattle.ipg_core.specs.Environment.{Done}
 use Rattle.ipg_core.specs.Meaning.{kids_done}
@@ -27,16 +27,18 @@ first_inside from to w n h k l =
       | false ↦ record { start = omega arith; end = omega arith }
     ]
 
-item_inside : (k : Kid) (n : ℕ) → IsItem k → IsWithin n k → Inside n (ends_of k)
+pub item_inside : (k : Kid) (n : ℕ) → IsItem k → IsWithin n k → Inside n (ends_of k)
 unfolding moved
 item_inside (Sub from to (Node rule size attrs start end kids)) n h w = record { start = omega arith; end = omega arith }
 item_inside (Token from to bytes) n h w = first_inside from to (length bytes) n h.0 w h.2
 item_inside (Number from to prim high low) n h w = first_inside from to (width prim) n h.0 w h.2
 item_inside (Raw from to bytes) n h w = record { start = omega arith; end = w }
 item_inside (Array sym items) n h w = absurd h
+item_inside (Many sym items) n h w = absurd h
 
 one_inside : (k : Kid) (n : ℕ) → IsItem k → IsWithin n k → Inside n (kid_touches k (untouched n))
 one_inside (Array sym items) n h w = absurd h
+one_inside (Many sym items) n h w = absurd h
 one_inside (Sub from to tree) n h w = item_inside (Sub from to tree) n h w
 one_inside (Token from to bytes) n h w = item_inside (Token from to bytes) n h w
 one_inside (Number from to prim high low) n h w = item_inside (Number from to prim high low) n h w
@@ -49,6 +51,7 @@ items_inside (kid k ks) n h w = both n _ _ (one_inside k n h.0 w.0) (items_insid
 
 kid_inside : (k : Kid) (n : ℕ) → IsPlaced k → IsWithin n k → Inside n (kid_touches k (untouched n))
 kid_inside (Array sym items) n h w = items_inside items n h w
+kid_inside (Many sym items) n h w = items_inside items n h w
 kid_inside (Sub from to tree) n h w = one_inside (Sub from to tree) n h w
 kid_inside (Token from to bytes) n h w = one_inside (Token from to bytes) n h w
 kid_inside (Number from to prim high low) n h w = one_inside (Number from to prim high low) n h w

@@ -2,7 +2,7 @@
 use Rattle.std.proofs.Common.{◌≡◌, refl, sym, ◌∙◌, ap, arith, ℕ, zero, suc, ◌<◌, ◌≤◌, ◌-◌, List, [], ◌∷◌, ◌++◌, Some, length, get_or, drop, subst}
 use Rattle.std.proofs.Math.Seq.{drop-cons}
 use Rattle.std.specs.Prelude.{slice_get, option_map}
-use Rattle.ipg_core.specs.Tree.{Kid, Sub, Token, Number, Raw, Array, Kids, no_kids, kid, kids_of, kid_at}
+use Rattle.ipg_core.specs.Tree.{Kid, Sub, Token, Number, Raw, Array, Many, Kids, no_kids, kid, kids_of, kid_at}
 use Rattle.ipg_plain.specs.declared.tree.PlainKid.{PlainKid}
 use Rattle.ipg_plain.specs.View.{kid_view, kid_views}
 use Rattle.ipg_plain.specs.Placed.{IsItem, AreItems, IsPlaced, ArePlaced, IsWithin, AreAllWithin}
@@ -18,6 +18,7 @@ item_placed (Token from to bytes) h = h
 item_placed (Number from to prim high low) h = h
 item_placed (Raw from to bytes) h = h
 item_placed (Array sym items) h = absurd h
+item_placed (Many sym items) h = absurd h
 
 pub item_of_list : (ks : List PlainKid) (n : ℕ) (d : PlainKid) → n < length ks → AreItems (kids_of (kid_views ks)) → IsItem (kid_view (get_or ks n d))
 item_of_list [] n d h p = absurd (omega arith)
@@ -53,3 +54,12 @@ views_push (x ∷ ks) k = ap (λ ys. kid_view x ∷ ys) (views_push ks k)
 pub within_push : (n : ℕ) (ks : List PlainKid) (k : PlainKid) → AreAllWithin n (kids_of (kid_views ks)) → IsWithin n (kid_view k) → AreAllWithin n (kids_of (kid_views (ks ++ k ∷ [])))
 within_push n [] k h w = (w, tt)
 within_push n (x ∷ ks) k h w = (h.0, within_push n ks k h.1 w)
+
+-- what lies within a part lies within a longer one
+pub within_more : (n m : ℕ) (k : Kid) → IsItem k → n ≤ m → IsWithin n k → IsWithin m k
+within_more n m (Sub from to tree) h le w = omega arith
+within_more n m (Token from to bytes) h le w = omega arith
+within_more n m (Number from to prim high low) h le w = omega arith
+within_more n m (Raw from to bytes) h le w = omega arith
+within_more n m (Array sym items) h le w = absurd h
+within_more n m (Many sym items) h le w = absurd h

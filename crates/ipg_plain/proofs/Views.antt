@@ -1,6 +1,6 @@
 -- What each kind of a plain child stands for.
 use Rattle.std.proofs.Common.{◌≡◌, sym, ap, ◌∙◌, ℕ, ◌-◌, ℤ, List}
-use Rattle.ipg_core.specs.Tree.{Node, Kid, Sub, Token, Number, Raw, Array, kids_of}
+use Rattle.ipg_core.specs.Tree.{Node, Kid, Sub, Token, Number, Raw, Array, Many, kids_of}
 use Rattle.ipg_core.specs.declared.grammar.Primitive.{Primitive}
 use Rattle.ipg_core.specs.declared.grammar.Sym.{Sym}
 use Rattle.std.specs.Borrow.{Bor}
@@ -30,4 +30,8 @@ pub view_array : (sym' : Bor Sym) (items : List PlainKid) → kid_view (V.Array 
 unfolding kid_view
 view_array sym' items = ap kid_view (sym (V.rolls-Array sym' items)) ∙ fold-roll-PlainKid Kid kid_step (PlainKid-F.Array sym' items)
 
-pub ruleset views = (view_sub, view_token, view_number, view_raw, view_array)
+pub view_many : (sym' : Bor Sym) (items : List PlainKid) → kid_view (V.Many sym' items) ≡ Many sym'.now (kids_of (kid_views items))
+unfolding kid_view
+view_many sym' items = ap kid_view (sym (V.rolls-Many sym' items)) ∙ fold-roll-PlainKid Kid kid_step (PlainKid-F.Many sym' items)
+
+pub ruleset views = (view_sub, view_token, view_number, view_raw, view_array, view_many)

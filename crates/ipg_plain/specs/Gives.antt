@@ -1,5 +1,5 @@
 -- What a function of the walk answers, beside the meaning: want of memory is free.
-use Rattle.std.specs.Prelude.{◌≡◌, ◌≤◌, ℕ, Option, Some, None, option_map, Result, Ok, Err, false, ℤ}
+use Rattle.std.specs.Prelude.{◌≡◌, ◌≤◌, ℕ, List, [], ◌∷◌, ◌++◌, Option, Some, None, option_map, Result, Ok, Err, false, ℤ}
 use Rattle.ipg_plain.specs.declared.frame.Halt as halt
 use Rattle.ipg_plain.specs.declared.frame.Halt.TheVariants as halts
 use Rattle.ipg_plain.specs.declared.frame.Frame as plain_frame
@@ -10,10 +10,12 @@ use Rattle.ipg_plain.specs.declared.environment.Running.{Running}
 use Rattle.ipg_core.specs.declared.grammar.CoreSlot.{CoreSlot}
 use Rattle.ipg_plain.specs.declared.walk.Walked as walked
 use Rattle.ipg_plain.specs.declared.walk.Walked.TheVariants as walks
-use Rattle.ipg_core.specs.Tree.{Tree, Array, kids_of}
-use Rattle.ipg_core.specs.Run.{Stop, NoTree, OutOfRange, Deep}
-use Rattle.ipg_core.specs.Meaning.{Frame, State, Place, with_kid}
-use Rattle.ipg_plain.specs.View.{kid_views, done_views, tree_view}
+use Rattle.ipg_core.specs.Tree.{Tree, Kid, Array, kids_of}
+use Rattle.ipg_core.specs.Run.{Stop, NoTree, OutOfRange, Deep, Run, finish}
+use Rattle.ipg_core.specs.Meaning.{Frame, State, Place, with_kid, kept}
+use Rattle.ipg_core.specs.Touch.{ends_of}
+use Rattle.ipg_plain.specs.declared.tree.PlainKid.{PlainKid}
+use Rattle.ipg_plain.specs.View.{kid_view, kid_views, done_views, tree_view}
 
 abbrev pub Halts : {B : Type 0} → halt.Halt → Result B Stop → Type 0
 Halts halts.NoTree answer = answer ≡ Err NoTree
@@ -25,6 +27,13 @@ Halts halts.Memory answer = Unit {0}
 abbrev pub Gives : {A B : Type 0} → (A → B) → Result A halt.Halt → Result B Stop → Type 0
 Gives view (Ok a) answer = answer ≡ Ok (view a)
 Gives view (Err e) answer = Halts e answer
+
+-- what a turn of a repetition answers: an item that is kept, None where the repetition ends, or why it halts
+abbrev pub Keeps : Result (Option PlainKid) halt.Halt → Result Kid Stop → Type 0
+Keeps (Ok (Some k)) answer = (items : List Kid) (go : ℕ → List Kid → Run (List Kid))
+    → kept answer items go ≡ go (ends_of (kid_view k)).end (items ++ kid_view k ∷ [])
+Keeps (Ok None) answer = (items : List Kid) (go : ℕ → List Kid → Run (List Kid)) → kept answer items go ≡ finish items
+Keeps (Err e) answer = (items : List Kid) (go : ℕ → List Kid → Run (List Kid)) → Halts e (kept answer items go).answer
 
 abbrev pub frame_view : plain_frame.Frame → Frame
 frame_view f = record { grammar = record { rules = f.rules.now; names = f.names.now }; rule = f.rule; alt = f.alt; bytes = f.bytes.now; outer = f.outer.now }

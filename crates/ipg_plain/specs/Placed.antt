@@ -5,7 +5,7 @@ use Rattle.ipg_plain.specs.declared.environment.Environment.{Environment}
 use Rattle.ipg_plain.specs.declared.environment.Running.{Running}
 use Rattle.ipg_core.specs.Environment.{Done}
 use Rattle.ipg_plain.specs.View.{kid_views, done_views}
-use Rattle.ipg_core.specs.Tree.{Tree, Node, Kid, Sub, Token, Number, Raw, Array, Kids, no_kids, kid, kids_of}
+use Rattle.ipg_core.specs.Tree.{Tree, Node, Kid, Sub, Token, Number, Raw, Array, Many, Kids, no_kids, kid, kids_of}
 use Rattle.ipg_core.specs.Touch.{width}
 
 abbrev pub IsInside : Tree → ℕ → Type 0
@@ -15,21 +15,23 @@ IsInside (Node rule size attrs start end kids) n = (start ≤ n) × (end ≤ n)
 abbrev pub Holds : ℕ → ℕ → ℕ → Type 0
 Holds from to n = (from ≤ to) × (to < 2 ^ 32) × (n ≤ to - from)
 
--- what one slot parsed, in its place; an array is no such result
+-- what one slot parsed, in its place; an array or a repetition is no such result
 abbrev pub IsItem : Kid → Type 0
 IsItem (Sub from to tree) = (from ≤ to) × (to < 2 ^ 32) × IsInside tree (to - from)
 IsItem (Token from to bytes) = Holds from to (length bytes)
 IsItem (Number from to prim high low) = Holds from to (width prim)
 IsItem (Raw from to bytes) = Holds from to 0
 IsItem (Array sym items) = ⊥
+IsItem (Many sym items) = ⊥
 
 abbrev pub AreItems : Kids → Type 0
 AreItems no_kids = Unit {0}
 AreItems (kid k ks) = IsItem k × AreItems ks
 
--- a result in its place, or an array of such
+-- a result in its place, or an array or a repetition of such
 abbrev pub IsPlaced : Kid → Type 0
 IsPlaced (Array sym items) = AreItems items
+IsPlaced (Many sym items) = AreItems items
 IsPlaced k = IsItem k
 
 abbrev pub ArePlaced : Kids → Type 0
@@ -61,6 +63,7 @@ abbrev mutual
   IsWithin n (Number from to prim high low) = to ≤ n
   IsWithin n (Raw from to bytes) = to ≤ n
   IsWithin n (Array sym items) = AreAllWithin n items
+  IsWithin n (Many sym items) = AreAllWithin n items
 
   pub AreAllWithin : ℕ → Kids → Type 0
   AreAllWithin n no_kids = Unit {0}

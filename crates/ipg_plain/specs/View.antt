@@ -8,7 +8,7 @@ use Rattle.ipg_plain.specs.declared.environment.Running.{Running}
 use Rattle.ipg_plain.specs.declared.environment.Environment as code
 use Rattle.ipg_plain.specs.declared.touch.Ends as plain_ends
 use Rattle.ipg_core.specs.Touch.{Ends, ends_of}
-use Rattle.ipg_core.specs.Tree.{Tree, Node, Kid, Sub, Token, Number, Raw, Array, kids_of}
+use Rattle.ipg_core.specs.Tree.{Tree, Node, Kid, Sub, Token, Number, Raw, Array, Many, kids_of}
 use Rattle.ipg_core.specs.Environment.{Done, Environment, attr_of}
 use Rattle.ipg_core.specs.declared.grammar.CoreField.{CoreField}
 use Rattle.ipg_core.specs.declared.grammar.CoreField.TheVariants.{Attr, Start, End}
@@ -19,6 +19,7 @@ kid_step (PlainKid-F.Token from to bytes) = Token from to bytes.now
 kid_step (PlainKid-F.Number from to prim high low) = Number from to prim high low
 kid_step (PlainKid-F.Raw from to bytes) = Raw from to bytes.now
 kid_step (PlainKid-F.Array sym items) = Array sym.now (kids_of items)
+kid_step (PlainKid-F.Many sym items) = Many sym.now (kids_of items)
 
 unfoldable pub kid_view : PlainKid → Kid
 kid_view = fold-PlainKid Kid kid_step
@@ -45,7 +46,7 @@ env_view e = record { eoi = e.eoi; own = e.own.now; outer = e.outer.now; item = 
 abbrev pub ends_view : plain_ends.Ends → Ends
 ends_view e = record { start = e.start; end = e.end }
 
--- a field of what is no array
+-- a field of what is no array and no repetition
 abbrev pub any_field : List (List ℕ) → CoreField → Kid → Option ℤ
 any_field names (Attr a) k = attr_of names a k
 any_field names Start k = Some (pos (ends_of k).start)

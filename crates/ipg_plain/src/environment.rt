@@ -50,13 +50,14 @@ fn done_at<'e, 'a>(done: &'e [Option<Done<'a>>], term: u32) -> Option<&'e Done<'
     }
 }
 
-/// The items of an array; none where it is no array.
+/// The items of an array or a repetition; none of what is neither.
 #[tactic(auto, using(crate::proofs::Views::views))]
 fn items_of<'e, 'a>(kid: &'e PlainKid<'a>) -> &'e [PlainKid<'a>]
     ensures { kids_of (kid_views result.now) ≡ spec_items (kid_view kid.now) }
 {
     match kid {
         PlainKid::Array { items, .. } => items.as_slice(),
+        PlainKid::Many { items, .. } => items.as_slice(),
         PlainKid::Sub { .. } => &[],
         PlainKid::Token { .. } => &[],
         PlainKid::Number { .. } => &[],
@@ -70,7 +71,7 @@ fn no_items<'e, 'a>() -> &'e [PlainKid<'a>]
     &[]
 }
 
-/// The items of an array that has run.
+/// The items of an array or a repetition that has run.
 fn items_done<'e, 'a>(done: &'e [Option<Done<'a>>], term: u32) -> &'e [PlainKid<'a>]
     ensures { kids_of (kid_views result.now) ≡ spec.items_so_far (spec.done_at (done_views done.now) term) }
 {
@@ -80,7 +81,7 @@ fn items_done<'e, 'a>(done: &'e [Option<Done<'a>>], term: u32) -> &'e [PlainKid<
     items_of(&done.kid)
 }
 
-/// The items of an array so far, which are none before it has begun.
+/// The items of an array or a repetition so far, which are none before it has begun.
 pub fn items_so_far<'e, 'a>(env: &Environment<'e, '_, 'a>, term: u32) -> &'e [PlainKid<'a>]
     requires { IsReady env.now }
     ensures { kids_of (kid_views result.now) ≡ spec.items_so_far (spec.done_at (env_view env.now).done term) }

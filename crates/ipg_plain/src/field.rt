@@ -73,10 +73,11 @@ fn attr_of(names: &[Name], attr: u32, kid: &PlainKid) -> Option<i64>
         PlainKid::Token { .. } => None,
         PlainKid::Raw { .. } => None,
         PlainKid::Array { .. } => None,
+        PlainKid::Many { .. } => None,
     }
 }
 
-/// A field of what is no array.
+/// A field of what is no array and no repetition.
 fn one_field(names: &[Name], field: CoreField, kid: &PlainKid) -> Option<i64>
     requires { IsPlaced (kid_view kid.now) }
     ensures { result ≡ any_field names.now field (kid_view kid.now) }
@@ -88,7 +89,7 @@ fn one_field(names: &[Name], field: CoreField, kid: &PlainKid) -> Option<i64>
     }
 }
 
-/// A field of what was parsed; an array has none.
+/// A field of what was parsed; an array and a repetition have none.
 #[tactic(auto, using(crate::proofs::Views::views))]
 pub fn field_of(names: &[Name], field: CoreField, kid: &PlainKid) -> Option<i64>
     requires { IsPlaced (kid_view kid.now) }
@@ -96,6 +97,7 @@ pub fn field_of(names: &[Name], field: CoreField, kid: &PlainKid) -> Option<i64>
 {
     match kid {
         PlainKid::Array { .. } => None,
+        PlainKid::Many { .. } => None,
         PlainKid::Sub { .. } => one_field(names, field, kid),
         PlainKid::Token { .. } => one_field(names, field, kid),
         PlainKid::Number { .. } => one_field(names, field, kid),
@@ -144,6 +146,7 @@ fn is_of(kid: &PlainKid, sym: &Sym) -> bool
         PlainKid::Number { prim, .. } => is_primitive(sym, *prim),
         PlainKid::Raw { .. } => is_primitive(sym, Primitive::Bytes),
         PlainKid::Array { sym: own, .. } => same_sym(sym, own),
+        PlainKid::Many { sym: own, .. } => same_sym(sym, own),
     }
 }
 

@@ -35,7 +35,7 @@ fn together(a: Ends, b: Ends) -> Ends
     }
 }
 
-/// What the items of an array touch together, else `none`.
+/// What the items of an array or a repetition touch together, else `none`.
 fn items_touch(items: &[PlainKid], none: Ends) -> Ends
     requires { AreItems (kids_of (kid_views items.now)) }
     ensures { ends_view result ≡ touch.kids_touch (kids_of (kid_views items.now)) (ends_view none) }
@@ -55,6 +55,7 @@ fn kid_touches(kid: &PlainKid, none: Ends) -> Ends
 {
     match kid {
         PlainKid::Array { items, .. } => items_touch(items.as_slice(), none),
+        PlainKid::Many { items, .. } => items_touch(items.as_slice(), none),
         PlainKid::Sub { .. } => ends_of(kid),
         PlainKid::Token { .. } => ends_of(kid),
         PlainKid::Number { .. } => ends_of(kid),
@@ -118,6 +119,7 @@ fn entry_of(term: &CoreTerm, own: &[(u32, i64)]) -> Option<(u32, i64)>
         CoreTerm::Slot(_) => None,
         CoreTerm::Test(_) => None,
         CoreTerm::Repeat { .. } => None,
+        CoreTerm::Many { .. } => None,
         CoreTerm::Pick { .. } => None,
     }
 }

@@ -1,6 +1,7 @@
 //! A slot: its interval and its symbol, but for the calls of rules.
 
-ghost use Rattle.std.specs.Prelude.{◌≡◌, ◌-◌, ◌≤◌, length, IfOk, ℤ, FitsSigned};
+ghost use Rattle.std.specs.Prelude.{◌≡◌, ◌+◌, ◌-◌, ◌≤◌, length, IfOk, IfSome, Some, None, nat_le, if◌then◌else◌, ℤ, FitsSigned};
+ghost use Rattle.ipg_core.specs.declared.grammar.Sym.TheVariants.{Prim};
 ghost use Rattle.std.specs.Int.{w32, w64, from_le_bytes, from_be_bytes};
 ghost use Rattle.ipg_core.specs.Touch.{width as wide};
 ghost use Rattle.ipg_core.specs.Part as part;
@@ -14,7 +15,7 @@ use crate::frame::{Frame, Halt, State};
 use crate::touch::width;
 use crate::tree::PlainKid;
 use crate::value::eval;
-use ipg_core::grammar::{CoreExpr, Primitive};
+use ipg_core::grammar::{CoreExpr, Primitive, Sym};
 use ipg_num::Answer;
 
 /// The ends of an interval as places, where it is valid.
@@ -23,6 +24,48 @@ pub fn interval(size: u32, from: i64, to: i64) -> Option<(u32, u32)>
 {
     if 0 <= from && from <= to && to <= i64::from(size) {
         Some((from as u32, to as u32))
+    } else {
+        None
+    }
+}
+
+/// Where an item of a repetition from `from` to `to` ends its part: a number takes its width, all else what is left.
+pub fn item_end(from: u32, to: u32, sym: &Sym) -> Option<u32>
+    requires { from ≤ to }
+    ensures end { result ≡ spec.item_end from to sym.now }
+    ensures inside { IfSome result (λ end. (from ≤ end) × (end ≤ to)) }
+{
+    match sym {
+        Sym::Prim(prim) => primitive_end(from, to, *prim),
+        Sym::Text(_) => Some(to),
+        Sym::Rule(_) => Some(to),
+    }
+}
+
+fn primitive_end(from: u32, to: u32, prim: Primitive) -> Option<u32>
+    requires { from ≤ to }
+    ensures end { result ≡ spec.item_end from to (Prim prim) }
+    ensures inside { IfSome result (λ end. (from ≤ end) × (end ≤ to)) }
+{
+    match prim {
+        Primitive::Bytes => Some(to),
+        Primitive::U8 => number_end(from, to, 1),
+        Primitive::U16LE => number_end(from, to, 2),
+        Primitive::U16BE => number_end(from, to, 2),
+        Primitive::U32LE => number_end(from, to, 4),
+        Primitive::U32BE => number_end(from, to, 4),
+        Primitive::U64LE => number_end(from, to, 8),
+        Primitive::U64BE => number_end(from, to, 8),
+    }
+}
+
+fn number_end(from: u32, to: u32, wide: u32) -> Option<u32>
+    requires { from ≤ to }
+    ensures end { result ≡ (if nat_le (from + wide) to then Some (from + wide) else None) }
+    ensures inside { IfSome result (λ end. (from ≤ end) × (end ≤ to)) }
+{
+    if wide <= to - from {
+        Some(from + wide)
     } else {
         None
     }

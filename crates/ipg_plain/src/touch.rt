@@ -70,5 +70,6 @@ pub fn ends_of(kid: &PlainKid) -> Ends
             end: *to,
         },
         PlainKid::Array { .. } => Ends { start: 0, end: 0 },
+        PlainKid::Many { .. } => Ends { start: 0, end: 0 },
     }
 }

@@ -36,6 +36,10 @@ pub enum PlainKid<'a> {
         sym: &'a Sym,
         items: List<PlainKid<'a>>,
     },
+    Many {
+        sym: &'a Sym,
+        items: List<PlainKid<'a>>,
+    },
 }
 
 /// A node: a rule on a part of `size` bytes.

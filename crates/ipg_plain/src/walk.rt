@@ -1,18 +1,20 @@
 //! The walk: a rule on a part, as the meaning says.
 
-ghost use Rattle.std.specs.Prelude.{◌≡◌, ◌+◌, ◌*◌, ◌≤◌, ◌<◌, ◌^◌, ℤ, ◌-ℤ◌, pos, [], length, IfOk, ℕ, IsTrue, ◌↔◌, false};
+ghost use Rattle.std.specs.Prelude.{◌≡◌, ◌+◌, ◌*◌, ◌≤◌, ◌<◌, ◌^◌, ℤ, ◌-ℤ◌, pos, [], length, IfOk, IfSome, ℕ, Result, Ok, None, IsTrue, ◌↔◌, false};
 ghost use Rattle.ipg_core.specs.Meaning as spec;
 ghost use Rattle.ipg_core.specs.Grammar.{holder_of, rule_at};
 ghost use Rattle.ipg_plain.specs.View.{kid_view, kid_views, done_views, tree_view};
 ghost use Rattle.ipg_core.specs.Meaning.{Means};
-ghost use Rattle.ipg_plain.specs.Gives.{answer_of, IsWhole, Gives, frame_view, state_view, place_view, slot_view, running_in, loop_of};
+ghost use Rattle.ipg_plain.specs.Gives.{answer_of, IsWhole, Gives, Halts, Keeps, frame_view, state_view, place_view, slot_view, running_in, loop_of};
 ghost use Rattle.ipg_plain.specs.Placed.{IsItem, AreItems, IsWithin, AreAllWithin, IsSound, IsRunningIn};
-ghost use Rattle.ipg_core.specs.Tree.{kids_of, Array};
+ghost use Rattle.ipg_core.specs.Tree.{Kid, kids_of, Array};
+ghost use Rattle.ipg_core.specs.Run.{Stop};
 
 use crate::environment::{Done, Running};
 use crate::frame::{Frame, Halt, Place, Slot, State};
 use crate::node::node_of;
-use crate::slot::{interval, primitive_on, token_on, value_in};
+use crate::slot::{interval, item_end, primitive_on, token_on, value_in};
+use crate::touch::ends_of;
 use crate::tree::{PlainKid, PlainTree};
 use crate::value::is_zero;
 use ipg_core::accepted::Checked;
@@ -86,7 +88,7 @@ fn symbol_on<'a>(
     requires { (ends.0 ≤ ends.1) × (ends.1 ≤ f.now.size) }
     ensures gives { Gives kid_view result (spec.symbol_on (spec.den (frame_view f.now).grammar height) (frame_view f.now) (place_view place) own.now ends.0 ends.1 sym.now).answer }
     ensures item { IfOk result (λ k. IsItem (kid_view k)) }
-    ensures within { IfOk result (λ k. IsWithin f.now.size (kid_view k)) }
+    ensures within { IfOk result (λ k. IsWithin ends.1 (kid_view k)) }
 {
     let (from, to) = ends;
     let bytes = &f.bytes[from as usize..to as usize];
@@ -196,6 +198,118 @@ fn items_on<'a>(
         i += 1;
     }
     Ok(items)
+}
+
+/// One turn of a repetition, at the place that its last item ended: an item that touches a byte; None where it ends.
+#[cycle(walk)]
+fn turn_on<'a>(
+    alloc: Global,
+    height: u64,
+    f: &Frame<'_, 'a>,
+    place: Place,
+    own: &[(u32, i64)],
+    ends: (u32, u32),
+    sym: &'a Sym,
+) -> Result<Option<PlainKid<'a>>, Halt>
+    requires { (ends.0 ≤ ends.1) × (ends.1 ≤ f.now.size) }
+    ensures keeps { Keeps result (spec.item_on (spec.den (frame_view f.now).grammar height) (frame_view f.now) (place_view place) own.now ends.0 ends.1 sym.now).answer }
+    ensures item { IfOk result (λ o. IfSome o (λ k. IsItem (kid_view k))) }
+    ensures within { IfOk result (λ o. IfSome o (λ k. IsWithin ends.1 (kid_view k))) }
+{
+    let (from, to) = ends;
+    let Some(end) = item_end(from, to, sym) else {
+        return Ok(None);
+    };
+    match symbol_on(alloc, height, f, place, own, (from, end), sym) {
+        Ok(item) => Ok(touching(item)),
+        Err(halt) => halted(halt),
+    }
+}
+
+/// A turn without an item: the repetition ends where there is no tree.
+fn halted<'a>(halt: Halt) -> Result<Option<PlainKid<'a>>, Halt>
+    ensures keeps { (answer : Result Kid Stop) → Halts halt answer → Keeps result answer }
+    ensures none { IfOk result (λ o. o ≡ None) }
+{
+    match halt {
+        Halt::NoTree => Ok(None),
+        Halt::OutOfRange => Err(Halt::OutOfRange),
+        Halt::Deep => Err(Halt::Deep),
+        Halt::Memory => Err(Halt::Memory),
+    }
+}
+
+/// The item, if it touches a byte.
+fn touching(item: PlainKid) -> Option<PlainKid>
+    requires { IsItem (kid_view item) }
+    ensures keeps { (answer : Result Kid Stop) → answer ≡ Ok (kid_view item.entry) → Keeps (Ok result) answer }
+    ensures same { IfSome result (λ k. k ≡ item.entry) }
+{
+    let ends = ends_of(&item);
+    if ends.start < ends.end {
+        Some(item)
+    } else {
+        None
+    }
+}
+
+/// The items of a repetition on an interval, until one has no tree or touches nothing.
+#[cycle(walk)]
+fn many_on<'a>(
+    alloc: Global,
+    height: u64,
+    f: &Frame<'_, 'a>,
+    place: Place,
+    own: &[(u32, i64)],
+    ends: (u32, u32),
+    sym: &'a Sym,
+) -> Result<Vec<PlainKid<'a>>, Halt>
+    requires { (ends.0 ≤ ends.1) × (ends.1 ≤ f.now.size) }
+    ensures gives { Gives (λ ks. kid_views ks.items) result (spec.many_on (spec.den (frame_view f.now).grammar height) (frame_view f.now) (place_view place) own.now sym.now (spec.turns ends.0 ends.1) ends.0 ends.1 []).answer }
+    ensures items { IfOk result (λ ks. AreItems (kids_of (kid_views ks.items))) }
+    ensures within { IfOk result (λ ks. AreAllWithin f.now.size (kids_of (kid_views ks.items))) }
+{
+    let mut items = Vec::new(alloc);
+    let (mut from, to) = ends;
+    for turn in 0..to - from + 1 {
+        let Some(item) = turn_on(alloc, height, f, place, own, (from, to), sym)? else {
+            return Ok(items);
+        };
+        from = ends_of(&item).end;
+        items.push(item)?;
+    }
+    Ok(items)
+}
+
+/// A repetition: its left end, its right end, a valid interval, its items.
+#[cycle(walk)]
+fn repetition_on<'a>(
+    alloc: Global,
+    height: u64,
+    f: &Frame<'_, 'a>,
+    place: Place,
+    state: &State<'a>,
+    slot: Slot<'a>,
+) -> Result<Vec<PlainKid<'a>>, Halt>
+    requires sound { IsSound f.now.size (done_views state.now.done.items) }
+    ensures gives { Gives (λ ks. kid_views ks.items) result (spec.repetition_on (spec.den (frame_view f.now).grammar height) (frame_view f.now) (place_view place) (state_view state.now) (slot_view slot.entry)).answer }
+    ensures items { IfOk result (λ ks. AreItems (kids_of (kid_views ks.items))) }
+    ensures within { IfOk result (λ ks. AreAllWithin f.now.size (kids_of (kid_views ks.items))) }
+{
+    let from = value_in(f, state, None, slot.from)?;
+    let to = value_in(f, state, None, slot.to)?;
+    let Some(ends) = interval(f.size, from, to) else {
+        return Err(Halt::NoTree);
+    };
+    many_on(
+        alloc,
+        height,
+        f,
+        place,
+        state.own.as_slice(),
+        ends,
+        slot.sym,
+    )
 }
 
 /// The values of a loop variable: from `first` up to, and not including, `last`.
@@ -313,6 +427,19 @@ fn term_on<'a>(
                 items: List::from_vec(items),
             };
             Ok(with_kid(state, number, false, array))
+        }
+        CoreTerm::Many { item, from, to } => {
+            let slot = Slot {
+                sym: item,
+                from,
+                to,
+            };
+            let items = repetition_on(alloc, height, f, place, &state, slot)?;
+            let many = PlainKid::Many {
+                sym: item,
+                items: List::from_vec(items),
+            };
+            Ok(with_kid(state, number, false, many))
         }
         CoreTerm::Pick { cases, other } => {
             let cases = cases.as_slice();

@@ -32,7 +32,7 @@ use Rattle.ipg_core.specs.declared.grammar.CoreRule.{CoreRule}
 use Rattle.ipg_core.specs.Grammar.{Grammar, holder_of}
 use Rattle.ipg_core.specs.Mention.{Mention, EachSym, mentions, mentions_step, term_mentions}
 use Rattle.ipg_core.specs.Order.{Sets, Provides, Names, Passes, InOrder, is_taken}
-use Rattle.ipg_core.specs.Good.{Good, GoodRule, IsGoodMention, IsGoodShape, MayCall, GoodAlt, GoodTerm, AltAt, IsCallable, slots_in}
+use Rattle.ipg_core.specs.Good.{Good, WellFormed, IsOrdered, GoodRule, IsGoodMention, IsGoodShape, MayCall, GoodAlt, GoodTerm, AltAt, IsCallable, slots_in}
 use Rattle.ipg_core.specs.Total.{IsForward, IsLater}
 use Rattle.ipg_thin.specs.Names.{head_of, heads_of, number_in}
 use Rattle.ipg_thin.specs.Later.{is_later, goes_on, term_goes_on, alt_goes_on, rules_go_on, is_forward}
@@ -191,8 +191,13 @@ good-alt g at r alt formed goes =
           let w = of_item (term_of heads) terms u term e in
           let P : CoreTerm → Type 0 = λ t. GoodTerm (core_of g) at None (map (term_of heads) terms) u t in
           subst P (sym w.2) (good-term g at (map (term_of heads) terms) u r w.0 (all_at (term_goes_on heads r) terms u w.0 goes w.1));
-      order = in-order (Provides (core_of g) at (map (term_of heads) terms)) (provides-none g at terms) (length terms) (length (map (term_of heads) terms)) 0 [] (length-map terms (term_of heads) ∙ sym (zero-add (length terms))) (λ u h. absurd (omega arith)) (λ u h. refl);
     }
+
+ordered-alt : (g : written.Grammar) (at : ℕ × ℕ) (alt : Alt) → IsOrdered (core_of g) at (alt_of (heads_of g) alt)
+ordered-alt g at alt =
+    let heads = heads_of g in
+    let terms = (out-Alt alt).terms in
+    in-order (Provides (core_of g) at (map (term_of heads) terms)) (provides-none g at terms) (length terms) (length (map (term_of heads) terms)) 0 [] (length-map terms (term_of heads) ∙ sym (zero-add (length terms))) (λ u h. absurd (omega arith)) (λ u h. refl)
 
 good-rule : (heads : List (List ℕ)) (rule : Rule) → IsFormedRule rule → GoodRule (rule_of heads rule)
 good-rule heads rule formed = record {
@@ -245,33 +250,39 @@ first-rule heads (x ∷ xs) some = (rule_of heads x, refl, refl)
 
 -- ---- the grammar is good
 
-good-at : (g : written.Grammar) → IsFormed g → is_forward g ≡ true → (at : ℕ × ℕ) (rule : CoreRule) (alt : CoreAlt) → AltAt (core_of g) rule alt at → GoodAlt (core_of g) at rule.holder alt
-good-at g formed forward at rule alt a =
+-- what holds of each alternative that was written holds of each that is there
+each-at : (g : written.Grammar) (P : Option (ℕ × ℕ) → CoreAlt → Type 0) → IsFormed g → is_forward g ≡ true
+    → ((r : ℕ) (alt : Alt) → IsFormedAlt alt → alt_goes_on (heads_of g) r alt ≡ true → P None (alt_of (heads_of g) alt))
+    → (at : ℕ × ℕ) (rule : CoreRule) (alt : CoreAlt) → AltAt (core_of g) rule alt at → P rule.holder alt
+each-at g P formed forward each at rule alt a =
     let heads = heads_of g in
     let w = of_item (rule_of heads) g.rules at.0 rule a.is_rule in
-    let P : CoreRule → Type 0 = λ r. slice_get r.alts at.1 ≡ Some alt in
-    let v = of_item (alt_of heads) (out-Rule w.0).alts at.1 alt (subst P w.2 a.is_alt) in
+    let v = of_item (alt_of heads) (out-Rule w.0).alts at.1 alt (subst (λ (r : CoreRule). slice_get r.alts at.1 ≡ Some alt) w.2 a.is_alt) in
     let rule_formed = at_place IsFormedRule g.rules at.0 w.0 formed.each w.1 in
     let alt_formed = at_place IsFormedAlt (out-Rule w.0).alts at.1 v.0 rule_formed.each v.1 in
     let goes = all_at (alt_goes_on heads (0 + at.0)) (out-Rule w.0).alts at.1 v.0 (goes_at heads 0 g.rules at.0 w.0 forward w.1) v.1 in
-    let Q : CoreRule → Type 0 = λ r. GoodAlt (core_of g) at r.holder alt in
-    let R : CoreAlt → Type 0 = λ b. GoodAlt (core_of g) at None b in
-    subst Q (sym w.2) (subst R (sym v.2) (good-alt g at (0 + at.0) v.0 alt_formed goes))
+    subst (λ (r : CoreRule). P r.holder alt) (sym w.2) (subst (P None) (sym v.2) (each (0 + at.0) v.0 alt_formed goes))
 
-pub core_good : (g : written.Grammar) → IsFormed g → is_forward g ≡ true → Good (core_of g)
+well-formed : (g : written.Grammar) → IsFormed g → is_forward g ≡ true → WellFormed (core_of g)
 unfolding IsDistinct
-core_good g formed forward = record {
+well-formed g formed forward = record {
   first = first-rule (heads_of g) g.rules formed.some;
   limit = omega (arith, length-map g.rules (rule_of (heads_of g)), rules_counted g.rules, formed.count);
   rules = λ r rule e.
       let w = of_item (rule_of (heads_of g)) g.rules r rule e in
       let P : CoreRule → Type 0 = GoodRule in
       subst P (sym w.2) (good-rule (heads_of g) w.0 (at_place IsFormedRule g.rules r w.0 formed.each w.1));
-  alts = good-at g formed forward;
+  alts = λ at. each-at g (λ holder alt. GoodAlt (core_of g) at holder alt) formed forward (good-alt g at) at;
   holders = λ r holder e. absurd (no-holder _ holder (is-global (heads_of g) g.rules r) e);
   few_names = omega arith;
   names_differ = tt;
   few_slots = omega (arith, bounded slots_in_rule 16384 (map (rule_of (heads_of g)) g.rules) (slots-in-rules (heads_of g) g.rules formed.each), length-map g.rules (rule_of (heads_of g)), rules_counted g.rules, formed.count);
+}
+
+pub core_good : (g : written.Grammar) → IsFormed g → is_forward g ≡ true → Good (core_of g)
+core_good g formed forward = record {
+  well_formed = well-formed g formed forward;
+  ordered = λ at. each-at g (λ holder alt. IsOrdered (core_of g) at alt) formed forward (λ r alt f k. ordered-alt g at alt) at;
 }
 
 -- ---- its calls go to later rules

@@ -1,10 +1,10 @@
 use Rattle.std.proofs.Common.{◌≡◌, ◌∷◌, [], ◌++◌, ◌+◌, ◌-◌, ◌∙◌, ap, sym, refl, rules}
 use Rattle.std.specs.Prelude.{codes}
-use Rattle.ipg_core.specs.Lines.{kid_lines, kids_lines, node_line, array_line}
+use Rattle.ipg_core.specs.Lines.{kid_lines, kids_lines, node_line, items_line}
 use Rattle.ipg_core.specs.Tree.{kids_of}
 use Rattle.ipg_lines.specs.Text.{grammar_view, lines_in}
 use Rattle.ipg_plain.specs.View.{kid_views}
-use Rattle.ipg_plain.proofs.Views.{view_sub, view_token, view_number, view_raw, view_array}
+use Rattle.ipg_plain.proofs.Views.{view_sub, view_token, view_number, view_raw, view_array, view_many}
 use Rattle.ipg_lines.proofs.Printing.{lines_push, kids_then}
 use Rattle.ipg_lines.proofs.print.+printing.Goals as goal
 
@@ -34,7 +34,15 @@ kid_lines-returns-in_ok-below-in-Sub t c =
 pub kid_lines-returns-in_ok-below-in-Array : goal.kid_lines-returns-in_ok-below-in-Array
 kid_lines-returns-in_ok-below-in-Array t c =
     let g = grammar_view c.args.names.now in
-    let l = c.in_ok-array_line-in-Array.ensures ∙ ap (λ ks. array_line g c.args.depth c.in-Array.sym.now (kids_of (kid_views ks))) c.as_slice-in-Array.ensures in
+    let l = c.in_ok-items_line-in-Array.ensures ∙ ap (λ ks. items_line g c.args.depth (codes "for") c.in-Array.sym.now (kids_of (kid_views ks))) c.as_slice-items.ensures in
     rw (c.in-Array.is, view_array)
     (kids_then c.kids_lines-in-Array.result g (lines_in c.args.lines.now.items) _ _ _ _ _ _ c.args.at _ c.in-Array.items _
-    (ap lines_in c.in_ok-push-in-Array.ensures.items ∙ lines_push c.args.lines.now.items _) l c.in_ok-below-in-Array.ensures refl c.as_slice-in-Array-2.ensures c.kids_lines-in-Array.ensures)
+    (ap lines_in c.in_ok-push-in-Array.ensures.items ∙ lines_push c.args.lines.now.items _) l c.in_ok-below-in-Array.ensures refl c.as_slice-items.ensures c.kids_lines-in-Array.ensures)
+
+pub kid_lines-returns-in_ok-below-in-Many : goal.kid_lines-returns-in_ok-below-in-Many
+kid_lines-returns-in_ok-below-in-Many t c =
+    let g = grammar_view c.args.names.now in
+    let l = c.in_ok-items_line-in-Many.ensures ∙ ap (λ ks. items_line g c.args.depth (codes "many") c.in-Many.sym.now (kids_of (kid_views ks))) c.as_slice-items-in-Many.ensures in
+    rw (c.in-Many.is, view_many)
+    (kids_then c.kids_lines-in-Many.result g (lines_in c.args.lines.now.items) _ _ _ _ _ _ c.args.at _ c.in-Many.items _
+    (ap lines_in c.in_ok-push-in-Many.ensures.items ∙ lines_push c.args.lines.now.items _) l c.in_ok-below-in-Many.ensures refl c.as_slice-items-in-Many.ensures c.kids_lines-in-Many.ensures)

@@ -1,7 +1,7 @@
 use Rattle.std.proofs.Common.{◌≡◌, refl, sym, ◌∙◌, ap, List, [], ◌∷◌, ◌++◌, append_assoc, append-nil, drop, add-one, ◌+◌, ℕ, get_or, suc, ◌<◌, length}
 use Rattle.std.proofs.Math.Seq.{drop-cons}
 use Rattle.ipg_core.specs.declared.grammar.CoreTerm.{CoreTerm}
-use Rattle.ipg_core.specs.declared.grammar.CoreTerm.TheVariants.{Slot, Set, Test, Repeat, Pick}
+use Rattle.ipg_core.specs.declared.grammar.CoreTerm.TheVariants.{Slot, Set, Test, Repeat, Many, Pick}
 use Rattle.ipg_core.specs.Environment.{Values, value_at}
 use Rattle.ipg_core.specs.Meaning.{attrs_set, entry}
 use Rattle.ipg_plain.proofs.node.attrs_set.Goals as goal
@@ -12,6 +12,7 @@ first (Set a e) ts own = sym (append_assoc (entry a (value_at own a)) [] (attrs_
 first (Slot s) ts own = refl
 first (Test e) ts own = refl
 first (Repeat a b i f t) ts own = refl
+first (Many i f t) ts own = refl
 first (Pick cs o) ts own = refl
 
 next : (ts : List CoreTerm) (i : ℕ) (t : CoreTerm) → i < length ts → t ≡ get_or ts i t → t ∷ drop (i + 1) ts ≡ drop i ts

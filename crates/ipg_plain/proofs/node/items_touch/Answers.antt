@@ -1,7 +1,7 @@
 use Rattle.std.proofs.Common.{◌≡◌, refl, arith, sym, ◌∙◌, ap, drop, ◌-◌}
 use Rattle.std.proofs.Math.Seq.{drop-length}
 use Rattle.ipg_core.specs.Touch.{Ends, kids_touch, kid_touches, ends_of, together}
-use Rattle.ipg_core.specs.Tree.{Kid, Sub, Token, Number, Raw, Array, kids_of}
+use Rattle.ipg_core.specs.Tree.{Kid, Sub, Token, Number, Raw, Array, Many, kids_of}
 use Rattle.ipg_plain.specs.Placed.{IsItem}
 use Rattle.ipg_plain.specs.View.{kid_view, kid_views, ends_view}
 use Rattle.ipg_plain.proofs.KidLists.{item_of_list, item_placed, drop_back}
@@ -14,6 +14,7 @@ alone (Token from to bytes) none h = refl
 alone (Number from to prim high low) none h = refl
 alone (Raw from to bytes) none h = refl
 alone (Array sym items) none h = absurd h
+alone (Many sym items) none h = absurd h
 
 pub loop-at-init : goal.loop-at-init
 loop-at-init c = sym (ap (λ ks. kids_touch (kids_of (kid_views ks)) (ends_view c.args.none)) (drop-length c.args.items.now))

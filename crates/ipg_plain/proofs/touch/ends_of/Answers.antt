@@ -1,6 +1,6 @@
 use Rattle.std.proofs.Common.{refl, arith}
 use Rattle.ipg_core.specs.Touch.{moved}
-use Rattle.ipg_plain.proofs.Views.{view_sub, view_token, view_number, view_raw, view_array}
+use Rattle.ipg_plain.proofs.Views.{view_sub, view_token, view_number, view_raw, view_array, view_many}
 use Rattle.ipg_plain.proofs.touch.ends_of.Goals as goal
 
 pub overflow_add-result : goal.overflow_add-result
@@ -33,3 +33,6 @@ returns-in-Raw c = rw (c.in-Raw.is, view_raw) refl
 
 pub returns-in-Array : goal.returns-in-Array
 returns-in-Array c = rw (c.in-Array.is, view_array) refl
+
+pub returns-in-Many : goal.returns-in-Many
+returns-in-Many c = rw (c.in-Many.is, view_many) refl

@@ -1,21 +1,25 @@
 use Rattle.std.proofs.Common.{◌≡◌, refl, sym, ◌∙◌, ap, subst, arith, rules, to_z, of_z, w64, Ok, Err, Some, None, drop, ◌+◌, length, ◌-◌, [], ◌∷◌, ◌++◌, pos, ◌+ℤ◌, ◌-ℤ◌, get_or, true, false, if◌then◌else◌}
 use Rattle.std.proofs.lemmas.Result.{err_from_is_err_and}
 use Rattle.std.proofs.lemmas.Int.{to_z-of_z, ints}
-use Rattle.std.specs.Prelude.{slice_get}
+use Rattle.std.specs.Prelude.{slice_get, IfSome}
+use Rattle.ipg_core.specs.declared.grammar.CoreSlot.{CoreSlot}
+use Rattle.ipg_core.specs.Touch.{Ends, ends_of}
+use Rattle.ipg_plain.specs.Placed.{IsItem, IsWithin}
 use Rattle.ipg_core.specs.Part.{interval}
 use Rattle.ipg_core.specs.Run.{Run, finish, stop, some_of, NoTree}
-use Rattle.ipg_core.specs.Tree.{Tree, Kid, Array, kids_of}
-use Rattle.ipg_core.specs.Meaning.{den, rule_on, rule_run, alts_on, alt_on, terms_on, term_on, slot_on, symbol_on, value_in, items_on, pick_on, with_kid, with_value, node_of, start}
-use Rattle.ipg_plain.specs.Gives.{Gives, Halts, frame_view, state_view, slot_view, running_in, loop_of, place_view}
+use Rattle.ipg_core.specs.Tree.{Tree, Kid, Array, Many, kids_of}
+use Rattle.ipg_core.specs.Meaning.{den, rule_on, rule_run, alts_on, alt_on, terms_on, term_on, slot_on, symbol_on, value_in, items_on, item_end, item_on, many_on, turns, repetition_on, pick_on, with_kid, with_value, node_of, start}
+use Rattle.ipg_plain.specs.Gives.{Gives, Halts, Keeps, frame_view, state_view, slot_view, running_in, loop_of, place_view}
 use Rattle.ipg_plain.specs.View.{kid_view, kid_views, tree_view, done_views}
-use Rattle.ipg_plain.proofs.Views.{view_sub, view_array}
-use Rattle.ipg_plain.proofs.Chains.{bind_ok, bind_halts, rest, finished, not_found, some_is, none_is, else_next, else_gives, alts_step, terms_step, pick_step, bind_stops, running_own, den_step, terms_same, no_alts, no_terms, no_cases, rule_gives, rule_halts, times_next, times_none, items_next, items_halt, items_end, get_or_same, slice_get_below, part_length}
+use Rattle.ipg_plain.proofs.Views.{view_sub, view_array, view_many}
+use Rattle.ipg_plain.proofs.Inside.{item_inside}
+use Rattle.ipg_plain.proofs.Chains.{bind_ok, bind_halts, rest, finished, not_found, some_is, none_is, else_next, else_gives, alts_step, terms_step, pick_step, bind_stops, running_own, den_step, terms_same, no_alts, no_terms, no_cases, rule_gives, rule_halts, times_next, times_none, items_next, items_halt, items_end, keeps_next, keeps_end, keeps_halt, no_turns, one_fewer, kept_no_tree, get_or_same, slice_get_below, part_length}
 use Rattle.std.proofs.lemmas.List.{drop_all}
 use Rattle.ipg_core.specs.Grammar.{Grammar}
 use Rattle.ipg_core.specs.Eval.{is_zero}
 use Rattle.ipg_core.specs.Meaning.{Frame, State, Place, times}
 use Rattle.ipg_plain.specs.declared.frame.Halt.TheVariants as halts
-use Rattle.ipg_plain.proofs.KidLists.{item_placed, items_push, within_push, views_push}
+use Rattle.ipg_plain.proofs.KidLists.{item_placed, items_push, within_push, within_more, views_push}
 use Rattle.ipg_plain.proofs.States.{sound_with, state_of}
 use Rattle.ipg_plain.proofs.walk.+walk.Goals as goal
 
@@ -151,7 +155,7 @@ symbol_on-returns-in_ok-tree-in-Rule-clause-item t c =
     rw view_sub (c.requires.0, omega arith, (omega (arith, i.0), omega (arith, i.1)))
 
 pub symbol_on-returns-in_ok-tree-in-Rule-clause-within : goal.symbol_on-returns-in_ok-tree-in-Rule-clause-within
-symbol_on-returns-in_ok-tree-in-Rule-clause-within t c = rw view_sub c.requires.1
+symbol_on-returns-in_ok-tree-in-Rule-clause-within t c = rw view_sub (omega arith)
 
 pub term_on-returns-in_ok-kid-in-Slot-clause-gives : goal.term_on-returns-in_ok-kid-in-Slot-clause-gives
 term_on-returns-in_ok-kid-in-Slot-clause-gives t c =
@@ -422,3 +426,135 @@ items_on-returns-in_err-item-clause-gives t c =
     let ks = kid_views c.loop-i.items.items in
     let next = times_next (last -ℤ j) (last -ℤ (j +ℤ pos 1)) (omega (arith, ints)) (omega (arith, ints)) in
     rw (p.1, p.2) (subst (Halts c.in_err-item.field-0.0) (ap (λ n. (items_on call fr c.args.term st sl n j ks).answer) (sym next) ∙ c.loop-i.invariant.left) (items_halt call fr c.args.term st sl (times (last -ℤ (j +ℤ pos 1))) j ks c.in_err-item.field-0.0 (subst (λ xs. Halts c.in_err-item.field-0.0 (slot_on call fr (record { term = c.args.term; branch = 0 }) (with_kid st c.args.term false (Array c.args.slot.sym.now (kids_of (kid_views xs)))) (Some j) sl).answer) c.as_slice.ensures.value c.in_err-item.ensures.gives)))
+
+pub many_on-returns-in_err-item-clause-gives : goal.many_on-returns-in_err-item-clause-gives
+many_on-returns-in_err-item-clause-gives t c =
+    let p = err_from_is_err_and c.from_residual.result c.from_residual.ensures.1 in
+    let call = den (frame_view c.args.f.now).grammar c.args.height in
+    let fr = frame_view c.args.f.now in
+    let ks = kid_views c.loop-turn.items.items in
+    let e = c.in_err-item.field-0.0 in
+    let left = turns c.args.ends.0 c.args.ends.1 - (c.loop-turn.turn + 1) in
+    let next = one_fewer c.args.ends.0 c.args.ends.1 c.loop-turn.turn c.loop-turn-test.true in
+    rw (p.1, p.2) (subst (Halts e)
+    (ap (λ n. (many_on call fr (place_view c.args.place) c.args.own.now c.args.sym.now n c.loop-turn.from c.args.ends.1 ks).answer) (sym next) ∙ c.loop-turn.invariant.left)
+    (keeps_halt call fr (place_view c.args.place) c.args.own.now c.args.sym.now c.args.ends.1 left c.loop-turn.from ks e c.in_err-item.ensures.keeps))
+
+pub many_on-returns-in_default-clause-gives : goal.many_on-returns-in_default-clause-gives
+many_on-returns-in_default-clause-gives t c =
+    let call = den (frame_view c.args.f.now).grammar c.args.height in
+    let fr = frame_view c.args.f.now in
+    let ks = kid_views c.loop-turn.items.items in
+    let left = turns c.args.ends.0 c.args.ends.1 - (c.loop-turn.turn + 1) in
+    let next = one_fewer c.args.ends.0 c.args.ends.1 c.loop-turn.turn c.loop-turn-test.true in
+    let keeps = subst (λ o. Keeps (Ok o) (item_on call fr (place_view c.args.place) c.args.own.now c.loop-turn.from c.args.ends.1 c.args.sym.now).answer) c.in_default.is c.in_ok-item.ensures.keeps in
+    sym c.loop-turn.invariant.left ∙ ap (λ n. (many_on call fr (place_view c.args.place) c.args.own.now c.args.sym.now n c.loop-turn.from c.args.ends.1 ks).answer) next
+    ∙ keeps_end call fr (place_view c.args.place) c.args.own.now c.args.sym.now c.args.ends.1 left c.loop-turn.from ks keeps
+
+pub many_on-loop-turn-preserved : goal.many_on-loop-turn-preserved
+many_on-loop-turn-preserved t c =
+    let call = den (frame_view c.args.f.now).grammar c.args.height in
+    let fr = frame_view c.args.f.now in
+    let ks = kid_views c.loop-turn.items.items in
+    let k = c.in-Some.item in
+    let left = turns c.args.ends.0 c.args.ends.1 - (c.loop-turn.turn + 1) in
+    let next = one_fewer c.args.ends.0 c.args.ends.1 c.loop-turn.turn c.loop-turn-test.true in
+    let keeps = subst (λ o. Keeps (Ok o) (item_on call fr (place_view c.args.place) c.args.own.now c.loop-turn.from c.args.ends.1 c.args.sym.now).answer) c.in-Some.is c.in_ok-item.ensures.keeps in
+    let item : IsItem (kid_view k) = subst (λ o. IfSome o (λ k. IsItem (kid_view k))) c.in-Some.is c.in_ok-item.ensures.item in
+    let within : IsWithin c.args.ends.1 (kid_view k) = subst (λ o. IfSome o (λ k. IsWithin c.args.ends.1 (kid_view k))) c.in-Some.is c.in_ok-item.ensures.within in
+    let inside = item_inside (kid_view k) c.args.ends.1 item within in
+    let end : c.ends_of-from.result.end ≡ (ends_of (kid_view k)).end = ap (λ (e : Ends). e.end) c.ends_of-from.ensures in
+    let pushed = ap kid_views c.in_ok-push.ensures.items ∙ views_push c.loop-turn.items.items k in
+    record {
+      valid = let a = inside.end in omega arith;
+      left = ap (λ from. (many_on call fr (place_view c.args.place) c.args.own.now c.args.sym.now left from c.args.ends.1 (kid_views c.push.new.self.items)).answer) end
+          ∙ ap (λ xs. (many_on call fr (place_view c.args.place) c.args.own.now c.args.sym.now left (ends_of (kid_view k)).end c.args.ends.1 xs).answer) pushed
+          ∙ sym (keeps_next call fr (place_view c.args.place) c.args.own.now c.args.sym.now c.args.ends.1 left c.loop-turn.from ks k keeps)
+          ∙ ap (λ n. (many_on call fr (place_view c.args.place) c.args.own.now c.args.sym.now n c.loop-turn.from c.args.ends.1 ks).answer) (sym next) ∙ c.loop-turn.invariant.left;
+      items = rw c.in_ok-push.ensures.items (items_push c.loop-turn.items.items k c.loop-turn.invariant.items item);
+      within = rw c.in_ok-push.ensures.items (within_push c.args.f.now.size c.loop-turn.items.items k c.loop-turn.invariant.within (within_more c.args.ends.1 c.args.f.now.size (kid_view k) item c.requires.1 within));
+    }
+
+pub many_on-returns-clause-gives : goal.many_on-returns-clause-gives
+many_on-returns-clause-gives t c =
+    let call = den (frame_view c.args.f.now).grammar c.args.height in
+    let fr = frame_view c.args.f.now in
+    let ks = kid_views c.loop-turn.items.items in
+    let none : turns c.args.ends.0 c.args.ends.1 - c.loop-turn.turn ≡ 0 = omega arith in
+    sym c.loop-turn.invariant.left ∙ ap (λ n. (many_on call fr (place_view c.args.place) c.args.own.now c.args.sym.now n c.loop-turn.from c.args.ends.1 ks).answer) none
+    ∙ no_turns call fr (place_view c.args.place) c.args.own.now c.args.sym.now c.args.ends.1 c.loop-turn.from ks
+
+pub repetition_on-returns-clause-gives : goal.repetition_on-returns-clause-gives
+unfolding repetition_on
+repetition_on-returns-clause-gives t c =
+    let P = Gives (λ ks. kid_views ks.items) c.many_on.result in
+    let zl = to_z-of_z w64 c.in_ok-from.from c.in_ok-from.ensures.number in
+    let zr = to_z-of_z w64 c.in_ok-to.to c.in_ok-to.ensures.number in
+    let i = ap (λ n. interval n c.in_ok-from.from c.in_ok-to.to) c.args.f.now.sized ∙ sym (c.in-Some.ensures ∙ ap (λ z. interval c.args.f.now.size z (to_z w64 (of_z w64 c.in_ok-to.to))) zl ∙ ap (interval c.args.f.now.size c.in_ok-from.from) zr) in
+    rest P (value_in (frame_view c.args.f.now) (state_view c.args.state.now) None c.args.slot.from.now) _ c.in_ok-from.from c.in_ok-from.ensures.gives
+    (rest P (value_in (frame_view c.args.f.now) (state_view c.args.state.now) None c.args.slot.to.now) _ c.in_ok-to.to c.in_ok-to.ensures.gives
+    (rest P (some_of (interval (length c.args.f.now.bytes.now) c.in_ok-from.from c.in_ok-to.to)) _ c.in-Some.ends (some_is _ _ i)
+    (subst (λ own. P (many_on (den (frame_view c.args.f.now).grammar c.args.height) (frame_view c.args.f.now) (place_view c.args.place) own c.args.slot.sym.now (turns c.in-Some.ends.0 c.in-Some.ends.1) c.in-Some.ends.0 c.in-Some.ends.1 []).answer)
+    c.as_slice.ensures.value c.many_on.ensures.gives)))
+
+pub repetition_on-returns-in_default-clause-gives : goal.repetition_on-returns-in_default-clause-gives
+unfolding repetition_on
+repetition_on-returns-in_default-clause-gives t c =
+    let zl = to_z-of_z w64 c.in_ok-from.from c.in_ok-from.ensures.number in
+    let zr = to_z-of_z w64 c.in_ok-to.to c.in_ok-to.ensures.number in
+    let i = ap (λ n. interval n c.in_ok-from.from c.in_ok-to.to) c.args.f.now.sized ∙ sym (c.in_default.ensures ∙ ap (λ z. interval c.args.f.now.size z (to_z w64 (of_z w64 c.in_ok-to.to))) zl ∙ ap (interval c.args.f.now.size c.in_ok-from.from) zr) in
+    rest (λ r. r ≡ Err NoTree) (value_in (frame_view c.args.f.now) (state_view c.args.state.now) None c.args.slot.from.now) _ c.in_ok-from.from c.in_ok-from.ensures.gives
+    (rest (λ r. r ≡ Err NoTree) (value_in (frame_view c.args.f.now) (state_view c.args.state.now) None c.args.slot.to.now) _ c.in_ok-to.to c.in_ok-to.ensures.gives
+    (bind_stops (some_of (interval (length c.args.f.now.bytes.now) c.in_ok-from.from c.in_ok-to.to)) _ NoTree (none_is _ i)))
+
+pub repetition_on-returns-in_err-from-clause-gives : goal.repetition_on-returns-in_err-from-clause-gives
+unfolding repetition_on
+repetition_on-returns-in_err-from-clause-gives t c =
+    let p = err_from_is_err_and c.from_residual.result c.from_residual.ensures.1 in
+    rw (p.1, p.2) (bind_halts (value_in (frame_view c.args.f.now) (state_view c.args.state.now) None c.args.slot.from.now) _ _ c.in_err-from.ensures.gives)
+
+pub repetition_on-returns-in_err-to-clause-gives : goal.repetition_on-returns-in_err-to-clause-gives
+unfolding repetition_on
+repetition_on-returns-in_err-to-clause-gives t c =
+    let p = err_from_is_err_and c.from_residual-in_err-to.result c.from_residual-in_err-to.ensures.1 in
+    rw (p.1, p.2)
+    (rest (Halts _) (value_in (frame_view c.args.f.now) (state_view c.args.state.now) None c.args.slot.from.now) _ c.in_ok-from.from c.in_ok-from.ensures.gives
+    (bind_halts (value_in (frame_view c.args.f.now) (state_view c.args.state.now) None c.args.slot.to.now) _ _ c.in_err-to.ensures.gives))
+
+pub term_on-returns-in_err-items-in-Many-clause-gives : goal.term_on-returns-in_err-items-in-Many-clause-gives
+term_on-returns-in_err-items-in-Many-clause-gives t c =
+    let p = err_from_is_err_and c.from_residual-in_err-items-in-Many.result c.from_residual-in_err-items-in-Many.ensures.1 in
+    let call = den (frame_view c.args.f.now).grammar c.args.height in
+    let fr = frame_view c.args.f.now in
+    let slot : CoreSlot = record { sym = c.in-Many.item; from = c.in-Many.from; to = c.in-Many.to } in
+    rw (p.1, p.2) (rw c.in-Many.is (bind_halts (repetition_on call fr (record { term = c.args.number; branch = 0 }) (state_view c.args.state) slot) _ _ c.in_err-items-in-Many.ensures.gives))
+
+pub term_on-returns-in_ok-items-in-Many-clause-gives : goal.term_on-returns-in_ok-items-in-Many-clause-gives
+term_on-returns-in_ok-items-in-Many-clause-gives t c =
+    let call = den (frame_view c.args.f.now).grammar c.args.height in
+    let fr = frame_view c.args.f.now in
+    let slot : CoreSlot = record { sym = c.in-Many.item; from = c.in-Many.from; to = c.in-Many.to } in
+    let many = view_many _ _ ∙ ap (λ xs. Many c.in-Many.item (kids_of (kid_views xs))) c.from_vec-in-Many.ensures in
+    rw c.in-Many.is
+    (bind_ok (repetition_on call fr (record { term = c.args.number; branch = 0 }) (state_view c.args.state) slot) _ _ c.in_ok-items-in-Many.ensures.gives
+    ∙ finished _ ∙ ap Ok (sym (c.with_kid-in-Many.ensures.state ∙ ap (with_kid (state_view c.args.state) c.args.number false) many)))
+
+pub term_on-returns-in_ok-items-in-Many-clause-sound : goal.term_on-returns-in_ok-items-in-Many-clause-sound
+term_on-returns-in_ok-items-in-Many-clause-sound t c =
+    sound_with c.args.f.now.size (state_view c.args.state) (state_view c.with_kid-in-Many.result) c.args.number _ _ c.with_kid-in-Many.ensures.state c.requires.sound
+    (rw (view_many, c.from_vec-in-Many.ensures) c.in_ok-items-in-Many.ensures.items) (rw (view_many, c.from_vec-in-Many.ensures) c.in_ok-items-in-Many.ensures.within)
+
+pub turn_on-returns-in_default-clause-keeps : goal.turn_on-returns-in_default-clause-keeps
+unfolding item_on
+turn_on-returns-in_default-clause-keeps t c =
+    kept_no_tree _ (bind_stops (some_of (item_end c.args.ends.0 c.args.ends.1 c.args.sym.now)) _ NoTree (none_is _ (sym c.in_default.ensures.end)))
+
+pub turn_on-returns-in-Ok-clause-keeps : goal.turn_on-returns-in-Ok-clause-keeps
+unfolding item_on
+turn_on-returns-in-Ok-clause-keeps t c =
+    rest (Keeps (Ok c.touching.result)) (some_of (item_end c.args.ends.0 c.args.ends.1 c.args.sym.now)) _ c.in-Some.end (some_is _ _ (sym c.in-Some.ensures.end)) (c.touching.ensures.keeps _ c.in-Ok.ensures.gives)
+
+pub turn_on-returns-in-Err-clause-keeps : goal.turn_on-returns-in-Err-clause-keeps
+unfolding item_on
+turn_on-returns-in-Err-clause-keeps t c =
+    rest (Keeps c.halted.result) (some_of (item_end c.args.ends.0 c.args.ends.1 c.args.sym.now)) _ c.in-Some.end (some_is _ _ (sym c.in-Some.ensures.end)) (c.halted.ensures.keeps _ c.in-Err.ensures.gives)

@@ -1,8 +1,8 @@
-use Rattle.std.proofs.Common.{◌≡◌, ◌+◌, ◌*◌, ◌-ℤ◌, [], drop, length, ℕ, ℤ, List}
+use Rattle.std.proofs.Common.{◌≡◌, ◌≤◌, ◌+◌, ◌-◌, ◌*◌, ◌-ℤ◌, [], drop, length, ℕ, ℤ, List}
 use Rattle.ipg_core.specs.Meaning as spec
 use Rattle.ipg_core.specs.Tree.{Kid, kids_of}
 use Rattle.ipg_plain.specs.View.{kid_views, done_views}
-use Rattle.ipg_plain.specs.Gives.{frame_view, state_view, slot_view}
+use Rattle.ipg_plain.specs.Gives.{frame_view, state_view, slot_view, place_view}
 use Rattle.ipg_plain.specs.Placed.{AreItems, AreAllWithin, IsSound}
 use Rattle.ipg_plain.proofs.walk.+walk.Given as goal
 
@@ -24,6 +24,17 @@ invariant-items_on-loop-i l =
     let left = λ (n : ℕ) (i : ℤ) (items : List Kid). (spec.items_on call (frame_view l.f) l.term (state_view l.state) (slot_view l.slot) n i items).answer in
     record {
       left : left (spec.times (l.span.last -ℤ l.i)) l.i (kid_views l.items.items) ≡ left (spec.times (l.span.last -ℤ l.span.first)) l.span.first [];
+      items : AreItems (kids_of (kid_views l.items.items));
+      within : AreAllWithin l.f.size (kids_of (kid_views l.items.items));
+    }
+
+abbrev pub invariant-many_on-loop-turn : goal.invariant-many_on-loop-turn
+invariant-many_on-loop-turn l =
+    let call = spec.den (frame_view l.f).grammar l.height in
+    let left = λ (n p : ℕ) (items : List Kid). (spec.many_on call (frame_view l.f) (place_view l.place) l.own l.sym n p l.to items).answer in
+    record {
+      valid : l.from ≤ l.to;
+      left : left (spec.turns l.fn.ends.0 l.fn.ends.1 - l.turn) l.from (kid_views l.items.items) ≡ left (spec.turns l.fn.ends.0 l.fn.ends.1) l.fn.ends.0 [];
       items : AreItems (kids_of (kid_views l.items.items));
       within : AreAllWithin l.f.size (kids_of (kid_views l.items.items));
     }
@@ -57,6 +68,15 @@ decreases-pick_on l = 9 * l.height + 4
 
 abbrev pub decreases-term_on : goal.decreases-term_on
 decreases-term_on l = 9 * l.height + 5
+
+abbrev pub decreases-turn_on : goal.decreases-turn_on
+decreases-turn_on l = 9 * l.height + 2
+
+abbrev pub decreases-many_on : goal.decreases-many_on
+decreases-many_on l = 9 * l.height + 3
+
+abbrev pub decreases-repetition_on : goal.decreases-repetition_on
+decreases-repetition_on l = 9 * l.height + 4
 
 abbrev pub decreases-terms_on : goal.decreases-terms_on
 decreases-terms_on l = 9 * l.height + 6
