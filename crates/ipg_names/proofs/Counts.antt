@@ -77,8 +77,16 @@ term_few (SlotTerm s) = omega (arith, slot_few s)
 term_few (Set name value) = omega (arith, expr_few value)
 term_few (Test at cond) = omega (arith, expr_few cond)
 term_few (Repeat var first last item from to) =
-    omega (arith, length-append (expr_names first) (expr_names last ++ (expr_names from ++ expr_names to)), length-append (expr_names last) (expr_names from ++ expr_names to),
-    length-append (expr_names from) (expr_names to), expr_few first, expr_few last, expr_few from, expr_few to)
+    omega (
+      arith,
+      length-append (expr_names first) (expr_names last ++ (expr_names from ++ expr_names to)),
+      length-append (expr_names last) (expr_names from ++ expr_names to),
+      length-append (expr_names from) (expr_names to),
+      expr_few first,
+      expr_few last,
+      expr_few from,
+      expr_few to,
+    )
 term_few (Many at item place) = omega (arith, place_few place)
 term_few (Pick at cases other) = omega (arith, length-append (flat_map case_names cases) (slot_names other), flat_few case_names case_count case_few cases, slot_few other)
 
@@ -89,8 +97,12 @@ local_few : (rule : Rule) → length (local_names rule) ≤ local_count rule
 local_few rule = omega (arith, flat_few local_alt_names local_alt_count local_alt_few (out-Rule rule).alts)
 
 alt_few : (alt : Alt) → length (alt_names alt) ≤ alt_count alt
-alt_few alt = omega (arith, length-append (terms_names (out-Alt alt).terms) (flat_map local_names (out-Alt alt).locals),
-    flat_few term_names term_count term_few (out-Alt alt).terms, flat_few local_names local_count local_few (out-Alt alt).locals)
+alt_few alt = omega (
+  arith,
+  length-append (terms_names (out-Alt alt).terms) (flat_map local_names (out-Alt alt).locals),
+  flat_few term_names term_count term_few (out-Alt alt).terms,
+  flat_few local_names local_count local_few (out-Alt alt).locals,
+)
 
 rule_few : (rule : Rule) → length (rule_names rule) ≤ rule_count rule
 rule_few rule = omega (arith, flat_few alt_names alt_count alt_few (out-Rule rule).alts)

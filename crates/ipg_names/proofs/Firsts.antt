@@ -13,7 +13,7 @@ before n p m q = nat_lt n m || (nat_eq n m && nat_lt p q)
 before_before : (n p m q k r : ℕ) → before n p m q ≡ true → before m q k r ≡ true → before n p k r ≡ true
 before_before n p m q k r f g = grind (arith, nat_tests)
 
-not_before : (n p m q k r : ℕ) → before n p m q ≡ false → before m q k r ≡ false → before n p k r ≡ false
+pub not_before : (n p m q k r : ℕ) → before n p m q ≡ false → before m q k r ≡ false → before n p k r ≡ false
 not_before n p m q k r f g = grind (arith, nat_tests)
 
 three : (a b c : NameFault) (ba cb ca : Bool) → is_before b a ≡ ba → is_before c b ≡ cb → is_before c a ≡ ca

@@ -93,16 +93,20 @@ module _ {A : Type 0} (p : A → Bool) where
     where
       at : (n m : ℕ) → n ≡ m → Found p xs n → Found p xs m
       at n m e f = subst (Found p xs) e f
+
       left : (k : ℕ) → v ≡ 0 + k → Found p (take u xs) k → Found p xs v
       left k e f = at k v (omega (arith, e)) (record { item = f.item; is = get_take u xs k f.item f.is; passes = f.passes })
+
       none : (k : Option ℕ) → k ≡ None → k ≡ Some v → ⊥
       none k e f = cc
+
       of_left : (last_from p 0 None (take u xs) ≡ Some v) → Found p xs v
       of_left e = pick (last_found 0 None (take u xs) v e)
         where
           pick : ((let n : Option ℕ = None in n) ≡ Some v) ⊎ ((k : ℕ) × (v ≡ 0 + k) × Found p (take u xs) k) → Found p xs v
           pick (inl e) = absurd (none None refl e)
           pick (inr w) = left w.0 w.1 w.2
+
       by : (o : Option ℕ) → left_of p xs u ≡ o → or_else o (right_of p xs u) ≡ Some v → Found p xs v
       by (Some k) e f = of_left (e ∙ f)
       by None e f =

@@ -147,14 +147,24 @@ entry_count entry = sum_by local_alt_count (alts_of entry)
 alts_slots : (roster : List Entry) (names : NameList) (entry : Entry) (r a : ℕ) (alts : List Alt) → sum_by alt_slots (map bare_alt (alts_from roster names entry r a alts)) ≤ sum_by local_alt_count alts
 alts_slots roster names entry r a [] = omega arith
 alts_slots roster names entry r a (alt ∷ alts) =
-    omega (arith, sum_by-cons alt_slots (bare_alt (alt_in roster names entry (r, a) alt)) (map bare_alt (alts_from roster names entry r (a + 1) alts)), sum_by-cons local_alt_count alt alts,
-    terms_slots (alt_scopes roster names entry (r, a) alt) 0 (out-Alt alt).terms, alts_slots roster names entry r (a + 1) alts)
+    omega (
+      arith,
+      sum_by-cons alt_slots (bare_alt (alt_in roster names entry (r, a) alt)) (map bare_alt (alts_from roster names entry r (a + 1) alts)),
+      sum_by-cons local_alt_count alt alts,
+      terms_slots (alt_scopes roster names entry (r, a) alt) 0 (out-Alt alt).terms,
+      alts_slots roster names entry r (a + 1) alts,
+    )
 
 rules_slots : (roster : List Entry) (names : NameList) (r : ℕ) (es : List Entry) → sum_by rule_slots (map bare_rule (rules_from roster names r es)) ≤ sum_by entry_count es
 rules_slots roster names r [] = omega arith
 rules_slots roster names r (e ∷ es) =
-    omega (arith, sum_by-cons rule_slots (bare_rule (rule_in roster names r e)) (map bare_rule (rules_from roster names (r + 1) es)), sum_by-cons entry_count e es,
-    alts_slots roster names e r 0 (alts_of e), rules_slots roster names (r + 1) es)
+    omega (
+      arith,
+      sum_by-cons rule_slots (bare_rule (rule_in roster names r e)) (map bare_rule (rules_from roster names (r + 1) es)),
+      sum_by-cons entry_count e es,
+      alts_slots roster names e r 0 (alts_of e),
+      rules_slots roster names (r + 1) es,
+    )
 
 sum_append : {A : Type 0} (f : A → ℕ) (xs ys : List A) → sum_by f (xs ++ ys) ≡ sum_by f xs + sum_by f ys
 sum_append f [] ys = omega arith
@@ -167,15 +177,27 @@ local_counts r a alt (l ∷ ls) = omega (arith, sum_by-cons entry_count (local r
 locals_counts : (r a : ℕ) (alts : List Alt) → sum_by local_alt_count alts + sum_by entry_count (locals_from r a alts) ≤ sum_by alt_count alts
 locals_counts r a [] = omega arith
 locals_counts r a (alt ∷ alts) =
-    omega (arith, sum_by-cons local_alt_count alt alts, sum_append entry_count (map (local r a alt) (out-Alt alt).locals) (locals_from r (a + 1) alts), sum_by-cons alt_count alt alts,
-    local_counts r a alt (out-Alt alt).locals, locals_counts r (a + 1) alts)
+    omega (
+      arith,
+      sum_by-cons local_alt_count alt alts,
+      sum_append entry_count (map (local r a alt) (out-Alt alt).locals) (locals_from r (a + 1) alts),
+      sum_by-cons alt_count alt alts,
+      local_counts r a alt (out-Alt alt).locals,
+      locals_counts r (a + 1) alts,
+    )
 
 roster_counts : (r : ℕ) (rules : List Rule) → sum_by entry_count (roster_from r rules) ≤ sum_by rule_count rules
 roster_counts r [] = omega arith
 roster_counts r (rule ∷ rules) =
     let family = family_of r rule in
-    omega (arith, sum_append entry_count family (roster_from (r + length family) rules), sum_by-cons entry_count (global rule) (locals_from r 0 (out-Rule rule).alts), sum_by-cons rule_count rule rules,
-    locals_counts r 0 (out-Rule rule).alts, roster_counts (r + length family) rules)
+    omega (
+      arith,
+      sum_append entry_count family (roster_from (r + length family) rules),
+      sum_by-cons entry_count (global rule) (locals_from r 0 (out-Rule rule).alts),
+      sum_by-cons rule_count rule rules,
+      locals_counts r 0 (out-Rule rule).alts,
+      roster_counts (r + length family) rules,
+    )
 
 -- ---- alternatives and rules
 
@@ -201,6 +223,7 @@ module _ (roster : List Entry) (names : NameList) (none : rules_faults roster na
         record { is_rule = rule_there roster names p.0 (global w.rule) w.is_rule; is_alt = alt_there (global w.rule) p.0 p.1 w.alt w.is_alt },
         sets_some roster names p [] (out-Alt w.alt).terms name (ap (λ ts. sets ts name) (sym w.outer_is) ∙ h),
       )
+
       by : (o : Option (ℕ × ℕ)) → entry.holder ≡ o → HolderSets B o (position_or_len (bytes_eq name) names)
       by None e = absurd (true≢false (sym h ∙ ap (λ ts. sets ts name) (has.none e)))
       by (Some p) e = held_by p (has.some p e)
@@ -234,7 +257,7 @@ module _ (roster : List Entry) (names : NameList) (none : rules_faults roster na
       let w = rule_of r rule h in
       let fit = (all_get IsSolid roster r w.0 solid w.1).alts in
       let count = length-map (alts_from roster names w.0 r 0 (alts_of w.0)) bare_alt
-          ∙ made_length (alts_from roster names w.0 r) (λ n x. alt_in roster names w.0 (r, n) x) (λ n x xs. refl) (λ n. refl) 0 (alts_of w.0) in
+      ∙ made_length (alts_from roster names w.0 r) (λ n x. alt_in roster names w.0 (r, n) x) (λ n x xs. refl) (λ n. refl) 0 (alts_of w.0) in
       subst GoodRule (sym w.2) (record { some = omega (arith, count, fit.0); limit = omega (arith, count, fit.1) })
 
   good_at : (at : ℕ × ℕ) (rule : CoreRule) (alt : CoreAlt) → AltAt B rule alt at → GoodAlt B at rule.holder alt
@@ -266,7 +289,7 @@ module _ (roster : List Entry) (names : NameList) (none : rules_faults roster na
 
 -- ---- the whole grammar
 
-first_none : (xs : Faults) → first_of xs ≡ None → xs ≡ []
+pub first_none : (xs : Faults) → first_of xs ≡ None → xs ≡ []
 first_none [] h = refl
 first_none (x ∷ xs) h = absurd (by (first_of xs) h)
   where

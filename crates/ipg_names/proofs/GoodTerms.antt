@@ -119,12 +119,15 @@ module _ (roster : List Entry) (names : NameList) where
     where
       is : (t : Sym) → t ≡ s → IsCallable whole at holder t × IsItemSym t → IsCallable whole at holder s × IsItemSym s
       is t e k = subst (λ x. IsCallable whole at holder x × IsItemSym x) e k
+
       seen : (r : ℕ) (b : Bool) → entry_visible (home_of at holder) (slice_get roster r) ≡ b → cond b (Some (Rule r)) None ≡ Some s → IsCallable whole at holder s × IsItemSym s
       seen r true v e = is (Rule r) (let same : Rule r ≡ s = cc in same) (callable_rule at holder r v, tt)
       seen r false v e = absurd (cc)
+
       rule : (o : Option ℕ) → rule_sym roster (home_of at holder) o ≡ Some s → IsCallable whole at holder s × IsItemSym s
       rule None e = absurd (cc)
       rule (Some r) e = seen r (entry_visible (home_of at holder) (slice_get roster r)) refl e
+
       by : (o : Option Primitive) → sym_else o (rule_sym roster (home_of at holder) (rule_named roster name)) ≡ Some s → IsCallable whole at holder s × IsItemSym s
       by (Some prim) e = is (Prim prim) (let same : Prim prim ≡ s = cc in same) (tt, tt)
       by None e = rule (rule_named roster name) e
@@ -274,9 +277,9 @@ module _ (roster : List Entry) (names : NameList) where
         let in_b = names_at ts v (term.Set b.head b.value) n b.is in
         let same = number_apart names b.head.name a.head.name in_b.0 in_a.0 (sym b.number ∙ a.number) in
         let none = ap (λ m. term_faults (here m) (term.Set b.head b.value)) (let e : v ≡ 0 + v = omega arith in e)
-            ∙ faultless_at (terms_faults here) (λ k x. term_faults (here k) x) (λ k x xs. refl) 0 ts v (term.Set b.head b.value) f b.is in
+        ∙ faultless_at (terms_faults here) (λ k x. term_faults (here k) x) (λ k x xs. refl) 0 ts v (term.Set b.head b.value) f b.is in
         let before = any_at (has Sets b.head.name) (take v ts) u (term.Set a.head a.value) (take_get (has Sets b.head.name) v ts u (term.Set a.head a.value) lt a.is)
-            (or_false (bytes_eq b.head.name a.head.name) ∙ ap (bytes_eq b.head.name) (sym same) ∙ bytes_same b.head.name) in
+        (or_false (bytes_eq b.head.name a.head.name) ∙ ap (bytes_eq b.head.name) (sym same) ∙ bytes_same b.head.name) in
         told (sets (take v ts) b.head.name) before (both_none (set_fault (here v) b.head) (expr_faults (here v) b.value) none).0
       where
         told : (c : Bool) → c ≡ true → when c (DuplicateAttr b.head.span.from) ≡ [] → ⊥

@@ -62,7 +62,7 @@ faults_turn roster r e old found all is within head so_far =
     let more : map name_of (entries_view (take (r + 1) roster)) ≡ names ++ name ∷ [] = ap (map name_of) (view_more roster r e is within) ∙ map_push name_of es (entry_view e) in
     let later = first_of (head_faults (names ++ name ∷ []) rest) in
     let is_found : found ≡ first_of (when test (DuplicateRule (entry_at e))) =
-        head ∙ ap (λ b. cond (b || is_some (primitive_of name)) (Some (DuplicateRule (entry_at e))) None) (known es name) ∙ sym (firsts.first_when test (DuplicateRule (entry_at e))) in
+    head ∙ ap (λ b. cond (b || is_some (primitive_of name)) (Some (DuplicateRule (entry_at e))) None) (known es name) ∙ sym (firsts.first_when test (DuplicateRule (entry_at e))) in
     ap (λ ns. earlier (earlier old found) (first_of (head_faults ns rest))) more
     ∙ firsts.earlier_assoc old found later
     ∙ ap (λ f. earlier old (earlier f later)) is_found

@@ -17,4 +17,5 @@ pub mod Found
 pub mod GoodTerms
 pub mod GoodNames
 pub mod Sizes
+pub mod Told
 pub mod Spots

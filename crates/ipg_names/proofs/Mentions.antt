@@ -33,7 +33,6 @@ use Rattle.ipg_names.proofs.Within.{AllIn, IsIn}
 
 -- ---- the mentions of each form
 
-
 at_num : (z : ℤ) → mentions (Num z) ≡ []
 at_num z = ap mentions (sym (rolls-Num z)) ∙ fold-roll-CoreExpr (List Mention) mentions_step (CoreExpr-F.Num z)
 
@@ -215,9 +214,13 @@ module _ (scope : Scope) (Q : Mention → Type 0) (sound : IsSound scope Q) wher
 -- the item interval of an array
 sound_inside : (scope : Scope) (Q : Mention → Type 0) → IsSound scope Q → (var item : List ℕ) → Q (ItemOf scope.term) → IsSound (inside scope var item) Q
 sound_inside scope Q sound var item own = record {
-    own = sound.own; outer = sound.outer; loop = sound.loop; call = sound.call; field = sound.field;
-    items = λ name u e. by name u (bytes_eq name item) e;
-  }
+  own = sound.own;
+  outer = sound.outer;
+  loop = sound.loop;
+  call = sound.call;
+  field = sound.field;
+  items = λ name u e. by name u (bytes_eq name item) e;
+}
   where
     by : (name : List ℕ) (u : ℕ) (b : Bool) → cond b (Some scope.term) (scope.items name) ≡ Some u → Q (ItemOf u)
     by name u true e = subst (λ n. Q (ItemOf n)) (let same : scope.term ≡ u = cc in same) own

@@ -111,18 +111,18 @@ pub scope_is : (site : Site) (outer terms : List Term) → AreTables site.tables
     → site_scope site ≡ scope_of (entries_view site.tables.roster.now) (shown site.tables.attrs.now.names) site.home outer terms site.term
 unfolding site_scope
 scope_is site outer terms is marks out = λ i. record {
-    term = site.term;
-    names = shown site.tables.attrs.now.names;
-    sym = λ name. sym_same site is name i;
-    some = λ s f. some_same site is s f i;
-    all = λ s f. all_same site is s f i;
-    own = λ name. (ap is_some (marks.sets name) ∙ spots_any (has Sets name) terms site.term) i;
-    before = λ name. (ap has_left (marks.sets name) ∙ left_any (has Sets name) terms site.term) i;
-    outer = λ name. out name i;
-    call = λ name. (ap (λ s. nearest_spot s site.term) (marks.calls name) ∙ nearest_is (has Calls name) terms site.term) i;
-    items = λ name. (ap (λ s. nearest_spot s site.term) (marks.items name) ∙ nearest_is (has Items name) terms site.term) i;
-    var = None;
-  }
+  term = site.term;
+  names = shown site.tables.attrs.now.names;
+  sym = λ name. sym_same site is name i;
+  some = λ s f. some_same site is s f i;
+  all = λ s f. all_same site is s f i;
+  own = λ name. (ap is_some (marks.sets name) ∙ spots_any (has Sets name) terms site.term) i;
+  before = λ name. (ap has_left (marks.sets name) ∙ left_any (has Sets name) terms site.term) i;
+  outer = λ name. out name i;
+  call = λ name. (ap (λ s. nearest_spot s site.term) (marks.calls name) ∙ nearest_is (has Calls name) terms site.term) i;
+  items = λ name. (ap (λ s. nearest_spot s site.term) (marks.items name) ∙ nearest_is (has Items name) terms site.term) i;
+  var = None;
+}
 
 pub scope_here : (tables : Tables) (entry : code.Entry) (at : ℕ × ℕ) (terms : List Term) (site : Site) → site.tables ≡ tables → site.home ≡ home_of at entry.holder
     → AreTables tables → AreMarks terms site.term site.marks.now → IsOuter entry.outer.now site.outer.now

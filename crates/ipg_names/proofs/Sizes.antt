@@ -56,8 +56,14 @@ layer (Expr-F.Not c) = rolled (Expr-F.Not c.0) (omega (arith, c.1))
 layer (Expr-F.Two o a b) = rolled (Expr-F.Two o a.0 b.0) (omega (arith, length-append (expr_tokens a.0) (Symbol (sign_of o) ∷ expr_tokens b.0), a.1, b.1))
 layer (Expr-F.Both a b) = rolled (Expr-F.Both a.0 b.0) (omega (arith, length-append (expr_tokens a.0) (Symbol (codes "&&") ∷ expr_tokens b.0), a.1, b.1))
 layer (Expr-F.Either a b) = rolled (Expr-F.Either a.0 b.0) (omega (arith, length-append (expr_tokens a.0) (Symbol (codes "||") ∷ expr_tokens b.0), a.1, b.1))
-layer (Expr-F.Cond c a b) = rolled (Expr-F.Cond c.0 a.0 b.0) (omega (arith, length-append (expr_tokens c.0) (Symbol (codes "?") ∷ (expr_tokens a.0 ++ (Symbol (codes ":") ∷ expr_tokens b.0))),
-    length-append (expr_tokens a.0) (Symbol (codes ":") ∷ expr_tokens b.0), c.1, a.1, b.1))
+layer (Expr-F.Cond c a b) = rolled (Expr-F.Cond c.0 a.0 b.0) (omega (
+  arith,
+  length-append (expr_tokens c.0) (Symbol (codes "?") ∷ (expr_tokens a.0 ++ (Symbol (codes ":") ∷ expr_tokens b.0))),
+  length-append (expr_tokens a.0) (Symbol (codes ":") ∷ expr_tokens b.0),
+  c.1,
+  a.1,
+  b.1,
+))
 
 expr_size : (e : Expr) → expr_count e ≤ length (expr_tokens e)
 expr_size = ind-Expr Few (λ x y is. subst (λ z. Few (roll-Expr z)) is (layer y))
@@ -93,8 +99,13 @@ term_size (Repeat var first last item from to) =
     omega (arith, length-append (expr_tokens first) (Word (codes "to") ∷ (expr_tokens last ++ item_tokens)), length-append (expr_tokens last) item_tokens, expr_size first, expr_size last, place_size (Ends from to))
 term_size (Many at item place) = omega (arith, place_size place)
 term_size (Pick at cases other) =
-    omega (arith, length-append (cases_tokens cases) (Word (codes "else") ∷ (slot_tokens other ++ (Symbol (codes "}") ∷ []))), length-append (slot_tokens other) (Symbol (codes "}") ∷ []),
-    cases_size cases, slot_size other)
+    omega (
+      arith,
+      length-append (cases_tokens cases) (Word (codes "else") ∷ (slot_tokens other ++ (Symbol (codes "}") ∷ []))),
+      length-append (slot_tokens other) (Symbol (codes "}") ∷ []),
+      cases_size cases,
+      slot_size other,
+    )
 
 terms_size : (ts : List Term) → sum_by term_count ts ≤ 2 * length (terms_tokens ts)
 terms_size [] = omega arith

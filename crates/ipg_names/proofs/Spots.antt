@@ -47,6 +47,7 @@ marked_twice (Met u) (Some s) = by (nat_eq s.first u) refl
   where
     later : declared.Spots
     later = record { first = s.first; second = or_else s.second (Some u); left = s.left }
+
     by : (b : Bool) → nat_eq s.first u ≡ b → marked (Met u) (Some (cond b s later)) ≡ Some (cond b s later)
     by true h = ap (λ b. Some (cond b s later)) h
     by false h = ap (λ b. Some (cond b later (record { first = s.first; second = or_else (or_else s.second (Some u)) (Some u); left = s.left }))) h
@@ -153,6 +154,7 @@ module _ {A : Type 0} (p : A → Bool) where
       here : (y : A) (ys : List A) (b : Bool) → cond b (Some u) (first_from p (u + 1) ys) ≡ Some first → Some first ≡ first_from p (u + 1) ys
       here y ys true k = absurd (let same : first ≡ u = cc in let no = sym (nat_same u) ∙ ap (λ n. nat_eq n u) (sym same) ∙ apart in cc)
       here y ys false k = sym k
+
       by : (ys : List A) → drop u xs ≡ ys → first_from p u ys ≡ Some first → Some first ≡ right_of p xs u
       by [] e k = absurd (cc)
       by (y ∷ ys) e k = here y ys (p y) k ∙ ap (first_from p (u + 1)) (sym (drop_next u xs ys y e))
@@ -164,6 +166,7 @@ module _ {A : Type 0} (p : A → Bool) where
       apart : (b : Bool) → nat_eq first u ≡ b → left_of p xs u ≡ None → cond b (right_of p xs first) (Some first) ≡ right_of p xs u
       apart true e none = ap (right_of p xs) (eqb-true first u e)
       apart false e none = right_first xs u first (sym (none_left u 0 xs none ∙ ap (λ m. first_from p m (drop u xs)) (let z : 0 + u ≡ u = omega arith in z)) ∙ h) e
+
       by : (o : Option ℕ) → left_of p xs u ≡ o → or_else o (cond (nat_eq first u) (right_of p xs first) (Some first)) ≡ or_else o (right_of p xs u)
       by None e = apart (nat_eq first u) refl e
       by (Some k) e = refl
@@ -205,11 +208,13 @@ module _ {A : Type 0} (p : A → Bool) where
       new : (b : Bool) → spots_from (cond b (Some (length xs)) None) p (xs ++ x ∷ []) 0 ≡ cond b (marked (Met (length xs)) None) None
       new true = ap (λ o. let made : declared.Spots = record { first = length xs; second = o; left = None } in Some made) (right_end xs x)
       new false = refl
+
       old : (b : Bool) (first : ℕ) → nat_eq first (length xs) ≡ false → (let made : declared.Spots = record { first = first; second = or_else (right_of p xs first) (cond b (Some (length xs)) None); left = None } in Some made)
           ≡ cond b (marked (Met (length xs)) (spots_from (Some first) p xs 0)) (spots_from (Some first) p xs 0)
       old true first apart = sym (ap (λ b. let s : declared.Spots = record { first = first; second = right_of p xs first; left = None } in
           let t : declared.Spots = record { first = first; second = or_else (right_of p xs first) (Some (length xs)); left = None } in Some (cond b s t)) apart)
       old false first apart = ap (λ o. let made : declared.Spots = record { first = first; second = o; left = None } in Some made) (else_none (right_of p xs first))
+
       by : (o : Option ℕ) → first_from p 0 xs ≡ o → spots_of p (xs ++ x ∷ []) 0 ≡ cond (p x) (marked (Met (length xs)) (spots_from o p xs 0)) (spots_from o p xs 0)
       by None e = ap (λ o. spots_from o p (xs ++ x ∷ []) 0) (first_new xs x e) ∙ new (p x)
       by (Some first) e =
@@ -242,13 +247,16 @@ module _ {A : Type 0} (p : A → Bool) where
       left : left_of p xs (u + 1) ≡ cond (p y) (Some u) (left_of p xs u)
       left = ap (λ k. last_from p 0 None (take k xs)) (let e : u + 1 ≡ suc u = omega arith in e) ∙ left_more u 0 None xs ys y h
           ∙ ap (λ k. cond (p y) (Some k) (left_of p xs u)) (let e : 0 + u ≡ u = omega arith in e)
+
       each : (b : Bool) (first : ℕ) → (let made : declared.Spots = record { first = first; second = right_of p xs first; left = cond b (Some u) (left_of p xs u) } in Some made)
           ≡ cond b (marked (Passed u) (spots_from (Some first) p xs u)) (spots_from (Some first) p xs u)
       each true first = refl
       each false first = refl
+
       none : (b : Bool) → None ≡ cond b None (let n : Option declared.Spots = None in n)
       none true = refl
       none false = refl
+
       by : (o : Option ℕ) → spots_from o p xs (u + 1) ≡ cond (p y) (marked (Passed u) (spots_from o p xs u)) (spots_from o p xs u)
       by None = none (p y)
       by (Some first) = ap (λ l. let made : declared.Spots = record { first = first; second = right_of p xs first; left = l } in Some made) left ∙ each (p y) first

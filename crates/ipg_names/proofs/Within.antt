@@ -64,6 +64,7 @@ once_has (x ∷ xs) seen = by (list_any (bytes_eq x) seen) refl (once_has xs see
   where
     new : IsIn (seen ++ x ∷ []) x
     new = any_append x seen (x ∷ []) ∙ true_or (list_any (bytes_eq x) seen) _ (ap (λ b. b || false) (bytes_same x))
+
     by : (b : Bool) → list_any (bytes_eq x) seen ≡ b → AllIn (once seen xs) xs → AllIn (once (seen ++ x ∷ []) xs) xs
         → AllIn (once (cond b seen (seen ++ x ∷ [])) xs) (x ∷ xs)
     by true h f g = (stays xs seen x h, f)

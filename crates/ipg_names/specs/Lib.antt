@@ -15,6 +15,7 @@ pub mod Faults
 -- what a resolved grammar keeps
 pub mod Bare
 -- the laws that public functions promise
+pub mod Told
 pub mod Laws
 -- what functions inside the crate promise each other
 pub mod Marks

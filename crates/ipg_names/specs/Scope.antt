@@ -43,9 +43,18 @@ is_var (Some var) name = bytes_eq name var
 -- the item interval of an array: the loop variable is in scope, and items of the array's own symbol are its own
 abbrev pub inside : Scope → List ℕ → List ℕ → Scope
 inside scope var item = record {
-    term = scope.term; names = scope.names; sym = scope.sym; some = scope.some; all = scope.all; own = scope.own; before = scope.before;
-    outer = scope.outer; call = scope.call; items = λ name. if bytes_eq name item then Some scope.term else scope.items name; var = Some var
-  }
+  term = scope.term;
+  names = scope.names;
+  sym = scope.sym;
+  some = scope.some;
+  all = scope.all;
+  own = scope.own;
+  before = scope.before;
+  outer = scope.outer;
+  call = scope.call;
+  items = λ name. if bytes_eq name item then Some scope.term else scope.items name;
+  var = Some var;
+}
 
 -- ---- the scope of a term by the text
 
@@ -101,15 +110,15 @@ all_set roster (Rule r) field = list_all (alt_sets field) (alts_at (slice_get ro
 -- term u of an alternative with those terms, in a rule whose holder has the outer ones
 abbrev pub scope_of : List Entry → List (List ℕ) → ℕ × ℕ → List Term → List Term → ℕ → Scope
 scope_of roster names home outer terms u = record {
-    term = u;
-    names = names;
-    sym = sym_named roster home;
-    some = some_sets roster;
-    all = all_set roster;
-    own = sets terms;
-    before = sets (take u terms);
-    outer = sets outer;
-    call = λ name. nearest (has Calls name) terms u;
-    items = λ name. nearest (has Items name) terms u;
-    var = None;
-  }
+  term = u;
+  names = names;
+  sym = sym_named roster home;
+  some = some_sets roster;
+  all = all_set roster;
+  own = sets terms;
+  before = sets (take u terms);
+  outer = sets outer;
+  call = λ name. nearest (has Calls name) terms u;
+  items = λ name. nearest (has Items name) terms u;
+  var = None;
+}

@@ -72,18 +72,18 @@ items_of (Some i) name u found = if bytes_eq name i.item.now then Some u else fo
 
 abbrev pub scope_at : Site → Option Inside → Scope
 scope_at site inside = record {
-    term = site.term;
-    names = shown site.tables.attrs.now.names;
-    sym = λ name. sym_else (primitive_of name) (rule_callee site name);
-    some = some_of site;
-    all = all_of site;
-    own = λ name. is_some (look site.marks.now.sets name);
-    before = λ name. has_left (look site.marks.now.sets name);
-    outer = λ name. is_some (look site.outer.now name);
-    call = λ name. nearest_spot (look site.marks.now.calls name) site.term;
-    items = λ name. items_of inside name site.term (nearest_spot (look site.marks.now.items name) site.term);
-    var = option_map (λ i. i.var.now) inside;
-  }
+  term = site.term;
+  names = shown site.tables.attrs.now.names;
+  sym = λ name. sym_else (primitive_of name) (rule_callee site name);
+  some = some_of site;
+  all = all_of site;
+  own = λ name. is_some (look site.marks.now.sets name);
+  before = λ name. has_left (look site.marks.now.sets name);
+  outer = λ name. is_some (look site.outer.now name);
+  call = λ name. nearest_spot (look site.marks.now.calls name) site.term;
+  items = λ name. items_of inside name site.term (nearest_spot (look site.marks.now.items name) site.term);
+  var = option_map (λ i. i.var.now) inside;
+}
 
 -- the same, which proofs open where they need it
 unfoldable pub spot_scope : Spot → Scope

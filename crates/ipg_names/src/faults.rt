@@ -53,11 +53,7 @@ fn attr_fault(spot: &Spot<'_, '_, '_>, callee: Callee, field: &Ident) -> Option<
     }
 }
 
-fn field_fault(
-    spot: &Spot<'_, '_, '_>,
-    callee: Option<Callee>,
-    field: &Field,
-) -> Option<NameFault>
+fn field_fault(spot: &Spot<'_, '_, '_>, callee: Option<Callee>, field: &Field) -> Option<NameFault>
     ensures { result ≡ first_of (spec.field_fault (spot_scope spot.now) (option_map callee_sym callee) field.now) }
 {
     match (callee, field) {
@@ -152,10 +148,7 @@ fn slot_fault(spot: &Spot<'_, '_, '_>, slot: &Slot) -> Option<NameFault>
 fn case_fault(spot: &Spot<'_, '_, '_>, case: &Case) -> Option<NameFault>
     ensures { result ≡ first_of (spec.case_faults (spot_scope spot.now) case.now) }
 {
-    earlier(
-        expr_fault(spot, &case.cond),
-        slot_fault(spot, &case.slot),
-    )
+    earlier(expr_fault(spot, &case.cond), slot_fault(spot, &case.slot))
 }
 
 fn cases_fault(spot: &Spot<'_, '_, '_>, cases: &[Case]) -> Option<NameFault>

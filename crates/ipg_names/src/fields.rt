@@ -12,10 +12,7 @@ use ipg_num::List;
 use std::alloc::{AllocError, Global};
 
 /// A row for each rule, in it a table for each alternative.
-pub fn fields<'a>(
-    alloc: Global,
-    roster: &[Entry<'a>],
-) -> Result<Vec<List<Places<'a>>>, AllocError>
+pub fn fields<'a>(alloc: Global, roster: &[Entry<'a>]) -> Result<Vec<List<Places<'a>>>, AllocError>
     requires { AllByRecursion IsFit (entries_view roster.now) }
     ensures { IfOk result (λ rows. (f : Listed ℕ) → rows_set f rows.items ≡ map (row_of f) (entries_view roster.now)) }
 {

@@ -11,10 +11,9 @@ mod marks;
 mod named;
 mod names;
 mod primitives;
-mod resolving;
 mod resolved;
+mod resolving;
 mod roster;
-
 mod rules;
 mod scope;
 mod whole;

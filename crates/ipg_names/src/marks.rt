@@ -112,11 +112,7 @@ fn mark_what<'a>(places: &mut Places<'a>, what: &'a What, mark: Mark) -> Result<
     }
 }
 
-fn mark_cases<'a>(
-    places: &mut Places<'a>,
-    cases: &'a [Case],
-    mark: Mark,
-) -> Result<(), AllocError>
+fn mark_cases<'a>(places: &mut Places<'a>, cases: &'a [Case], mark: Mark) -> Result<(), AllocError>
     ensures { OnOk result (IsMarked mark (spec.cases_call cases.now) places.old places.new) }
 {
     for case in cases {

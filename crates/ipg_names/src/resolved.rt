@@ -6,9 +6,7 @@ ghost use Rattle.ipg_names.specs.Site.{spot_scope, callee_sym};
 
 use crate::faults::item_spot;
 use crate::named::{NamedPlace, NamedSlot, NamedTerm};
-use crate::scope::{
-    Callee, Spot, attr, call_at, callee_at, is_outer, is_own, is_var, items_at,
-};
+use crate::scope::{Callee, Spot, attr, call_at, callee_at, is_outer, is_own, is_var, items_at};
 use ipg_ast::{Case, Expr, Field, Place, Slot, Term, What};
 use ipg_core::grammar::{CoreExpr, CoreField, Name, Sym};
 use ipg_num::{Held, List, Op2};

@@ -41,11 +41,7 @@ fn add_rule<'a>(roster: &mut Vec<Entry<'a>>, rule: &'a Rule) -> Result<(), Alloc
     add_locals(roster, number, rule.alts.as_slice())
 }
 
-fn add_locals<'a>(
-    roster: &mut Vec<Entry<'a>>,
-    rule: u32,
-    alts: &'a [Alt],
-) -> Result<(), AllocError>
+fn add_locals<'a>(roster: &mut Vec<Entry<'a>>, rule: u32, alts: &'a [Alt]) -> Result<(), AllocError>
     requires { length alts.now ≤ max_alts }
     ensures { OnOk result (entries_view roster.new.items ≡ entries_view roster.old.items ++ locals_from rule 0 alts.now) }
 {
@@ -55,11 +51,7 @@ fn add_locals<'a>(
     Ok(())
 }
 
-fn add_alt<'a>(
-    roster: &mut Vec<Entry<'a>>,
-    at: (u32, u32),
-    alt: &'a Alt,
-) -> Result<(), AllocError>
+fn add_alt<'a>(roster: &mut Vec<Entry<'a>>, at: (u32, u32), alt: &'a Alt) -> Result<(), AllocError>
     ensures { OnOk result (entries_view roster.new.items ≡ entries_view roster.old.items ++ local_entries at alt.now) }
 {
     for rule in alt.locals.as_slice() {

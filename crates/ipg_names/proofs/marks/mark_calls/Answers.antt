@@ -11,9 +11,9 @@ returns-in_ok-mark_cases-in-Pick c =
     let mark = c.args.mark in
     on_ok_weaker c.mark_what-in-Pick.result
     (λ h x.
-        let old = look c.args.places.now x in
-        h x ∙ ap (marks_on mark x (what_calls c.in-Pick.other.what)) (c.in_ok-mark_cases-in-Pick.ensures x)
-        ∙ sym (marks_append mark x (cases_call c.as_slice.result.now) (what_calls c.in-Pick.other.what) old)
-        ∙ ap (λ cases. marks_on mark x (calls_in (Pick c.in-Pick.at cases c.in-Pick.other)) old) c.as_slice.ensures
-        ∙ ap (λ t. marks_on mark x (calls_in t) old) (sym c.in-Pick.is))
+    let old = look c.args.places.now x in
+    h x ∙ ap (marks_on mark x (what_calls c.in-Pick.other.what)) (c.in_ok-mark_cases-in-Pick.ensures x)
+    ∙ sym (marks_append mark x (cases_call c.as_slice.result.now) (what_calls c.in-Pick.other.what) old)
+    ∙ ap (λ cases. marks_on mark x (calls_in (Pick c.in-Pick.at cases c.in-Pick.other)) old) c.as_slice.ensures
+    ∙ ap (λ t. marks_on mark x (calls_in t) old) (sym c.in-Pick.is))
     c.mark_what-in-Pick.ensures
