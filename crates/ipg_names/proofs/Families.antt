@@ -1,10 +1,10 @@
 -- What holds of each rule of a roster, by the text.
-use Rattle.std.proofs.Common.{◌≡◌, ℕ, ◌+◌, ◌<◌, ◌≤◌, List, [], ◌∷◌, ◌++◌, length, map, refl, arith}
+use Rattle.std.proofs.Common.{ℕ, ◌+◌, List, [], ◌∷◌, ◌++◌, length, map, arith}
 use Rattle.std.specs.List.{AllByRecursion}
 use Rattle.ipg_ast.specs.declared.grammar.Grammar.{Grammar}
 use Rattle.ipg_ast.specs.declared.grammar.Rule.{Rule, out-Rule}
 use Rattle.ipg_ast.specs.declared.grammar.Alt.{Alt, out-Alt}
-use Rattle.ipg_names.specs.Roster.{Entry, global, local, locals_from, family_of, roster_from, roster_of, alts_of}
+use Rattle.ipg_names.specs.Roster.{Entry, global, local, locals_from, family_of, roster_from, roster_of}
 use Rattle.ipg_names.specs.Readable.{IsReadable, IsReadableRule, IsReadableAlt, IsReadableLocal, IsReadableLocalAlt}
 use Rattle.ipg_names.specs.View.{IsFit, HasShortTerms}
 

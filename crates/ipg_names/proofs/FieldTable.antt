@@ -5,7 +5,7 @@ use Rattle.indexmap.specs.IndexMap.{IndexMap}
 use Rattle.ipg_ast.specs.declared.grammar.Alt.{Alt, out-Alt}
 use Rattle.ipg_names.specs.declared.marks.Spots.{Spots}
 use Rattle.ipg_names.specs.declared.marks.Family.TheVariants.{Sets}
-use Rattle.ipg_names.specs.Terms.{has, sets}
+use Rattle.ipg_names.specs.Terms.{has}
 use Rattle.ipg_names.specs.Scope.{alt_sets}
 use Rattle.ipg_names.specs.Marks.{look, spots_of}
 use Rattle.ipg_names.specs.Fields.{alts_set, rows_set, row_of}

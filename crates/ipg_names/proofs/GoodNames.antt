@@ -1,5 +1,5 @@
 -- A text whose names have no fault resolves to a grammar that is good but for the order of its terms.
-use Rattle.std.proofs.Common.{◌≡◌, ℕ, zero, suc, ◌+◌, ◌^◌, ◌<◌, ◌≤◌, Bool, true, false, List, [], ◌∷◌, ◌++◌, length, map, flat_map, Option, Some, None, slice_get, refl, sym, ap, subst, ◌∙◌, bytes_eq, sum_by, arith, true≢false, append_assoc, length-append}
+use Rattle.std.proofs.Common.{◌≡◌, ℕ, suc, ◌+◌, ◌<◌, ◌≤◌, List, [], ◌∷◌, ◌++◌, length, map, flat_map, Option, Some, None, slice_get, refl, sym, ap, subst, ◌∙◌, bytes_eq, sum_by, arith, true≢false, append_assoc, length-append}
 use Rattle.std.specs.List.{AllByRecursion, IsDistinct, position_or_len}
 use Rattle.std.proofs.lemmas.List.{length-map}
 use Rattle.std.proofs.lemmas.List.Sums.{sum_by-cons}
@@ -10,27 +10,26 @@ use Rattle.ipg_ast.specs.declared.grammar.Term as written
 use Rattle.ipg_ast.specs.declared.grammar.Term.TheVariants as term
 use Rattle.ipg_ast.specs.declared.grammar.Case.{Case}
 use Rattle.ipg_ast.specs.Shape.{IsFilled, max_alts, max_terms}
-use Rattle.ipg_core.specs.declared.grammar.CoreTerm.{CoreTerm}
 use Rattle.ipg_core.specs.declared.grammar.CoreAlt.{CoreAlt}
 use Rattle.ipg_core.specs.declared.grammar.CoreRule.{CoreRule}
 use Rattle.ipg_core.specs.Grammar.{Grammar, rule_at, holder_of}
-use Rattle.ipg_core.specs.Good.{AltAt, SetsSome, HolderSets, GoodAlt, GoodRule, IsGlobalAlt, slots_in, slots_of, WellFormed}
+use Rattle.ipg_core.specs.Good.{AltAt, HolderSets, GoodAlt, GoodRule, IsGlobalAlt, slots_in, WellFormed}
 use Rattle.ipg_names.specs.Roster.{Entry, alts_of, global, local, locals_from, family_of, roster_from, roster_of}
 use Rattle.ipg_names.specs.Terms.{sets}
 use Rattle.ipg_names.specs.Scope.{Scope}
-use Rattle.ipg_names.specs.Names.{NameList, terms_names, local_alt_names, local_names, alt_names, rule_names, once, attr_names}
+use Rattle.ipg_names.specs.Names.{NameList, terms_names, local_alt_names, local_names, alt_names, rule_names, attr_names}
 use Rattle.ipg_names.specs.Resolved.{terms_from, term_in, case_in, alt_scopes, alt_in, alts_from, rule_in, rules_from, names_of}
 use Rattle.ipg_names.specs.Fault.{earlier, first_of}
-use Rattle.ipg_names.specs.Faults.{Faults, terms_faults, alt_faults, alts_faults, rules_faults, head_faults, faults_of}
+use Rattle.ipg_names.specs.Faults.{Faults, alt_faults, alts_faults, rules_faults, head_faults, faults_of}
 use Rattle.ipg_names.specs.Bare.{bare, bare_term, bare_case, bare_alt, bare_rule}
-use Rattle.ipg_names.specs.Readable.{IsReadable, IsReadableRule, IsReadableAlt, IsReadableLocal, IsReadableLocalAlt, case_count, term_count, local_alt_count, local_count, alt_count, rule_count, parts_count}
+use Rattle.ipg_names.specs.Readable.{IsReadable, IsReadableRule, IsReadableAlt, IsReadableLocal, IsReadableLocalAlt, case_count, term_count, local_alt_count, local_count, alt_count, rule_count}
 use Rattle.ipg_names.specs.declared.fault.NameFault.{NameFault}
 use Rattle.ipg_names.proofs.Rosters.{roster_length}
 use Rattle.ipg_names.proofs.Families.{all_append, all_left, all_right, all_of_all, all_map, HasFamily, HasLocals, roster_all}
 use Rattle.ipg_names.proofs.Counts.{names_few}
 use Rattle.ipg_names.proofs.Within.{IsIn, AllIn, once_has, once_distinct}
 use Rattle.ipg_names.proofs.Mentions.{both_none}
-use Rattle.ipg_names.proofs.Found.{of_item, item_map, all_get, get_below, of_made, made_at, made_length, faultless_at}
+use Rattle.ipg_names.proofs.Found.{of_item, item_map, all_get, of_made, made_at, made_length, faultless_at}
 use Rattle.ipg_names.proofs.GoodTerms.{whole, rule_there, rules_length, OuterSets, sets_some, terms_good, sets_once}
 
 -- ---- holders

@@ -1,6 +1,6 @@
 -- The terms of an alternative whose names have no fault are good.
-use Rattle.std.proofs.Common.{◌≡◌, ◌≢◌, ℕ, zero, suc, ◌+◌, ◌<◌, ◌≤◌, Bool, true, false, ◌||◌, ◌&&◌, ◌⊎◌, inl, inr, List, [], ◌∷◌, ◌++◌, length, map, take, flat_map, Option, Some, None, is_some, slice_get, refl, sym, ap, subst, ◌∙◌, cond, bytes_eq, nat_eq, nat_lt, arith, true≢false}
-use Rattle.std.specs.List.{AllByRecursion, list_any, position_or_len}
+use Rattle.std.proofs.Common.{◌≡◌, ℕ, zero, suc, ◌+◌, ◌<◌, Bool, true, false, ◌||◌, inl, inr, List, [], ◌∷◌, length, map, take, flat_map, Option, Some, None, is_some, slice_get, refl, sym, ap, subst, ◌∙◌, cond, bytes_eq, nat_eq, nat_lt, arith, true≢false}
+use Rattle.std.specs.List.{AllByRecursion, position_or_len}
 use Rattle.std.proofs.lemmas.List.{length-map}
 use Rattle.std.proofs.lemmas.Bool.{eqb-true, and_parts}
 use Rattle.std.proofs.lemmas.Bool.Decides.{nat_tests}
@@ -18,27 +18,25 @@ use Rattle.ipg_core.specs.declared.grammar.Sym.TheVariants.{Text, Prim, Rule}
 use Rattle.ipg_core.specs.declared.grammar.CoreExpr.{CoreExpr}
 use Rattle.ipg_core.specs.declared.grammar.CoreTerm.{CoreTerm}
 use Rattle.ipg_core.specs.declared.grammar.CoreTerm.TheVariants as core
-use Rattle.ipg_core.specs.declared.grammar.CoreRule.{CoreRule}
 use Rattle.ipg_core.specs.Grammar.{Grammar, rule_at, holder_of, same_place}
-use Rattle.ipg_core.specs.Mention.{Mention, EachSym, term_mentions}
+use Rattle.ipg_core.specs.Mention.{EachSym}
 use Rattle.ipg_core.specs.Order.{Sets as SetsAt}
 use Rattle.ipg_core.specs.Good.{SetsSome, HolderSets, HasItems, IsSlotOrSwitch, IsSym, MayCall, IsCallable, IsGoodMention, IsItemSym, IsGoodShape, GoodTerm}
 use Rattle.ipg_names.specs.declared.marks.Family.TheVariants.{Calls, Items, Sets}
 use Rattle.ipg_names.specs.declared.fault.NameFault.TheVariants.{DuplicateAttr}
 use Rattle.ipg_names.specs.Roster.{Entry}
-use Rattle.ipg_names.specs.Terms.{has, sets, calls_in}
-use Rattle.ipg_names.specs.Nearest.{nearest}
+use Rattle.ipg_names.specs.Terms.{has, sets}
 use Rattle.ipg_names.specs.Primitives.{primitive_of}
-use Rattle.ipg_names.specs.Scope.{Scope, attr_number, inside, home_of, is_visible, entry_visible, rule_named, rule_sym, sym_else, sym_named, scope_of}
-use Rattle.ipg_names.specs.Names.{NameList, term_names, terms_names, expr_names}
-use Rattle.ipg_names.specs.Resolved.{Resolved, sym_or_empty, symbol, what_symbol, slot_in, case_in, expr_in, term_in, terms_from, rule_in, rules_from}
-use Rattle.ipg_names.specs.Faults.{Faults, rule_fault, what_fault, slot_faults, case_faults, place_faults, expr_faults, ends_faults, set_fault, var_fault, when, term_faults, terms_faults}
-use Rattle.ipg_names.specs.Bare.{bare, bare_term, bare_slot, bare_case, bare_rule}
+use Rattle.ipg_names.specs.Scope.{Scope, home_of, is_visible, entry_visible, rule_named, rule_sym, sym_else, sym_named, scope_of}
+use Rattle.ipg_names.specs.Names.{NameList, term_names, terms_names}
+use Rattle.ipg_names.specs.Resolved.{sym_or_empty, symbol, what_symbol, case_in, expr_in, term_in, terms_from, rule_in, rules_from}
+use Rattle.ipg_names.specs.Faults.{rule_fault, what_fault, slot_faults, case_faults, place_faults, expr_faults, ends_faults, set_fault, var_fault, when, term_faults, terms_faults}
+use Rattle.ipg_names.specs.Bare.{bare, bare_term, bare_case, bare_rule}
 use Rattle.ipg_names.proofs.Bytes.{same_bytes, bytes_same}
 use Rattle.ipg_names.proofs.Families.{all_left, all_right}
 use Rattle.ipg_names.proofs.Within.{IsIn, AllIn, number_below, number_apart}
 use Rattle.ipg_names.proofs.Mentions.{IsSound, term_good, both_none, unless_none}
-use Rattle.ipg_names.proofs.Found.{Found, get_below, of_item, item_map, any_found, any_at, take_get, nearest_found, of_made, made_at, made_length, faultless_at}
+use Rattle.ipg_names.proofs.Found.{get_below, of_item, item_map, any_found, any_at, take_get, nearest_found, of_made, made_at, made_length, faultless_at}
 
 -- ---- what terms have a name
 

@@ -1,12 +1,12 @@
 -- The table of heads as it is made.
-use Rattle.std.proofs.Common.{◌≡◌, ℕ, zero, suc, ◌+◌, ◌<◌, Bool, true, false, ◌||◌, List, [], ◌∷◌, ◌++◌, length, take, drop, get_or, map, Option, Some, None, is_some, refl, sym, ap, ◌∙◌, cond, bytes_eq, arith}
+use Rattle.std.proofs.Common.{◌≡◌, ℕ, ◌+◌, ◌<◌, Bool, true, false, ◌||◌, List, [], ◌∷◌, ◌++◌, length, take, drop, get_or, map, Option, Some, None, is_some, refl, sym, ap, ◌∙◌, cond, bytes_eq, arith}
 use Rattle.std.proofs.lemmas.List.{length-map}
 use Rattle.std.specs.List.{list_any}
 use Rattle.ipg_names.specs.declared.fault.NameFault.{NameFault}
 use Rattle.ipg_names.specs.declared.fault.NameFault.TheVariants.{DuplicateRule}
 use Rattle.ipg_names.specs.declared.roster.Entry as code
 use Rattle.ipg_names.specs.Nearest.{or_else}
-use Rattle.ipg_names.specs.Roster.{Entry, name_of, head_at}
+use Rattle.ipg_names.specs.Roster.{Entry, name_of}
 use Rattle.ipg_names.specs.Primitives.{primitive_of}
 use Rattle.ipg_names.specs.Scope.{rule_named, is_named}
 use Rattle.ipg_names.specs.Fault.{earlier, first_of}

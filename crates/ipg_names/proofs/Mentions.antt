@@ -2,7 +2,6 @@
 use Rattle.std.proofs.Common.{◌≡◌, ℕ, Bool, true, false, ◌||◌, List, [], ◌∷◌, ◌++◌, map, flat_map, Option, Some, None, is_some, refl, sym, ap, subst, ◌∙◌, cond, bytes_eq, true≢false, ℤ, pos}
 use Rattle.std.specs.List.{AllByRecursion}
 use Rattle.ipg_num.specs.declared.op.Op2.{Op2}
-use Rattle.ipg_ast.specs.declared.grammar.Ident.{Ident}
 use Rattle.ipg_ast.specs.declared.grammar.Term as written
 use Rattle.ipg_ast.specs.declared.grammar.Term.TheVariants as term
 use Rattle.ipg_ast.specs.declared.grammar.Case.{Case}
@@ -25,7 +24,7 @@ use Rattle.ipg_core.specs.Good.{HasItems}
 use Rattle.ipg_names.specs.Scope.{Scope, attr_number, is_var, inside}
 use Rattle.ipg_names.specs.Names.{NameList, names_step, field_names, expr_names, place_names, slot_names, case_names, term_names}
 use Rattle.ipg_names.specs.Resolved.{resolved_step, expr_in, name_in, seen_at, item_at, symbol, sym_or_empty, field_in, place_in, slot_in, case_in, term_in}
-use Rattle.ipg_names.specs.Faults.{Faults, faults_step, expr_faults, ends_faults, place_faults, slot_faults, case_faults, term_faults, name_fault, is_known, rule_fault, what_fault, occurrence_fault, field_fault, reference_fault, unless, set_fault, var_fault}
+use Rattle.ipg_names.specs.Faults.{Faults, faults_step, expr_faults, ends_faults, place_faults, slot_faults, case_faults, term_faults, is_known, rule_fault, what_fault, occurrence_fault, unless, set_fault, var_fault}
 use Rattle.ipg_names.specs.declared.fault.NameFault.{NameFault}
 use Rattle.ipg_names.specs.Bare.{bare_from, bare_to, bare_slot, bare_case, bare_term}
 use Rattle.ipg_names.proofs.Families.{all_append, all_left, all_right}

@@ -1,5 +1,5 @@
 -- The scope of an item interval, by its tables.
-use Rattle.std.proofs.Common.{◌≡◌, refl, sym, ap, Some, None, Option}
+use Rattle.std.proofs.Common.{◌≡◌, sym, ap, Some, None}
 use Rattle.ipg_names.specs.declared.scope.Inside.{Inside}
 use Rattle.ipg_names.specs.declared.scope.Spot.{Spot}
 use Rattle.ipg_names.specs.Scope.{inside}

@@ -1,9 +1,8 @@
 -- The scope that tables say is the scope of the text.
-use Rattle.std.proofs.Common.{◌≡◌, ℕ, zero, suc, ◌+◌, Bool, true, false, ◌||◌, ◌&&◌, List, [], ◌∷◌, map, take, Option, Some, None, is_some, slice_get, refl, sym, ap, subst, ◌∙◌, cond, bytes_eq}
+use Rattle.std.proofs.Common.{◌≡◌, ℕ, zero, suc, ◌+◌, Bool, true, false, ◌||◌, ◌&&◌, List, [], ◌∷◌, map, take, Option, Some, None, is_some, slice_get, refl, sym, ap, subst, ◌∙◌, cond}
 use Rattle.std.specs.List.{list_any, list_all}
 use denote.Ref.{Bor}
 use Rattle.ipg_ast.specs.declared.grammar.Term.{Term}
-use Rattle.ipg_ast.specs.declared.grammar.Alt.{Alt}
 use Rattle.ipg_core.specs.declared.grammar.Sym.{Sym}
 use Rattle.ipg_core.specs.declared.grammar.Sym.TheVariants.{Text, Prim, Rule}
 use Rattle.indexmap.specs.IndexMap.{IndexMap}
@@ -12,16 +11,16 @@ use Rattle.ipg_names.specs.declared.marks.Family.TheVariants.{Calls, Items, Sets
 use Rattle.ipg_names.specs.declared.roster.Entry as code
 use Rattle.ipg_names.specs.declared.scope.Site.{Site}
 use Rattle.ipg_names.specs.declared.scope.Tables.{Tables}
-use Rattle.ipg_names.specs.Roster.{Entry, alts_of}
-use Rattle.ipg_names.specs.Terms.{has, sets}
+use Rattle.ipg_names.specs.Roster.{Entry}
+use Rattle.ipg_names.specs.Terms.{has}
 use Rattle.ipg_names.specs.Nearest.{last_from, left_of, first_from}
 use Rattle.ipg_names.specs.Primitives.{primitive_of}
-use Rattle.ipg_names.specs.Scope.{Scope, home_of, scope_of, sym_else, sym_named, rule_named, rule_sym, entry_visible, alt_sets, alts_at, some_sets, all_set}
-use Rattle.ipg_names.specs.View.{entry_view, entries_view}
+use Rattle.ipg_names.specs.Scope.{home_of, scope_of, sym_else, sym_named, rule_named, rule_sym, entry_visible, alt_sets, alts_at, some_sets, all_set}
+use Rattle.ipg_names.specs.View.{entries_view}
 use Rattle.ipg_names.specs.Lookup.{shown}
 use Rattle.ipg_names.specs.Fields.{alts_set, rows_set, row_of}
 use Rattle.ipg_names.specs.Marks.{look, nearest_spot, spots_of, spots_from}
-use Rattle.ipg_names.specs.Site.{spot_scope, site_scope, scope_at, rule_if, rule_visible, rule_callee, row_at, some_of, all_of, some_table, all_tables, has_left, scopes_at, AreTables, AreMarks, IsOuter}
+use Rattle.ipg_names.specs.Site.{spot_scope, site_scope, rule_if, rule_visible, rule_callee, row_at, some_of, all_of, has_left, scopes_at, AreTables, AreMarks, IsOuter}
 use Rattle.ipg_names.proofs.Spots.{nearest_is, spots_any, none_before}
 
 -- outside of item intervals

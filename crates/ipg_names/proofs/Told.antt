@@ -1,16 +1,15 @@
 -- The first of a list of faults, and where the faults of a text stand.
-use Rattle.std.proofs.Common.{◌≡◌, ◌↔◌, ℕ, zero, suc, ◌+◌, ◌<◌, Bool, true, false, ◌||◌, ◌&&◌, ◌⊎◌, inl, inr, nat_lt, nat_eq, List, [], ◌∷◌, ◌++◌, length, take, map, Option, Some, None, is_some, slice_get, refl, sym, ap, subst, ◌∙◌, cond, bytes_eq, arith, true≢false, append_assoc, append-nil}
+use Rattle.std.proofs.Common.{◌≡◌, ◌↔◌, ℕ, zero, suc, ◌+◌, Bool, true, false, ◌||◌, ◌&&◌, ◌⊎◌, inl, inr, nat_lt, nat_eq, List, [], ◌∷◌, ◌++◌, take, map, Option, Some, None, is_some, slice_get, refl, sym, ap, subst, ◌∙◌, cond, bytes_eq, arith, true≢false, append_assoc, append-nil}
 use Rattle.std.specs.List.{AllByRecursion, list_any}
 use Rattle.std.proofs.lemmas.Bool.Decides.{nat_tests}
 use Rattle.ipg_ast.specs.declared.grammar.Grammar.{Grammar}
-use Rattle.ipg_ast.specs.declared.grammar.Alt.{Alt, out-Alt}
-use Rattle.ipg_ast.specs.declared.grammar.Term.{Term}
+use Rattle.ipg_ast.specs.declared.grammar.Alt.{out-Alt}
 use Rattle.ipg_names.specs.declared.fault.NameFault.{NameFault}
 use Rattle.ipg_names.specs.declared.fault.NameFault.TheVariants.{DuplicateRule}
 use Rattle.ipg_names.specs.Roster.{Entry, name_of, head_at, alts_of, roster_of}
 use Rattle.ipg_names.specs.Primitives.{primitive_of}
 use Rattle.ipg_names.specs.Names.{attr_names}
-use Rattle.ipg_names.specs.Scope.{Scope, is_named}
+use Rattle.ipg_names.specs.Scope.{is_named}
 use Rattle.ipg_names.specs.Resolved.{alt_scopes}
 use Rattle.ipg_names.specs.Fault.{number_of, place_of, is_before, earlier, first_of}
 use Rattle.ipg_names.specs.Faults.{when, head_faults, term_faults, terms_faults, alt_faults, alts_faults, rules_faults, faults_of}

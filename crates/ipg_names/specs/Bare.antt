@@ -1,6 +1,5 @@
 -- A resolved grammar as a core grammar: a part of an interval that isn't written mentions nothing, and terms have no order yet.
-use Rattle.std.specs.Prelude.{List, [], map, pos}
-use Rattle.ipg_core.specs.declared.grammar.Sym.{Sym}
+use Rattle.std.specs.Prelude.{[], map, pos}
 use Rattle.ipg_core.specs.declared.grammar.CoreExpr.{CoreExpr}
 use Rattle.ipg_core.specs.declared.grammar.CoreExpr.TheVariants.{Num, Eoi}
 use Rattle.ipg_core.specs.declared.grammar.CoreSlot.{CoreSlot}

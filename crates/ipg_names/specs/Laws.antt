@@ -1,5 +1,5 @@
 -- The laws of names: when the conditions hold, which fault is told, where faults stand.
-use Rattle.std.specs.Prelude.{◌≡◌, ◌↔◌, ℕ, ◌^◌, ◌≤◌, List, [], Some, None, length, ◌⊎◌}
+use Rattle.std.specs.Prelude.{◌≡◌, ◌↔◌, ◌^◌, ◌≤◌, List, [], Some, None, length, ◌⊎◌}
 use Rattle.ipg_ast.specs.declared.grammar.Grammar.{Grammar}
 use Rattle.ipg_ast.specs.Spelling.{grammar_tokens}
 use Rattle.ipg_ast.specs.Shape.{IsFormed}

@@ -1,5 +1,5 @@
 -- Tables from names to where the terms of an alternative have them, as what they say of a name.
-use Rattle.std.specs.Prelude.{◌≡◌, ℕ, ◌+◌, ◌≤◌, Bool, List, [], ◌∷◌, flat_map, length, Option, Some, None, nat_eq, bytes_eq, if◌then◌else◌}
+use Rattle.std.specs.Prelude.{◌≡◌, ℕ, ◌≤◌, Bool, List, [], ◌∷◌, flat_map, length, Option, Some, None, nat_eq, bytes_eq, if◌then◌else◌}
 use denote.Ref.{Bor}
 use Rattle.indexmap.specs.IndexMap.{IndexMap, get_by}
 use Rattle.ipg_ast.specs.declared.grammar.Term.{Term}

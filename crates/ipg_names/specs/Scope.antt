@@ -1,5 +1,5 @@
 -- What names mean at a term of a text.
-use Rattle.std.specs.Prelude.{ℕ, ◌+◌, Bool, true, false, List, [], ◌∷◌, take, Option, Some, None, option_map, slice_get, bytes_eq, if◌then◌else◌}
+use Rattle.std.specs.Prelude.{ℕ, Bool, true, false, List, [], take, Option, Some, None, slice_get, bytes_eq, if◌then◌else◌}
 use Rattle.std.specs.List.{list_any, list_all, position_or_len}
 use Rattle.ipg_ast.specs.declared.grammar.Alt.{Alt, out-Alt}
 use Rattle.ipg_ast.specs.declared.grammar.Term.{Term}
@@ -7,7 +7,7 @@ use Rattle.ipg_core.specs.declared.grammar.Primitive.{Primitive}
 use Rattle.ipg_core.specs.declared.grammar.Sym.{Sym}
 use Rattle.ipg_core.specs.declared.grammar.Sym.TheVariants.{Text, Prim, Rule}
 use Rattle.ipg_core.specs.Grammar.{same_place}
-use Rattle.ipg_names.specs.declared.marks.Family.TheVariants.{Calls, Items, Sets}
+use Rattle.ipg_names.specs.declared.marks.Family.TheVariants.{Calls, Items}
 use Rattle.ipg_names.specs.Roster.{Entry, name_of, alts_of}
 use Rattle.ipg_names.specs.Terms.{has, sets}
 use Rattle.ipg_names.specs.Nearest.{first_from, nearest}

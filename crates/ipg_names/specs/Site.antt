@@ -1,5 +1,5 @@
 -- The tables of a term, as the scope that they say.
-use Rattle.std.specs.Prelude.{◌≡◌, ℕ, Bool, true, false, List, [], map, Option, Some, None, option_map, is_some, slice_get, bytes_eq, if◌then◌else◌}
+use Rattle.std.specs.Prelude.{◌≡◌, ℕ, Bool, false, List, [], map, Option, Some, None, option_map, is_some, slice_get, bytes_eq, if◌then◌else◌}
 use Rattle.std.specs.List.{list_any, list_all}
 use denote.Ref.{Bor}
 use Rattle.indexmap.specs.IndexMap.{IndexMap}

@@ -1,12 +1,8 @@
-use Rattle.std.proofs.Common.{◌≡◌, List, length, sym, ap, subst, ◌∙◌, arith}
+use Rattle.std.proofs.Common.{List, length, sym, ap, subst, ◌∙◌, arith}
 use Rattle.std.proofs.lemmas.List.{length-map}
 use Rattle.std.specs.List.{AllByRecursion}
-use Rattle.ipg_names.specs.Roster.{Entry, roster_from, roster_of}
-use Rattle.ipg_names.specs.Fault.{first_of}
-use Rattle.ipg_names.specs.Faults.{roster_faults}
-use Rattle.ipg_names.specs.Resolved.{rules_from}
+use Rattle.ipg_names.specs.Roster.{Entry, roster_from}
 use Rattle.ipg_names.specs.View.{entry_view, entries_view, IsFit}
-use Rattle.ipg_names.specs.Lookup.{shown}
 use Rattle.ipg_names.proofs.Rosters.{roster_length}
 use Rattle.ipg_names.proofs.Families.{roster_fit}
 use Rattle.ipg_names.proofs.resolving.judged.Goals as goal

@@ -1,4 +1,4 @@
-use Rattle.std.proofs.Common.{◌≡◌, List, ℕ, refl, ap, subst, sym, ◌∙◌}
+use Rattle.std.proofs.Common.{◌≡◌, refl, subst}
 use Rattle.ipg_core.specs.Good.{WellFormed}
 use Rattle.ipg_names.specs.Resolved.{Resolved, names_of}
 use Rattle.ipg_names.specs.Bare.{bare}

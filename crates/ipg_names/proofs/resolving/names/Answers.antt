@@ -1,4 +1,4 @@
-use Rattle.std.proofs.Common.{◌∙◌, sym, ap, refl, [], ◌∷◌, ◌+◌, drop}
+use Rattle.std.proofs.Common.{◌∙◌, sym, refl, [], ◌∷◌, ◌+◌, drop}
 use Rattle.std.proofs.lemmas.List.{length-map}
 use Rattle.ipg_names.specs.Lookup.{shown}
 use Rattle.ipg_names.proofs.Lists.{drop_get, pieces}

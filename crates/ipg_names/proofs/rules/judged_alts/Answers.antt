@@ -1,5 +1,4 @@
-use Rattle.std.proofs.Common.{ap, ◌∙◌, sym, refl, is_some}
-use Rattle.ipg_ast.specs.declared.grammar.Alt.{Alt}
+use Rattle.std.proofs.Common.{ap, ◌∙◌, refl, is_some}
 use Rattle.ipg_names.specs.declared.marks.Family.TheVariants.{Sets}
 use Rattle.ipg_names.specs.Terms.{has}
 use Rattle.ipg_names.specs.Fault.{first_of}
@@ -9,7 +8,7 @@ use Rattle.ipg_names.specs.View.{entry_view, entries_view}
 use Rattle.ipg_names.specs.Lookup.{shown}
 use Rattle.ipg_names.proofs.Spots.{spots_any}
 use Rattle.ipg_names.proofs.Firsts.{First}
-use Rattle.ipg_names.proofs.Turns.{made_turn, made_done, fault_turn, fault_done}
+use Rattle.ipg_names.proofs.Turns.{made_turn, fault_turn, fault_done}
 use Rattle.ipg_names.proofs.rules.judged_alts.Goals as goal
 
 pub judged_alt-requires-clause-outer : goal.judged_alt-requires-clause-outer

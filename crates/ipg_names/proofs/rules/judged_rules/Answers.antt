@@ -1,4 +1,4 @@
-use Rattle.std.proofs.Common.{ap, ◌∙◌, sym, refl}
+use Rattle.std.proofs.Common.{refl}
 use Rattle.ipg_names.specs.declared.roster.Entry as code
 use Rattle.ipg_names.specs.Roster.{alts_of}
 use Rattle.ipg_names.specs.Faults.{alts_faults, rules_faults}

@@ -1,4 +1,4 @@
-use Rattle.std.proofs.Common.{ap, ◌∙◌, sym, refl}
+use Rattle.std.proofs.Common.{ap, ◌∙◌, refl}
 use Rattle.ipg_names.specs.declared.marks.Family.TheVariants.{Calls, Items, Sets}
 use Rattle.ipg_names.specs.Fault.{first_of}
 use Rattle.ipg_names.specs.Resolved.{term_in, terms_from}
