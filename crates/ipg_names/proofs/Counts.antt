@@ -50,7 +50,15 @@ layer (Expr-F.Not c) = rolled (Expr-F.Not c.0) c.1
 layer (Expr-F.Two o a b) = rolled (Expr-F.Two o a.0 b.0) (omega (arith, length-append (expr_names a.0) (expr_names b.0), a.1, b.1))
 layer (Expr-F.Both a b) = rolled (Expr-F.Both a.0 b.0) (omega (arith, length-append (expr_names a.0) (expr_names b.0), a.1, b.1))
 layer (Expr-F.Either a b) = rolled (Expr-F.Either a.0 b.0) (omega (arith, length-append (expr_names a.0) (expr_names b.0), a.1, b.1))
-layer (Expr-F.Cond c a b) = rolled (Expr-F.Cond c.0 a.0 b.0) (omega (arith, length-append (expr_names c.0) (expr_names a.0 ++ expr_names b.0), length-append (expr_names a.0) (expr_names b.0), c.1, a.1, b.1))
+layer (Expr-F.Cond c a b) = rolled (Expr-F.Cond c.0 a.0 b.0) (omega (
+  arith,
+  length-append (expr_names c.0)
+      (expr_names a.0 ++ expr_names b.0),
+  length-append (expr_names a.0) (expr_names b.0),
+  c.1,
+  a.1,
+  b.1,
+))
 
 pub expr_few : (e : Expr) → length (expr_names e) ≤ expr_count e
 expr_few = ind-Expr Few (λ x y is. subst (λ z. Few (roll-Expr z)) is (layer y))
@@ -88,7 +96,13 @@ term_few (Repeat var first last item from to) =
       expr_few to,
     )
 term_few (Many at item place) = omega (arith, place_few place)
-term_few (Pick at cases other) = omega (arith, length-append (flat_map case_names cases) (slot_names other), flat_few case_names case_count case_few cases, slot_few other)
+term_few (Pick at cases other) = omega (
+  arith,
+  length-append (flat_map case_names cases)
+      (slot_names other),
+  flat_few case_names case_count case_few cases,
+  slot_few other,
+)
 
 local_alt_few : (alt : Alt) → length (local_alt_names alt) ≤ local_alt_count alt
 local_alt_few alt = flat_few term_names term_count term_few (out-Alt alt).terms

@@ -40,17 +40,27 @@ module _ (P : Entry → Type 0) where
 
   locals_all : (r a : ℕ) (alts : List Alt) → AllByRecursion HasLocals alts → AllByRecursion P (locals_from r a alts)
   locals_all r a [] h = tt
-  locals_all r a (alt ∷ alts) h = all_append P (map (local r a alt) (out-Alt alt).locals) (locals_from r (a + 1) alts) (all_map P (local r a alt) (out-Alt alt).locals (h.0 r a)) (locals_all r (a + 1) alts h.1)
+  locals_all r a (alt ∷ alts) h = all_append P (map (local r a alt) (out-Alt alt).locals) (locals_from r (a + 1) alts) (all_map P (local r a alt)
+      (out-Alt alt).locals (h.0 r a)) (locals_all r (a + 1) alts h.1)
 
   pub roster_all : (r : ℕ) (rules : List Rule) → AllByRecursion HasFamily rules → AllByRecursion P (roster_from r rules)
   roster_all r [] h = tt
-  roster_all r (rule ∷ rules) h = all_append P (family_of r rule) (roster_from (r + length (family_of r rule)) rules) (h.0.head, locals_all r 0 (out-Rule rule).alts h.0.locals) (roster_all (r + length (family_of r rule)) rules h.1)
+  roster_all r (rule ∷ rules) h = all_append P (family_of r rule) (roster_from (r + length (family_of r rule)) rules) (
+    h.0.head,
+    locals_all r 0
+        (out-Rule rule).alts h.0.locals,
+  ) (roster_all (r + length (family_of r rule)) rules h.1)
 
 -- ---- the conditions of the call, for each rule
 
 fit_local : (alt : Alt) → IsReadableAlt alt → (r a : ℕ) → AllByRecursion (λ rule. IsFit (local r a alt rule)) (out-Alt alt).locals
 fit_local alt h r a = all_of_all IsReadableLocal (λ rule. IsFit (local r a alt rule))
-    (λ rule l. record { few = l.count.1; short = all_of_all IsReadableLocalAlt HasShortTerms (λ b m. m.terms.1) (out-Rule rule).alts l.each; outer = h.terms.1 }) (out-Alt alt).locals h.locals
+    (λ rule l. record {
+      few = l.count.1;
+      short = all_of_all IsReadableLocalAlt HasShortTerms (λ b m. m.terms.1) (out-Rule rule).alts l.each;
+      outer =
+          h.terms.1;
+    }) (out-Alt alt).locals h.locals
 
 fit_family : (rule : Rule) → IsReadableRule rule → HasFamily IsFit rule
 fit_family rule h = record {

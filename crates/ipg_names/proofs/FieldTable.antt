@@ -16,16 +16,19 @@ use Rattle.ipg_names.proofs.Spots.{spots_any}
 
 -- a table of an alternative's attributes is put after the others
 pub row_more : {S : Type 0} (row now : List (IndexMap (Bor (List ℕ)) Spots S)) (table : IndexMap (Bor (List ℕ)) Spots S) (alt : Alt) (f : List ℕ)
-    → now ≡ row ++ table ∷ [] → ((x : List ℕ) → look table x ≡ spots_of (has Sets x) (out-Alt alt).terms 0) → alts_set f now ≡ alts_set f row ++ alt_sets f alt ∷ []
+    → now ≡ row ++ table ∷ [] → ((x : List ℕ) → look table x ≡ spots_of (has Sets x) (out-Alt alt).terms 0)
+    → alts_set f now ≡ alts_set f row ++ alt_sets f alt ∷ []
 row_more row now table alt f put is =
     ap (alts_set f) put ∙ map_push (λ places. is_some (look places f)) row table
     ∙ ap (λ b. alts_set f row ++ b ∷ []) (ap is_some (is f) ∙ spots_any (has Sets f) (out-Alt alt).terms 0)
 
-pub rows_more : {S : Type 0} (rows now : List (List (IndexMap (Bor (List ℕ)) Spots S))) (row : List (IndexMap (Bor (List ℕ)) Spots S)) (f : List ℕ) (bs : List Bool)
+pub rows_more : {S : Type 0} (rows now : List (List (IndexMap (Bor (List ℕ)) Spots S))) (row : List (IndexMap (Bor (List ℕ)) Spots S)) (f : List ℕ)
+    (bs : List Bool)
     → now ≡ rows ++ row ∷ [] → alts_set f row ≡ bs → rows_set f now ≡ rows_set f rows ++ bs ∷ []
 rows_more rows now row f bs put is = ap (rows_set f) put ∙ map_push (alts_set f) rows row ∙ ap (λ b. rows_set f rows ++ b ∷ []) is
 
-pub rows_turn : (roster : List code.Entry) (i : ℕ) (e : code.Entry) (f : List ℕ) (made new all : List (List Bool)) → e ≡ get_or roster i e → i < length roster → new ≡ made ++ row_of f (entry_view e) ∷ []
+pub rows_turn : (roster : List code.Entry) (i : ℕ) (e : code.Entry) (f : List ℕ) (made new all : List (List Bool)) → e ≡ get_or roster i e
+    → i < length roster → new ≡ made ++ row_of f (entry_view e) ∷ []
     → made ++ map (row_of f) (entries_view (drop i roster)) ≡ all → new ++ map (row_of f) (entries_view (drop (i + 1) roster)) ≡ all
 rows_turn roster i e f made new all is within put so_far =
     let rest = drop (i + 1) roster in

@@ -18,10 +18,12 @@ not_before n p m q k r f g = grind (arith, nat_tests)
 
 three : (a b c : NameFault) (ba cb ca : Bool) → is_before b a ≡ ba → is_before c b ≡ cb → is_before c a ≡ ca
     → cond (is_before c (cond ba b a)) c (cond ba b a) ≡ cond (is_before (cond cb c b) a) (cond cb c b) a
-three a b c true true ca ba cb e = ap (λ x. cond x c b) cb ∙ sym (ap (λ x. cond x c a) (before_before (number_of c) (place_of c) (number_of b) (place_of b) (number_of a) (place_of a) cb ba))
+three a b c true true ca ba cb e = ap (λ x. cond x c b) cb
+    ∙ sym (ap (λ x. cond x c a) (before_before (number_of c) (place_of c) (number_of b) (place_of b) (number_of a) (place_of a) cb ba))
 three a b c true false ca ba cb e = ap (λ x. cond x c b) cb ∙ sym (ap (λ x. cond x b a) ba)
 three a b c false true ca ba cb e = refl
-three a b c false false ca ba cb e = ap (λ x. cond x c a) (not_before (number_of c) (place_of c) (number_of b) (place_of b) (number_of a) (place_of a) cb ba) ∙ sym (ap (λ x. cond x b a) ba)
+three a b c false false ca ba cb e = ap (λ x. cond x c a) (not_before (number_of c) (place_of c) (number_of b) (place_of b) (number_of a)
+    (place_of a) cb ba) ∙ sym (ap (λ x. cond x b a) ba)
 
 pub earlier_none : (a : Option NameFault) → earlier a None ≡ a
 earlier_none None = refl
@@ -57,8 +59,10 @@ join {a = a} {b = b} {xs = xs} {ys = ys} found f g e = record {
 }
 
 -- one turn of a loop
-pub turn : {A : Type 0} {found : Option NameFault} (f : A → List NameFault) (items : List A) (i : ℕ) (x : A) (old new all : Option NameFault) → x ≡ get_or items i x → i < length items
-    → First found (f x) → new ≡ earlier old found → earlier old (first_of (flat_map f (drop i items))) ≡ all → earlier new (first_of (flat_map f (drop (i + 1) items))) ≡ all
+pub turn : {A : Type 0} {found : Option NameFault} (f : A → List NameFault) (items : List A) (i : ℕ) (x : A) (old new all : Option NameFault)
+    → x ≡ get_or items i x → i < length items
+    → First found (f x) → new ≡ earlier old found → earlier old (first_of (flat_map f (drop i items))) ≡ all
+    → earlier new (first_of (flat_map f (drop (i + 1) items))) ≡ all
 turn {found = found} f items i x old new all is within first put so_far =
     let rest = flat_map f (drop (i + 1) items) in
     ap (λ n. earlier n (first_of rest)) put ∙ earlier_assoc old found (first_of rest)
@@ -67,5 +71,6 @@ turn {found = found} f items i x old new all is within first put so_far =
     ∙ ap (λ xs. earlier old (first_of (flat_map f xs))) (sym (at_item items i x is within))
     ∙ so_far
 
-pub done : {A : Type 0} (f : A → List NameFault) (items : List A) (i : ℕ) (old all : Option NameFault) → length items ≤ i → earlier old (first_of (flat_map f (drop i items))) ≡ all → old ≡ all
+pub done : {A : Type 0} (f : A → List NameFault) (items : List A) (i : ℕ) (old all : Option NameFault) → length items ≤ i
+    → earlier old (first_of (flat_map f (drop i items))) ≡ all → old ≡ all
 done f items i old all past so_far = sym (earlier_none old) ∙ sym (ap (λ xs. earlier old (first_of (flat_map f xs))) (drop_all i items past)) ∙ so_far

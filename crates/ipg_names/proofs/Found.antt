@@ -53,7 +53,8 @@ module _ {A : Type 0} (p : A → Bool) where
   first_found n [] v h = absurd (cc)
   first_found n (x ∷ xs) v h = by (p x) refl h (first_found (n + 1) xs v)
     where
-      by : (b : Bool) → p x ≡ b → cond b (Some n) (first_from p (n + 1) xs) ≡ Some v → (first_from p (n + 1) xs ≡ Some v → (k : ℕ) × (v ≡ n + 1 + k) × Found p xs k)
+      by : (b : Bool) → p x ≡ b → cond b (Some n) (first_from p (n + 1) xs) ≡ Some v → (first_from p (n + 1) xs ≡ Some v
+          → (k : ℕ) × (v ≡ n + 1 + k) × Found p xs k)
           → (k : ℕ) × (v ≡ n + k) × Found p (x ∷ xs) k
       by true e k f = (0, (let same : n ≡ v = cc in omega (arith, same)), record { item = x; is = refl; passes = e })
       by false e k f = let w = f k in (suc w.0, omega (arith, w.1), record { item = w.2.item; is = w.2.is; passes = w.2.passes })
@@ -65,7 +66,12 @@ module _ {A : Type 0} (p : A → Bool) where
       by : (b : Bool) → p x ≡ b → (cond (p x) (Some n) found ≡ Some v) ⊎ ((k : ℕ) × (v ≡ n + 1 + k) × Found p xs k)
           → (found ≡ Some v) ⊎ ((k : ℕ) × (v ≡ n + k) × Found p (x ∷ xs) k)
       by b e (inr w) = inr (suc w.0, omega (arith, w.1), record { item = w.2.item; is = w.2.is; passes = w.2.passes })
-      by true e (inl k) = inr (0, (let same : n ≡ v = here (sym (ap (λ c. cond c (Some n) found) e) ∙ k) in omega (arith, same)), record { item = x; is = refl; passes = e })
+      by true e (inl k) = inr (
+        0,
+        (let same : n ≡ v = here (sym (ap (λ c. cond c (Some n) found) e)
+            ∙ k) in omega (arith, same)),
+        record { item = x; is = refl; passes = e },
+      )
         where
           here : Some n ≡ Some v → n ≡ v
           here q = cc
@@ -129,7 +135,8 @@ module _ {A B : Type 0} (made_from : ℕ → List A → List B) (make : ℕ → 
   pub made_at : (n : ℕ) (xs : List A) (k : ℕ) (x : A) → slice_get xs k ≡ Some x → slice_get (made_from n xs) k ≡ Some (make (n + k) x)
   made_at n [] k x h = absurd (cc)
   made_at n (y ∷ xs) zero x h =
-      ap (λ l. slice_get l 0) (on n y xs) ∙ ap (λ z. Some (make n z)) (let same : y ≡ x = cc in same) ∙ ap (λ m. Some (make m x)) (let e : n ≡ n + 0 = omega arith in e)
+      ap (λ l. slice_get l 0) (on n y xs) ∙ ap (λ z. Some (make n z)) (let same : y ≡ x = cc in same)
+      ∙ ap (λ m. Some (make m x)) (let e : n ≡ n + 0 = omega arith in e)
   made_at n (y ∷ xs) (suc k) x h =
       ap (λ l. slice_get l (suc k)) (on n y xs) ∙ made_at (n + 1) xs k x h ∙ ap (λ m. Some (make m x)) (let e : n + 1 + k ≡ n + suc k = omega arith in e)
 

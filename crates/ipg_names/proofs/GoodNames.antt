@@ -50,14 +50,23 @@ get_append : (before rest : List Entry) (e : Entry) → slice_get (before ++ e �
 get_append [] rest e = refl
 get_append (x ∷ before) rest e = get_append before rest e
 
-held : (all : List Entry) (r a : ℕ) (rule : Rule) (alt : Alt) (l : Rule) → slice_get all r ≡ Some (global rule) → slice_get (out-Rule rule).alts a ≡ Some alt → HasHolder all (local r a alt l)
+held : (all : List Entry) (r a : ℕ) (rule : Rule) (alt : Alt) (l : Rule) → slice_get all r ≡ Some (global rule)
+    → slice_get (out-Rule rule).alts a ≡ Some alt → HasHolder all (local r a alt l)
 held all r a rule alt l is_rule is_alt = record {
   none = λ e. absurd (cc);
-  some = λ h e. subst (HolderAt all (out-Alt alt).terms) (let same : (r, a) ≡ h = cc in same) (record { rule = rule; alt = alt; is_rule = is_rule; is_alt = is_alt; outer_is = refl });
+  some = λ h e. subst (HolderAt all (out-Alt alt).terms) (let same : (r, a) ≡ h = cc in same) (record {
+    rule = rule;
+    alt = alt;
+    is_rule = is_rule;
+    is_alt =
+        is_alt;
+    outer_is = refl;
+  });
 }
 
 locals_held : (all : List Entry) (r : ℕ) (rule : Rule) → slice_get all r ≡ Some (global rule) → (a : ℕ) (alts : List Alt)
-    → ((k : ℕ) (alt : Alt) → slice_get alts k ≡ Some alt → slice_get (out-Rule rule).alts (a + k) ≡ Some alt) → AllByRecursion (HasHolder all) (locals_from r a alts)
+    → ((k : ℕ) (alt : Alt) → slice_get alts k ≡ Some alt → slice_get (out-Rule rule).alts (a + k) ≡ Some alt)
+    → AllByRecursion (HasHolder all) (locals_from r a alts)
 locals_held all r rule is a [] f = tt
 locals_held all r rule is a (alt ∷ alts) f =
     let here : slice_get (out-Rule rule).alts a ≡ Some alt = ap (slice_get (out-Rule rule).alts) (let e : a ≡ a + 0 = omega arith in e) ∙ f 0 alt refl in
@@ -69,17 +78,22 @@ locals_held all r rule is a (alt ∷ alts) f =
     each [] g = tt
     each (l ∷ ls) g = (g l, each ls g)
 
-roster_held : (all before : List Entry) (rules : List Rule) → before ++ roster_from (length before) rules ≡ all → AllByRecursion (HasHolder all) (roster_from (length before) rules)
+roster_held : (all before : List Entry) (rules : List Rule) → before ++ roster_from (length before) rules ≡ all
+    → AllByRecursion (HasHolder all) (roster_from (length before) rules)
 roster_held all before [] h = tt
 roster_held all before (rule ∷ rules) h =
     let r = length before in
     let family = family_of r rule in
     let rest = roster_from (r + length family) rules in
-    let is : slice_get all r ≡ Some (global rule) = ap (λ es. slice_get es r) (sym h) ∙ get_append before (locals_from r 0 (out-Rule rule).alts ++ rest) (global rule) in
+    let is : slice_get all r ≡ Some (global rule) = ap (λ es. slice_get es r) (sym h)
+    ∙ get_append before (locals_from r 0 (out-Rule rule).alts ++ rest) (global rule) in
     let counted : length (before ++ family) ≡ r + length family = length-append before family in
     let next = roster_held all (before ++ family) rules (ap (λ n. (before ++ family) ++ roster_from n rules) counted ∙ append_assoc before family rest ∙ h) in
-    all_append (HasHolder all) family rest
-    (record { none = λ e. refl; some = λ p e. absurd (cc) }, locals_held all r rule is 0 (out-Rule rule).alts (λ k x e. ap (slice_get (out-Rule rule).alts) (let z : 0 + k ≡ k = omega arith in z) ∙ e))
+    all_append (HasHolder all) family rest (
+      record { none = λ e. refl; some = λ p e. absurd (cc) },
+      locals_held all r rule is 0 (out-Rule rule).alts (λ k x e. ap (slice_get
+          (out-Rule rule).alts) (let z : 0 + k ≡ k = omega arith in z) ∙ e),
+    )
     (subst (λ n. AllByRecursion (HasHolder all) (roster_from n rules)) counted next)
 
 -- ---- no list is empty, and none is too long
@@ -90,9 +104,17 @@ pub record IsSolid (entry : Entry) : Type 0 where
 
 solid_family : (rule : Rule) → IsReadableRule rule → HasFamily IsSolid rule
 solid_family rule h = record {
-  head = record { alts = h.count; terms = all_of_all IsReadableAlt (λ alt. IsFilled max_terms (out-Alt alt).terms) (λ alt m. m.terms) (out-Rule rule).alts h.each };
+  head = record {
+    alts = h.count;
+    terms = all_of_all IsReadableAlt (λ alt. IsFilled max_terms (out-Alt alt).terms) (λ alt m. m.terms)
+        (out-Rule rule).alts h.each;
+  };
   locals = all_of_all IsReadableAlt (HasLocals IsSolid) (λ alt m r a. all_of_all IsReadableLocal (λ l. IsSolid (local r a alt l))
-      (λ l k. record { alts = k.count; terms = all_of_all IsReadableLocalAlt (λ b. IsFilled max_terms (out-Alt b).terms) (λ b n. n.terms) (out-Rule l).alts k.each }) (out-Alt alt).locals m.locals) (out-Rule rule).alts h.each;
+      (λ l k. record {
+        alts = k.count;
+        terms = all_of_all IsReadableLocalAlt (λ b. IsFilled max_terms (out-Alt b).terms) (λ b n. n.terms)
+            (out-Rule l).alts k.each;
+      }) (out-Alt alt).locals m.locals) (out-Rule rule).alts h.each;
 }
 
 -- ---- the names of the terms are among the names of attributes
@@ -111,8 +133,10 @@ names_family names rule h =
       head = all_of_all (λ alt. AllIn names (alt_names alt)) (λ alt. AllIn names (terms_names (out-Alt alt).terms))
           (λ alt m. all_left (IsIn names) (terms_names (out-Alt alt).terms) (flat_map local_names (out-Alt alt).locals) m) (out-Rule rule).alts alts;
       locals = all_of_all (λ alt. AllIn names (alt_names alt)) (HasLocals (AreIn names)) (λ alt m r a.
-          all_of_all (λ l. AllIn names (local_names l)) (λ l. AreIn names (local r a alt l)) (λ l k. all_flat names local_alt_names (out-Rule l).alts k) (out-Alt alt).locals
-          (all_flat names local_names (out-Alt alt).locals (all_right (IsIn names) (terms_names (out-Alt alt).terms) (flat_map local_names (out-Alt alt).locals) m))) (out-Rule rule).alts alts;
+          all_of_all (λ l. AllIn names (local_names l)) (λ l. AreIn names (local r a alt l)) (λ l k. all_flat names local_alt_names (out-Rule l).alts k)
+          (out-Alt alt).locals
+          (all_flat names local_names (out-Alt alt).locals (all_right (IsIn names) (terms_names (out-Alt alt).terms) (flat_map local_names
+          (out-Alt alt).locals) m))) (out-Rule rule).alts alts;
     }
 
 -- ---- slots, arrays, repetitions and branches
@@ -127,12 +151,25 @@ term_slots scope (term.Set head value) = omega arith
 term_slots scope (term.Test at cond) = omega arith
 term_slots scope (term.Repeat var first last item from to) = omega arith
 term_slots scope (term.Many at item place) = omega arith
-term_slots scope (term.Pick at cases other) = omega (arith, length-map (map (case_in scope) cases) bare_case, length-map cases (case_in scope), cases_many cases)
+term_slots scope (term.Pick at cases other) = omega (
+  arith,
+  length-map (map (case_in scope) cases) bare_case,
+  length-map cases
+      (case_in scope),
+  cases_many cases,
+)
 
 terms_slots : (scopes : ℕ → Scope) (u : ℕ) (ts : List written.Term) → sum_by slots_in (map bare_term (terms_from scopes u ts)) ≤ sum_by term_count ts
 terms_slots scopes u [] = omega arith
 terms_slots scopes u (t ∷ ts) =
-    omega (arith, sum_by-cons slots_in (bare_term (term_in (scopes u) t)) (map bare_term (terms_from scopes (u + 1) ts)), sum_by-cons term_count t ts, term_slots (scopes u) t, terms_slots scopes (u + 1) ts)
+    omega (
+      arith,
+      sum_by-cons slots_in (bare_term (term_in (scopes u) t)) (map bare_term (terms_from scopes
+          (u + 1) ts)),
+      sum_by-cons term_count t ts,
+      term_slots (scopes u) t,
+      terms_slots scopes (u + 1) ts,
+    )
 
 abbrev alt_slots : CoreAlt → ℕ
 alt_slots alt = sum_by slots_in alt.terms
@@ -143,7 +180,8 @@ rule_slots rule = sum_by alt_slots rule.alts
 abbrev entry_count : Entry → ℕ
 entry_count entry = sum_by local_alt_count (alts_of entry)
 
-alts_slots : (roster : List Entry) (names : NameList) (entry : Entry) (r a : ℕ) (alts : List Alt) → sum_by alt_slots (map bare_alt (alts_from roster names entry r a alts)) ≤ sum_by local_alt_count alts
+alts_slots : (roster : List Entry) (names : NameList) (entry : Entry) (r a : ℕ) (alts : List Alt)
+    → sum_by alt_slots (map bare_alt (alts_from roster names entry r a alts)) ≤ sum_by local_alt_count alts
 alts_slots roster names entry r a [] = omega arith
 alts_slots roster names entry r a (alt ∷ alts) =
     omega (
@@ -154,7 +192,8 @@ alts_slots roster names entry r a (alt ∷ alts) =
       alts_slots roster names entry r (a + 1) alts,
     )
 
-rules_slots : (roster : List Entry) (names : NameList) (r : ℕ) (es : List Entry) → sum_by rule_slots (map bare_rule (rules_from roster names r es)) ≤ sum_by entry_count es
+rules_slots : (roster : List Entry) (names : NameList) (r : ℕ) (es : List Entry)
+    → sum_by rule_slots (map bare_rule (rules_from roster names r es)) ≤ sum_by entry_count es
 rules_slots roster names r [] = omega arith
 rules_slots roster names r (e ∷ es) =
     omega (
@@ -171,7 +210,13 @@ sum_append f (x ∷ xs) ys = omega (arith, sum_by-cons f x (xs ++ ys), sum_by-co
 
 local_counts : (r a : ℕ) (alt : Alt) (ls : List Rule) → sum_by entry_count (map (local r a alt) ls) ≤ sum_by local_count ls
 local_counts r a alt [] = omega arith
-local_counts r a alt (l ∷ ls) = omega (arith, sum_by-cons entry_count (local r a alt l) (map (local r a alt) ls), sum_by-cons local_count l ls, local_counts r a alt ls)
+local_counts r a alt (l ∷ ls) = omega (
+  arith,
+  sum_by-cons entry_count (local r a alt l) (map
+      (local r a alt) ls),
+  sum_by-cons local_count l ls,
+  local_counts r a alt ls,
+)
 
 locals_counts : (r a : ℕ) (alts : List Alt) → sum_by local_alt_count alts + sum_by entry_count (locals_from r a alts) ≤ sum_by alt_count alts
 locals_counts r a [] = omega arith
@@ -206,7 +251,8 @@ module _ (roster : List Entry) (names : NameList) (none : rules_faults roster na
   B = whole roster names
 
   -- the alternative of that number, by the text
-  alt_there : (entry : Entry) (r a : ℕ) (alt : Alt) → slice_get (alts_of entry) a ≡ Some alt → slice_get (bare_rule (rule_in roster names r entry)).alts a ≡ Some (bare_alt (alt_in roster names entry (r, a) alt))
+  alt_there : (entry : Entry) (r a : ℕ) (alt : Alt) → slice_get (alts_of entry) a ≡ Some alt
+      → slice_get (bare_rule (rule_in roster names r entry)).alts a ≡ Some (bare_alt (alt_in roster names entry (r, a) alt))
   alt_there entry r a alt h =
       item_map bare_alt (alts_from roster names entry r 0 (alts_of entry)) a (alt_in roster names entry (r, 0 + a) alt)
       (made_at (alts_from roster names entry r) (λ n x. alt_in roster names entry (r, n) x) (λ n x xs. refl) (λ n. refl) 0 (alts_of entry) a alt h)
@@ -227,16 +273,26 @@ module _ (roster : List Entry) (names : NameList) (none : rules_faults roster na
       by None e = absurd (true≢false (sym h ∙ ap (λ ts. sets ts name) (has.none e)))
       by (Some p) e = held_by p (has.some p e)
 
-  good_alt : (entry : Entry) (at : ℕ × ℕ) (alt : Alt) → slice_get roster at.0 ≡ Some entry → slice_get (alts_of entry) at.1 ≡ Some alt → GoodAlt B at entry.holder (bare_alt (alt_in roster names entry at alt))
+  good_alt : (entry : Entry) (at : ℕ × ℕ) (alt : Alt) → slice_get roster at.0 ≡ Some entry → slice_get (alts_of entry) at.1 ≡ Some alt
+      → GoodAlt B at entry.holder (bare_alt (alt_in roster names entry at alt))
   good_alt entry at alt is_entry is_alt =
       let ts = (out-Alt alt).terms in
       let fit = all_get (λ b. IsFilled max_terms (out-Alt b).terms) (alts_of entry) at.1 alt (all_get IsSolid roster at.0 entry solid is_entry).terms is_alt in
-      let within = all_get (λ b. AllIn names (terms_names (out-Alt b).terms)) (alts_of entry) at.1 alt (all_get (AreIn names) roster at.0 entry are_in is_entry) is_alt in
+      let within = all_get (λ b. AllIn names (terms_names (out-Alt b).terms)) (alts_of entry) at.1 alt (all_get
+      (AreIn names) roster at.0 entry are_in is_entry) is_alt in
       let out = outer_sets entry (all_get (HasHolder roster) roster at.0 entry holders is_entry) in
-      let of_rule : alts_faults roster names entry (0 + at.0) 0 (alts_of entry) ≡ [] = faultless_at (rules_faults roster names) (λ n e. alts_faults roster names e n 0 (alts_of e)) (λ n x xs. refl) 0 roster at.0 entry none is_entry in
-      let of_alt : alt_faults roster names entry (0 + at.0, 0 + at.1) alt ≡ [] = faultless_at (alts_faults roster names entry (0 + at.0)) (λ n x. alt_faults roster names entry (0 + at.0, n) x) (λ n x xs. refl) 0 (alts_of entry) at.1 alt of_rule is_alt in
-      let clean : alt_faults roster names entry at alt ≡ [] = ap (λ p. alt_faults roster names entry p alt) (λ i. ((let z : at.0 ≡ 0 + at.0 = omega arith in z) i, (let z : at.1 ≡ 0 + at.1 = omega arith in z) i)) ∙ of_alt in
-      let count = length-map (terms_from (alt_scopes roster names entry at alt) 0 ts) bare_term ∙ made_length (terms_from (alt_scopes roster names entry at alt)) (λ n x. term_in (alt_scopes roster names entry at alt n) x) (λ n x xs. refl) (λ n. refl) 0 ts in
+      let of_rule : alts_faults roster names entry (0 + at.0) 0 (alts_of entry) ≡ [] = faultless_at (rules_faults roster names)
+      (λ n e. alts_faults roster names e n 0 (alts_of e)) (λ n x xs. refl) 0 roster at.0 entry none is_entry in
+      let of_alt : alt_faults roster names entry (0 + at.0, 0 + at.1) alt ≡ [] = faultless_at (alts_faults roster names entry (0 + at.0))
+      (λ n x. alt_faults roster names entry (0 + at.0, n) x) (λ n x xs. refl) 0 (alts_of entry) at.1 alt of_rule is_alt in
+      let clean : alt_faults roster names entry at alt ≡ [] = ap (λ p. alt_faults roster names entry p alt) (λ i. (
+        (let z : at.0 ≡ 0 + at.0 =
+            omega arith in z) i,
+        (let z : at.1 ≡ 0 + at.1 = omega arith in z) i,
+      )) ∙ of_alt in
+      let count = length-map (terms_from (alt_scopes roster names entry at alt) 0 ts) bare_term
+      ∙ made_length (terms_from (alt_scopes roster names entry at alt)) (λ n x. term_in (alt_scopes roster names entry at alt n) x) (λ n x xs. refl)
+      (λ n. refl) 0 ts in
       record {
         some = omega (arith, count, fit.0);
         limit = omega (arith, count, fit.1);
@@ -245,7 +301,8 @@ module _ (roster : List Entry) (names : NameList) (none : rules_faults roster na
       }
 
   -- a rule of the grammar, by the text
-  rule_of : (r : ℕ) (rule : CoreRule) → rule_at B r ≡ Some rule → (entry : Entry) × (slice_get roster r ≡ Some entry) × (rule ≡ bare_rule (rule_in roster names r entry))
+  rule_of : (r : ℕ) (rule : CoreRule) → rule_at B r ≡ Some rule
+      → (entry : Entry) × (slice_get roster r ≡ Some entry) × (rule ≡ bare_rule (rule_in roster names r entry))
   rule_of r rule h =
       let w = of_item bare_rule (rules_from roster names 0 roster) r rule h in
       let v = of_made (rules_from roster names) (rule_in roster names) (λ n x xs. refl) (λ n. refl) 0 roster r w.0 w.1 in
@@ -264,8 +321,10 @@ module _ (roster : List Entry) (names : NameList) (none : rules_faults roster na
       let w = rule_of at.0 rule a.is_rule in
       let there = subst (λ r. slice_get r.alts at.1 ≡ Some alt) w.2 a.is_alt in
       let v = of_item bare_alt (alts_from roster names w.0 at.0 0 (alts_of w.0)) at.1 alt there in
-      let x = of_made (alts_from roster names w.0 at.0) (λ n y. alt_in roster names w.0 (at.0, n) y) (λ n y xs. refl) (λ n. refl) 0 (alts_of w.0) at.1 v.0 v.1 in
-      let is : alt ≡ bare_alt (alt_in roster names w.0 at x.0) = v.2 ∙ ap bare_alt x.2 ∙ ap (λ m. bare_alt (alt_in roster names w.0 (at.0, m) x.0)) (let e : 0 + at.1 ≡ at.1 = omega arith in e) in
+      let x = of_made (alts_from roster names w.0 at.0) (λ n y. alt_in roster names w.0 (at.0, n) y) (λ n y xs. refl) (λ n. refl) 0
+      (alts_of w.0) at.1 v.0 v.1 in
+      let is : alt ≡ bare_alt (alt_in roster names w.0 at x.0) = v.2 ∙ ap bare_alt x.2
+      ∙ ap (λ m. bare_alt (alt_in roster names w.0 (at.0, m) x.0)) (let e : 0 + at.1 ≡ at.1 = omega arith in e) in
       subst (λ r. GoodAlt B at r.holder alt) (sym w.2) (subst (GoodAlt B at w.0.holder) (sym is) (good_alt w.0 at x.0 w.1 x.1))
 
   global_alt : (p : ℕ × ℕ) (outer : List written.Term) → HolderAt roster outer p → IsGlobalAlt B p
@@ -309,7 +368,8 @@ names_good g readable faultless =
     let none = (both_none (head_faults [] roster) (rules_faults roster names 0 roster) (first_none (faults_of g) faultless)).1 in
     let solid = roster_all IsSolid 0 g.rules (all_of_all IsReadableRule (HasFamily IsSolid) solid_family g.rules readable.each) in
     let holders = roster_held roster [] g.rules refl in
-    let are_in = roster_all (AreIn names) 0 g.rules (all_of_all (λ rule. AllIn names (rule_names rule)) (HasFamily (AreIn names)) (names_family names) g.rules (all_flat names rule_names g.rules (once_has all []))) in
+    let are_in = roster_all (AreIn names) 0 g.rules (all_of_all (λ rule. AllIn names (rule_names rule)) (HasFamily (AreIn names))
+    (names_family names) g.rules (all_flat names rule_names g.rules (once_has all []))) in
     let first = first_rule g.rules readable.some in
     record {
       first = (bare_rule (rule_in roster names 0 (global first.0)), rule_there roster names 0 (global first.0) first.1, refl);

@@ -52,7 +52,13 @@ pub record SetTerm (name : List ℕ) (t : written.Term) : Type 0 where
   pub same : name ≡ head.name
 
 set_term : (name : List ℕ) (t : written.Term) → has Sets name t ≡ true → SetTerm name t
-set_term name (term.Set head value) h = record { head = head; value = value; is = refl; same = same_bytes name head.name (sym (or_false (bytes_eq name head.name)) ∙ h) }
+set_term name (term.Set head value) h = record {
+  head = head;
+  value = value;
+  is = refl;
+  same = same_bytes name head.name (sym (or_false
+      (bytes_eq name head.name)) ∙ h);
+}
 set_term name (term.Slot s) h = absurd (true≢false (sym h))
 set_term name (term.Test at cond) h = absurd (true≢false (sym h))
 set_term name (term.Repeat var first last item from to) h = absurd (true≢false (sym h))
@@ -90,18 +96,21 @@ module _ (roster : List Entry) (names : NameList) where
 
   pub rule_there : (r : ℕ) (entry : Entry) → slice_get roster r ≡ Some entry → rule_at whole r ≡ Some (bare_rule (rule_in roster names r entry))
   rule_there r entry h =
-      item_map bare_rule (rules_from roster names 0 roster) r (rule_in roster names (0 + r) entry) (made_at (rules_from roster names) (rule_in roster names) (λ n x xs. refl) (λ n. refl) 0 roster r entry h)
+      item_map bare_rule (rules_from roster names 0 roster) r (rule_in roster names (0 + r) entry) (made_at (rules_from roster names)
+      (rule_in roster names) (λ n x xs. refl) (λ n. refl) 0 roster r entry h)
       ∙ ap (λ m. Some (bare_rule (rule_in roster names m entry))) (let e : 0 + r ≡ r = omega arith in e)
 
   pub rules_length : length (whole).rules ≡ length roster
-  rules_length = length-map (rules_from roster names 0 roster) bare_rule ∙ made_length (rules_from roster names) (rule_in roster names) (λ n x xs. refl) (λ n. refl) 0 roster
+  rules_length = length-map (rules_from roster names 0 roster) bare_rule
+      ∙ made_length (rules_from roster names) (rule_in roster names) (λ n x xs. refl) (λ n. refl) 0 roster
 
   may_call : (at : ℕ × ℕ) (holder other : Option (ℕ × ℕ)) → is_visible (home_of at holder) other ≡ true → MayCall at holder other
   may_call at holder None h = tt
   may_call at None (Some o) h = inl (same_pair o at h)
   may_call at (Some p) (Some o) h = inr (ap Some (sym (same_pair o p h)))
 
-  callable_rule : (at : ℕ × ℕ) (holder : Option (ℕ × ℕ)) (r : ℕ) → entry_visible (home_of at holder) (slice_get roster r) ≡ true → IsCallable whole at holder (Rule r)
+  callable_rule : (at : ℕ × ℕ) (holder : Option (ℕ × ℕ)) (r : ℕ) → entry_visible (home_of at holder) (slice_get roster r) ≡ true
+      → IsCallable whole at holder (Rule r)
   callable_rule at holder r h = by (slice_get roster r) refl h
     where
       by : (o : Option Entry) → slice_get roster r ≡ o → entry_visible (home_of at holder) o ≡ true → IsCallable whole at holder (Rule r)
@@ -112,13 +121,15 @@ module _ (roster : List Entry) (names : NameList) where
       )
 
   -- what a name means may be parsed, and is no terminal
-  pub callable : (at : ℕ × ℕ) (holder : Option (ℕ × ℕ)) (name : List ℕ) (s : Sym) → sym_named roster (home_of at holder) name ≡ Some s → IsCallable whole at holder s × IsItemSym s
+  pub callable : (at : ℕ × ℕ) (holder : Option (ℕ × ℕ)) (name : List ℕ) (s : Sym) → sym_named roster (home_of at holder) name ≡ Some s
+      → IsCallable whole at holder s × IsItemSym s
   callable at holder name s h = by (primitive_of name) h
     where
       is : (t : Sym) → t ≡ s → IsCallable whole at holder t × IsItemSym t → IsCallable whole at holder s × IsItemSym s
       is t e k = subst (λ x. IsCallable whole at holder x × IsItemSym x) e k
 
-      seen : (r : ℕ) (b : Bool) → entry_visible (home_of at holder) (slice_get roster r) ≡ b → cond b (Some (Rule r)) None ≡ Some s → IsCallable whole at holder s × IsItemSym s
+      seen : (r : ℕ) (b : Bool) → entry_visible (home_of at holder) (slice_get roster r) ≡ b → cond b (Some (Rule r)) None ≡ Some s
+          → IsCallable whole at holder s × IsItemSym s
       seen r true v e = is (Rule r) (let same : Rule r ≡ s = cc in same) (callable_rule at holder r v, tt)
       seen r false v e = absurd (cc)
 
@@ -126,16 +137,19 @@ module _ (roster : List Entry) (names : NameList) where
       rule None e = absurd (cc)
       rule (Some r) e = seen r (entry_visible (home_of at holder) (slice_get roster r)) refl e
 
-      by : (o : Option Primitive) → sym_else o (rule_sym roster (home_of at holder) (rule_named roster name)) ≡ Some s → IsCallable whole at holder s × IsItemSym s
+      by : (o : Option Primitive) → sym_else o (rule_sym roster (home_of at holder) (rule_named roster name)) ≡ Some s
+          → IsCallable whole at holder s × IsItemSym s
       by (Some prim) e = is (Prim prim) (let same : Prim prim ≡ s = cc in same) (tt, tt)
       by None e = rule (rule_named roster name) e
 
   -- the same of a symbol without a fault
   pub symbol_good : (at : ℕ × ℕ) (holder : Option (ℕ × ℕ)) (name : List ℕ) → is_some (sym_named roster (home_of at holder) name) ≡ true
-      → IsCallable whole at holder (sym_or_empty (sym_named roster (home_of at holder) name)) × IsItemSym (sym_or_empty (sym_named roster (home_of at holder) name))
+      → IsCallable whole at holder (sym_or_empty (sym_named roster (home_of at holder) name)) × IsItemSym (sym_or_empty (sym_named roster
+      (home_of at holder) name))
   symbol_good at holder name h = by (sym_named roster (home_of at holder) name) refl h
     where
-      by : (o : Option Sym) → sym_named roster (home_of at holder) name ≡ o → is_some o ≡ true → IsCallable whole at holder (sym_or_empty o) × IsItemSym (sym_or_empty o)
+      by : (o : Option Sym) → sym_named roster (home_of at holder) name ≡ o → is_some o ≡ true
+          → IsCallable whole at holder (sym_or_empty o) × IsItemSym (sym_or_empty o)
       by None e k = absurd (true≢false (sym k))
       by (Some s) e k = callable at holder name s e
 
@@ -150,7 +164,8 @@ module _ (roster : List Entry) (names : NameList) where
 
     pub term_there : (v : ℕ) (t : written.Term) → slice_get ts v ≡ Some t → slice_get bare_terms v ≡ Some (bare_term (term_in (scopes v) t))
     term_there v t h =
-        item_map bare_term (terms_from scopes 0 ts) v (term_in (scopes (0 + v)) t) (made_at (terms_from scopes) (λ n x. term_in (scopes n) x) (λ n x xs. refl) (λ n. refl) 0 ts v t h)
+        item_map bare_term (terms_from scopes 0 ts) v (term_in (scopes (0 + v)) t) (made_at (terms_from scopes) (λ n x. term_in (scopes n) x)
+        (λ n x xs. refl) (λ n. refl) 0 ts v t h)
         ∙ ap (λ m. Some (bare_term (term_in (scopes m) t))) (let e : 0 + v ≡ v = omega arith in e)
 
     -- an attribute that the text sets is set
@@ -158,8 +173,14 @@ module _ (roster : List Entry) (names : NameList) where
     sets_some name h =
         let w = any_found (has Sets name) ts h in
         let s = set_term name w.1.item w.1.passes in
-        let there = term_there w.0 w.1.item w.1.is ∙ ap (λ t. Some (bare_term (term_in (scopes w.0) t))) s.is in
-        (w.0, (expr_in (scopes w.0) s.value, there ∙ ap (λ n. Some (core.Set (position_or_len (bytes_eq n) names) (expr_in (scopes w.0) s.value))) (sym s.same)))
+        let there = term_there w.0 w.1.item w.1.is ∙ ap (λ t. Some (bare_term (term_in (scopes w.0) t))) s.is in (
+          w.0,
+          (
+            expr_in (scopes w.0) s.value,
+            there
+                ∙ ap (λ n. Some (core.Set (position_or_len (bytes_eq n) names) (expr_in (scopes w.0) s.value))) (sym s.same),
+          ),
+        )
 
   -- ---- each term is good
 
@@ -174,7 +195,8 @@ module _ (roster : List Entry) (names : NameList) where
 
   names_at : (ts : List written.Term) (u : ℕ) (t : written.Term) → AllIn names (terms_names ts) → slice_get ts u ≡ Some t → AllIn names (term_names t)
   names_at [] u t n h = absurd (cc)
-  names_at (x ∷ ts) zero t n h = subst (λ y. AllIn names (term_names y)) (let same : x ≡ t = cc in same) (all_left (IsIn names) (term_names x) (terms_names ts) n)
+  names_at (x ∷ ts) zero t n h = subst (λ y. AllIn names (term_names y)) (let same : x ≡ t = cc in same) (all_left (IsIn names) (term_names x)
+      (terms_names ts) n)
   names_at (x ∷ ts) (suc u) t n h = names_at ts u t (all_right (IsIn names) (term_names x) (terms_names ts) n) h
 
   module _ (at : ℕ × ℕ) (holder : Option (ℕ × ℕ)) (outer ts : List written.Term) (out : OuterSets holder outer) where
@@ -190,15 +212,19 @@ module _ (roster : List Entry) (names : NameList) where
       outer = λ name h. out name h;
       loop = tt;
       call = λ name v s e f.
-          let w = nearest_found (has Calls name) ts u v e in
-          (subst IsSlotOrSwitch (sym (term_there (home_of at holder) outer ts v w.item w.is)) (calls_term (here v) name w.item w.passes), sym_is at holder s (callable at holder name s f).0);
+          let w = nearest_found (has Calls name) ts u v e in (
+            subst IsSlotOrSwitch (sym (term_there (home_of at holder) outer ts v w.item w.is)) (calls_term
+                (here v) name w.item w.passes),
+            sym_is at holder s (callable at holder name s f).0,
+          );
       items = λ name v e.
           let w = nearest_found (has Items name) ts u v e in
           subst HasItems (sym (term_there (home_of at holder) outer ts v w.item w.is)) (items_term (here v) name w.item w.passes);
       field = λ name h. number_below names name h;
     }
 
-    item_symbol : (u : ℕ) (name : List ℕ) (place : ℕ) → rule_fault (here u) name place ≡ [] → IsCallable whole at holder (symbol (here u) name) × IsItemSym (symbol (here u) name)
+    item_symbol : (u : ℕ) (name : List ℕ) (place : ℕ) → rule_fault (here u) name place ≡ []
+        → IsCallable whole at holder (symbol (here u) name) × IsItemSym (symbol (here u) name)
     item_symbol u name place f = symbol_good at holder name (unless_none (is_some (sym_named roster (home_of at holder) name)) _ f)
 
     shape : (u : ℕ) (t : written.Term) → term_faults (here u) t ≡ [] → AllIn names (term_names t) → IsGoodShape whole (bare_term (term_in (here u) t))
@@ -210,7 +236,8 @@ module _ (roster : List Entry) (names : NameList) where
         let b = both_none (ends_faults (here u) first last) _ a.1 in
         let c = both_none (rule_fault (here u) item.name item.span.from) _ b.1 in
         (item_symbol u item.name item.span.from c.0).1
-    shape u (term.Many place item interval) f n = (item_symbol u item.name item.span.from (both_none (rule_fault (here u) item.name item.span.from) (place_faults (here u) interval) f).0).1
+    shape u (term.Many place item interval) f n = (item_symbol u item.name item.span.from (both_none (rule_fault (here u) item.name item.span.from)
+        (place_faults (here u) interval) f).0).1
     shape u (term.Pick place cases other) f n = tt
 
     what_good : (u : ℕ) (w : What) (place : ℕ) → what_fault (here u) w place ≡ [] → IsCallable whole at holder (what_symbol (here u) w)
@@ -220,7 +247,8 @@ module _ (roster : List Entry) (names : NameList) where
     slot_sym : (u : ℕ) (s : Slot) → slot_faults (here u) s ≡ [] → IsCallable whole at holder (what_symbol (here u) s.what)
     slot_sym u s f = what_good u s.what s.span.from (both_none (what_fault (here u) s.what s.span.from) (place_faults (here u) s.place) f).0
 
-    cases_syms : (u : ℕ) (cs : List Case) → flat_map (case_faults (here u)) cs ≡ [] → AllByRecursion (λ c. IsCallable whole at holder c.1.sym) (map bare_case (map (case_in (here u)) cs))
+    cases_syms : (u : ℕ) (cs : List Case) → flat_map (case_faults (here u)) cs ≡ []
+        → AllByRecursion (λ c. IsCallable whole at holder c.1.sym) (map bare_case (map (case_in (here u)) cs))
     cases_syms u [] f = tt
     cases_syms u (c ∷ cs) f =
         let none = both_none (case_faults (here u) c) (flat_map (case_faults (here u)) cs) f in
@@ -235,16 +263,19 @@ module _ (roster : List Entry) (names : NameList) where
         let b = both_none (ends_faults (here u) first last) _ a.1 in
         let c = both_none (rule_fault (here u) item.name item.span.from) _ b.1 in
         (item_symbol u item.name item.span.from c.0).0
-    syms u (term.Many place item interval) f = (item_symbol u item.name item.span.from (both_none (rule_fault (here u) item.name item.span.from) (place_faults (here u) interval) f).0).0
+    syms u (term.Many place item interval) f = (item_symbol u item.name item.span.from (both_none (rule_fault (here u) item.name item.span.from)
+        (place_faults (here u) interval) f).0).0
     syms u (term.Pick place cases other) f =
         let none = both_none (flat_map (case_faults (here u)) cases) (slot_faults (here u) other) f in
         (cases_syms u cases none.0, slot_sym u other none.1)
 
-    good_term : (u : ℕ) (t : written.Term) → slice_get ts u ≡ Some t → term_faults (here u) t ≡ [] → AllIn names (term_names t) → GoodTerm whole at holder those u (bare_term (term_in (here u) t))
+    good_term : (u : ℕ) (t : written.Term) → slice_get ts u ≡ Some t → term_faults (here u) t ≡ [] → AllIn names (term_names t)
+        → GoodTerm whole at holder those u (bare_term (term_in (here u) t))
     good_term u t is f n = record {
       shape = shape u t f n;
       syms = syms u t f;
-      mentions = term_good (here u) (IsGoodMention whole holder those u) (sound u) t (λ h. subst HasItems (sym (term_there (home_of at holder) outer ts u t is)) h) f n;
+      mentions = term_good (here u) (IsGoodMention whole holder those u) (sound u) t (λ h. subst HasItems (sym (term_there
+          (home_of at holder) outer ts u t is)) h) f n;
     }
 
     -- ---- no attribute is set twice
@@ -276,7 +307,8 @@ module _ (roster : List Entry) (names : NameList) where
         let same = number_apart names b.head.name a.head.name in_b.0 in_a.0 (sym b.number ∙ a.number) in
         let none = ap (λ m. term_faults (here m) (term.Set b.head b.value)) (let e : v ≡ 0 + v = omega arith in e)
         ∙ faultless_at (terms_faults here) (λ k x. term_faults (here k) x) (λ k x xs. refl) 0 ts v (term.Set b.head b.value) f b.is in
-        let before = any_at (has Sets b.head.name) (take v ts) u (term.Set a.head a.value) (take_get (has Sets b.head.name) v ts u (term.Set a.head a.value) lt a.is)
+        let before = any_at (has Sets b.head.name) (take v ts) u (term.Set a.head a.value) (take_get (has Sets b.head.name) v ts u
+        (term.Set a.head a.value) lt a.is)
         (or_false (bytes_eq b.head.name a.head.name) ∙ ap (bytes_eq b.head.name) (sym same) ∙ bytes_same b.head.name) in
         told (sets (take v ts) b.head.name) before (both_none (set_fault (here v) b.head) (expr_faults (here v) b.value) none).0
       where
@@ -294,12 +326,15 @@ module _ (roster : List Entry) (names : NameList) where
 
     -- ---- the alternative
 
-    pub terms_good : terms_faults here 0 ts ≡ [] → AllIn names (terms_names ts) → (u : ℕ) (x : CoreTerm) → slice_get those u ≡ Some x → GoodTerm whole at holder those u x
+    pub terms_good : terms_faults here 0 ts ≡ [] → AllIn names (terms_names ts) → (u : ℕ) (x : CoreTerm) → slice_get those u ≡ Some x
+        → GoodTerm whole at holder those u x
     terms_good f n u x h =
         let w = of_item bare_term (terms_from here 0 ts) u x h in
         let v = of_made (terms_from here) (λ n x. term_in (here n) x) (λ n x xs. refl) (λ n. refl) 0 ts u w.0 w.1 in
-        let is : x ≡ bare_term (term_in (here u) v.0) = w.2 ∙ ap bare_term v.2 ∙ ap (λ m. bare_term (term_in (here m) v.0)) (let e : 0 + u ≡ u = omega arith in e) in
-        let none = ap (λ m. term_faults (here m) v.0) (let e : u ≡ 0 + u = omega arith in e) ∙ faultless_at (terms_faults here) (λ k x. term_faults (here k) x) (λ k x xs. refl) 0 ts u v.0 f v.1 in
+        let is : x ≡ bare_term (term_in (here u) v.0) = w.2 ∙ ap bare_term v.2
+        ∙ ap (λ m. bare_term (term_in (here m) v.0)) (let e : 0 + u ≡ u = omega arith in e) in
+        let none = ap (λ m. term_faults (here m) v.0) (let e : u ≡ 0 + u = omega arith in e)
+        ∙ faultless_at (terms_faults here) (λ k x. term_faults (here k) x) (λ k x xs. refl) 0 ts u v.0 f v.1 in
         subst (GoodTerm whole at holder those u) (sym is) (good_term u v.0 v.1 none (names_at ts u v.0 n v.1))
 
     pub sets_once : terms_faults here 0 ts ≡ [] → AllIn names (terms_names ts) → (attr u v : ℕ) → SetsAt those u attr → SetsAt those v attr → u ≡ v

@@ -22,14 +22,16 @@ is_none None h = refl
 is_none (Some a) h = absurd (cc)
 
 -- a new name, which isn't there yet
-pub added : (f : List ℕ → Option ℕ) (name x : List ℕ) (r : ℕ) → f name ≡ None → cond (bytes_eq name x) (Some r) (f x) ≡ or_else (f x) (cond (bytes_eq name x) (Some r) None)
+pub added : (f : List ℕ → Option ℕ) (name x : List ℕ) (r : ℕ) → f name ≡ None
+    → cond (bytes_eq name x) (Some r) (f x) ≡ or_else (f x) (cond (bytes_eq name x) (Some r) None)
 added f name x r none = by (bytes_eq name x) refl
   where
     by : (b : Bool) → bytes_eq name x ≡ b → cond b (Some r) (f x) ≡ or_else (f x) (cond b (Some r) None)
     by true h = sym (ap (λ o. or_else o (Some r)) (ap f (sym (same_bytes name x h)) ∙ none))
     by false h = sym (else_none (is_named x) (f x))
 
-view_more : (roster : List code.Entry) (r : ℕ) (e : code.Entry) → e ≡ get_or roster r e → r < length roster → entries_view (take (r + 1) roster) ≡ entries_view (take r roster) ++ entry_view e ∷ []
+view_more : (roster : List code.Entry) (r : ℕ) (e : code.Entry) → e ≡ get_or roster r e → r < length roster
+    → entries_view (take (r + 1) roster) ≡ entries_view (take r roster) ++ entry_view e ∷ []
 view_more roster r e is within = ap entries_view (take_item roster r e is within) ∙ map_push entry_view (take r roster) e
 
 view_length : (roster : List code.Entry) (r : ℕ) → r < length roster → length (entries_view (take r roster)) ≡ r
@@ -50,7 +52,8 @@ known : (es : List Entry) (name : List ℕ) → is_some (rule_named es name) ≡
 known es name = found_any (is_named name) 0 es ∙ sym (any_map (bytes_eq name) name_of es)
 
 pub faults_turn : (roster : List code.Entry) (r : ℕ) (e : code.Entry) (old found all : Option NameFault) → e ≡ get_or roster r e → r < length roster
-    → found ≡ cond (is_some (rule_named (entries_view (take r roster)) (entry_name e)) || is_some (primitive_of (entry_name e))) (Some (DuplicateRule (entry_at e))) None
+    → found ≡ cond (is_some (rule_named (entries_view (take r roster)) (entry_name e)) || is_some (primitive_of (entry_name e))) (Some (DuplicateRule
+    (entry_at e))) None
     → earlier old (first_of (head_faults (map name_of (entries_view (take r roster))) (entries_view (drop r roster)))) ≡ all
     → earlier (earlier old found) (first_of (head_faults (map name_of (entries_view (take (r + 1) roster))) (entries_view (drop (r + 1) roster)))) ≡ all
 faults_turn roster r e old found all is within head so_far =
@@ -59,10 +62,12 @@ faults_turn roster r e old found all is within head so_far =
     let rest = entries_view (drop (r + 1) roster) in
     let name = entry_name e in
     let test = list_any (bytes_eq name) names || is_some (primitive_of name) in
-    let more : map name_of (entries_view (take (r + 1) roster)) ≡ names ++ name ∷ [] = ap (map name_of) (view_more roster r e is within) ∙ map_push name_of es (entry_view e) in
+    let more : map name_of (entries_view (take (r + 1) roster)) ≡ names ++ name ∷ [] = ap (map name_of) (view_more roster r e is within)
+    ∙ map_push name_of es (entry_view e) in
     let later = first_of (head_faults (names ++ name ∷ []) rest) in
     let is_found : found ≡ first_of (when test (DuplicateRule (entry_at e))) =
-    head ∙ ap (λ b. cond (b || is_some (primitive_of name)) (Some (DuplicateRule (entry_at e))) None) (known es name) ∙ sym (firsts.first_when test (DuplicateRule (entry_at e))) in
+    head ∙ ap (λ b. cond (b || is_some (primitive_of name)) (Some (DuplicateRule (entry_at e))) None) (known es name)
+    ∙ sym (firsts.first_when test (DuplicateRule (entry_at e))) in
     ap (λ ns. earlier (earlier old found) (first_of (head_faults ns rest))) more
     ∙ firsts.earlier_assoc old found later
     ∙ ap (λ f. earlier old (earlier f later)) is_found

@@ -34,7 +34,8 @@ pub pieces : {A : Type 0} (old piece new rest whole all : List A) → new ≡ ol
 pieces old piece new rest whole all put splits so_far =
     ap (λ n. n ++ rest) put ∙ append_assoc old piece rest ∙ ap (λ t. old ++ t) (sym splits) ∙ so_far
 
-pub all_map_at : {A B : Type 0} (P : B → Type 0) (f : A → B) (xs : List A) (i : ℕ) (x : A) → AllByRecursion P (map f xs) → x ≡ get_or xs i x → i < length xs → P (f x)
+pub all_map_at : {A B : Type 0} (P : B → Type 0) (f : A → B) (xs : List A) (i : ℕ) (x : A) → AllByRecursion P (map f xs) → x ≡ get_or xs i x
+    → i < length xs → P (f x)
 all_map_at P f [] i x h is within = absurd (omega arith)
 all_map_at P f (y ∷ xs) zero x h is within = subst (λ z. P (f z)) (sym is) h.0
 all_map_at P f (y ∷ xs) (suc i) x h is within = all_map_at P f xs i x h.1 is (omega arith)
@@ -47,7 +48,8 @@ any_map p f (x ∷ xs) = ap (λ b. p (f x) || b) (any_map p f xs)
 pub map_turn : {A B : Type 0} (f : A → B) (xs : List A) (i : ℕ) (x : A) (made new all : List B) → x ≡ get_or xs i x → i < length xs → new ≡ made ++ f x ∷ []
     → made ++ map f (drop i xs) ≡ all → new ++ map f (drop (i + 1) xs) ≡ all
 map_turn f xs i x made new all is within put so_far =
-    pieces made (f x ∷ []) new (map f (drop (i + 1) xs)) (map f (x ∷ drop (i + 1) xs)) all put refl (ap (λ ys. made ++ map f ys) (sym (at_item xs i x is within)) ∙ so_far)
+    pieces made (f x ∷ []) new (map f (drop (i + 1) xs)) (map f (x ∷ drop (i + 1) xs)) all put refl (ap (λ ys. made ++ map f ys) (sym
+    (at_item xs i x is within)) ∙ so_far)
 
 pub map_done : {A B : Type 0} (f : A → B) (xs : List A) (i : ℕ) (made all : List B) → length xs ≤ i → made ++ map f (drop i xs) ≡ all → made ≡ all
 map_done f xs i made all past so_far = sym (append-nil made) ∙ sym (ap (λ t. made ++ map f t) (drop_all i xs past)) ∙ so_far

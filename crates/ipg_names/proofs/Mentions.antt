@@ -129,7 +129,11 @@ module _ (scope : Scope) (Q : Mention → Type 0) (sound : IsSound scope Q) wher
     where
       by : (o : Option ℕ) → scope.items name ≡ o → is_some o ≡ true → All (mentions (item_at o e (field_in scope f)))
       by None d p = absurd (true≢false (sym p))
-      by (Some u) d p = same _ _ (at_item u e (field_in scope f)) (sound.items name u d, all_append Q (mentions e) (field_mentions (field_in scope f)) m (field_good f n))
+      by (Some u) d p = same _ _ (at_item u e (field_in scope f)) (
+        sound.items name u d,
+        all_append Q (mentions e) (field_mentions (field_in scope f)) m
+            (field_good f n),
+      )
 
   abbrev Good : Expr → Type 0
   Good e = expr_faults scope e ≡ [] → AllIn scope.names (expr_names e) → All (mentions (expr_in scope e))
@@ -140,16 +144,19 @@ module _ (scope : Scope) (Q : Mention → Type 0) (sound : IsSound scope Q) wher
   abbrev whole : Child → Expr
   whole c = c.0
 
-  rolled : (x : Expr-F Expr) → (faults_step scope (map-Expr Expr Faults (expr_faults scope) x) ≡ [] → AllIn scope.names (names_step (map-Expr Expr NameList expr_names x))
+  rolled : (x : Expr-F Expr) → (faults_step scope (map-Expr Expr Faults (expr_faults scope) x) ≡ []
+      → AllIn scope.names (names_step (map-Expr Expr NameList expr_names x))
       → All (mentions (resolved_step scope (map-Expr Expr CoreExpr (expr_in scope) x)))) → Good (roll-Expr x)
   rolled x h f n =
       same _ _ (ap mentions (fold-roll-Expr CoreExpr (resolved_step scope) x))
       (h (sym (fold-roll-Expr Faults (faults_step scope) x) ∙ f) (subst (AllIn scope.names) (fold-roll-Expr NameList names_step x) n))
 
-  pair : (a b : Expr) → Good a → Good b → expr_faults scope a ++ expr_faults scope b ≡ [] → AllIn scope.names (expr_names a ++ expr_names b) → All (mentions (expr_in scope a) ++ mentions (expr_in scope b))
+  pair : (a b : Expr) → Good a → Good b → expr_faults scope a ++ expr_faults scope b ≡ [] → AllIn scope.names (expr_names a ++ expr_names b)
+      → All (mentions (expr_in scope a) ++ mentions (expr_in scope b))
   pair a b ga gb f n =
       let none = both_none (expr_faults scope a) (expr_faults scope b) f in
-      all_append Q (mentions (expr_in scope a)) (mentions (expr_in scope b)) (ga none.0 (all_left (IsIn scope.names) (expr_names a) (expr_names b) n)) (gb none.1 (all_right (IsIn scope.names) (expr_names a) (expr_names b) n))
+      all_append Q (mentions (expr_in scope a)) (mentions (expr_in scope b)) (ga none.0 (all_left (IsIn scope.names) (expr_names a) (expr_names b) n))
+      (gb none.1 (all_right (IsIn scope.names) (expr_names a) (expr_names b) n))
 
   layer : (y : Expr-F Child) → Good (roll-Expr (map-Expr Child Expr whole y))
   layer (Expr-F.Num n) = rolled (Expr-F.Num n) (λ f m. same _ _ (at_num n) tt)
@@ -186,10 +193,12 @@ module _ (scope : Scope) (Q : Mention → Type 0) (sound : IsSound scope Q) wher
   nothing : All (mentions (Num (pos 0)))
   nothing = same _ _ (at_num (pos 0)) tt
 
-  ends_good : (l r : Expr) → ends_faults scope l r ≡ [] → AllIn scope.names (expr_names l ++ expr_names r) → All (mentions (expr_in scope l) ++ mentions (expr_in scope r))
+  ends_good : (l r : Expr) → ends_faults scope l r ≡ [] → AllIn scope.names (expr_names l ++ expr_names r)
+      → All (mentions (expr_in scope l) ++ mentions (expr_in scope r))
   ends_good l r f n = pair l r (expr_good l) (expr_good r) f n
 
-  place_good : (p : Place) → place_faults scope p ≡ [] → AllIn scope.names (place_names p) → All (mentions (bare_from (place_in scope p)) ++ mentions (bare_to (place_in scope p)))
+  place_good : (p : Place) → place_faults scope p ≡ [] → AllIn scope.names (place_names p)
+      → All (mentions (bare_from (place_in scope p)) ++ mentions (bare_to (place_in scope p)))
   place_good place.Open f n = all_append Q (mentions (Num (pos 0))) (mentions Eoi) nothing (same _ _ at_eoi tt)
   place_good (place.Length e) f n = all_append Q (mentions (Num (pos 0))) (mentions (expr_in scope e)) nothing (expr_good e f n)
   place_good (place.Ends l r) f n = ends_good l r f n
@@ -201,14 +210,17 @@ module _ (scope : Scope) (Q : Mention → Type 0) (sound : IsSound scope Q) wher
   case_good c f n =
       let none = both_none (expr_faults scope c.cond) (slot_faults scope c.slot) f in
       all_append Q (mentions (expr_in scope c.cond)) (slot_mentions (bare_slot (slot_in scope c.slot)))
-      (expr_good c.cond none.0 (all_left (IsIn scope.names) (expr_names c.cond) (slot_names c.slot) n)) (slot_good c.slot none.1 (all_right (IsIn scope.names) (expr_names c.cond) (slot_names c.slot) n))
+      (expr_good c.cond none.0 (all_left (IsIn scope.names) (expr_names c.cond) (slot_names c.slot) n)) (slot_good c.slot none.1 (all_right
+      (IsIn scope.names) (expr_names c.cond) (slot_names c.slot) n))
 
-  cases_good : (cs : List Case) → flat_map (case_faults scope) cs ≡ [] → AllIn scope.names (flat_map case_names cs) → All (flat_map case_mentions (map bare_case (map (case_in scope) cs)))
+  cases_good : (cs : List Case) → flat_map (case_faults scope) cs ≡ [] → AllIn scope.names (flat_map case_names cs)
+      → All (flat_map case_mentions (map bare_case (map (case_in scope) cs)))
   cases_good [] f n = tt
   cases_good (c ∷ cs) f n =
       let none = both_none (case_faults scope c) (flat_map (case_faults scope) cs) f in
       all_append Q (case_mentions (bare_case (case_in scope c))) (flat_map case_mentions (map bare_case (map (case_in scope) cs)))
-      (case_good c none.0 (all_left (IsIn scope.names) (case_names c) (flat_map case_names cs) n)) (cases_good cs none.1 (all_right (IsIn scope.names) (case_names c) (flat_map case_names cs) n))
+      (case_good c none.0 (all_left (IsIn scope.names) (case_names c) (flat_map case_names cs) n)) (cases_good cs none.1 (all_right (IsIn scope.names)
+      (case_names c) (flat_map case_names cs) n))
 
 -- the item interval of an array
 sound_inside : (scope : Scope) (Q : Mention → Type 0) → IsSound scope Q → (var item : List ℕ) → Q (ItemOf scope.term) → IsSound (inside scope var item) Q
@@ -225,7 +237,8 @@ sound_inside scope Q sound var item own = record {
     by name u true e = subst (λ n. Q (ItemOf n)) (let same : scope.term ≡ u = cc in same) own
     by name u false e = sound.items name u e
 
-pub term_good : (scope : Scope) (Q : Mention → Type 0) → IsSound scope Q → (t : written.Term) → (HasItems (Some (bare_term (term_in scope t))) → Q (ItemOf scope.term))
+pub term_good : (scope : Scope) (Q : Mention → Type 0) → IsSound scope Q → (t : written.Term) → (HasItems (Some (bare_term (term_in scope t)))
+    → Q (ItemOf scope.term))
     → term_faults scope t ≡ [] → AllIn scope.names (term_names t) → AllByRecursion Q (term_mentions (bare_term (term_in scope t)))
 term_good scope Q sound (term.Slot s) own f n = slot_good scope Q sound s f n
 term_good scope Q sound (term.Set name value) own f n = expr_good scope Q sound value (both_none (set_fault scope name) (expr_faults scope value) f).1 n.1
@@ -237,10 +250,14 @@ term_good scope Q sound (term.Repeat var first last item from to) own f n =
     let c = both_none (rule_fault scope item.name item.span.from) _ b.1 in
     let bounds = both_none (expr_faults scope first) (expr_faults scope last) b.0 in
     let rest = all_right (IsIn scope.names) (expr_names first) (expr_names last ++ (expr_names from ++ expr_names to)) n in
-    all_append Q (mentions (expr_in scope first)) _ (expr_good scope Q sound first bounds.0 (all_left (IsIn scope.names) (expr_names first) (expr_names last ++ (expr_names from ++ expr_names to)) n))
-    (all_append Q (mentions (expr_in scope last)) _ (expr_good scope Q sound last bounds.1 (all_left (IsIn scope.names) (expr_names last) (expr_names from ++ expr_names to) rest))
-    (ends_good s Q (sound_inside scope Q sound var.name item.name (own tt)) from to c.1 (all_right (IsIn scope.names) (expr_names last) (expr_names from ++ expr_names to) rest)))
-term_good scope Q sound (term.Many at item place) own f n = place_good scope Q sound place (both_none (rule_fault scope item.name item.span.from) (place_faults scope place) f).1 n
+    all_append Q (mentions (expr_in scope first)) _ (expr_good scope Q sound first bounds.0 (all_left (IsIn scope.names) (expr_names first)
+    (expr_names last ++ (expr_names from ++ expr_names to)) n))
+    (all_append Q (mentions (expr_in scope last)) _ (expr_good scope Q sound last bounds.1 (all_left (IsIn scope.names) (expr_names last)
+    (expr_names from ++ expr_names to) rest))
+    (ends_good s Q (sound_inside scope Q sound var.name item.name (own tt)) from to c.1 (all_right (IsIn scope.names) (expr_names last)
+    (expr_names from ++ expr_names to) rest)))
+term_good scope Q sound (term.Many at item place) own f n = place_good scope Q sound place (both_none (rule_fault scope item.name item.span.from)
+    (place_faults scope place) f).1 n
 term_good scope Q sound (term.Pick at cases other) own f n =
     let none = both_none (flat_map (case_faults scope) cases) (slot_faults scope other) f in
     all_append Q (flat_map case_mentions (map bare_case (map (case_in scope) cases))) (slot_mentions (bare_slot (slot_in scope other)))

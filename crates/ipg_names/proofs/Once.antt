@@ -23,8 +23,10 @@ pub shown_more : (keys : List (Bor (List ℕ))) (key : Bor (List ℕ)) → map (
 shown_more [] key = refl
 shown_more (k ∷ keys) key = ap (λ names. k.now ∷ names) (shown_more keys key)
 
-pub shown_once : (keys : List (Bor (List ℕ))) (key : Bor (List ℕ)) → names_of (cond (list_any (λ name. bytes_eq key.now name.now) keys) keys (keys ++ key ∷ [])) ≡ once (names_of keys) (key.now ∷ [])
-shown_once keys key = by (list_any (λ name. bytes_eq key.now name.now) keys) ∙ ap (λ b. cond b (names_of keys) (names_of keys ++ key.now ∷ [])) (any_shown (bytes_eq key.now) keys)
+pub shown_once : (keys : List (Bor (List ℕ))) (key : Bor (List ℕ))
+    → names_of (cond (list_any (λ name. bytes_eq key.now name.now) keys) keys (keys ++ key ∷ [])) ≡ once (names_of keys) (key.now ∷ [])
+shown_once keys key = by (list_any (λ name. bytes_eq key.now name.now) keys)
+    ∙ ap (λ b. cond b (names_of keys) (names_of keys ++ key.now ∷ [])) (any_shown (bytes_eq key.now) keys)
   where
     by : (b : Bool) → names_of (cond b keys (keys ++ key ∷ [])) ≡ cond b (names_of keys) (names_of keys ++ key.now ∷ [])
     by true = refl
@@ -38,7 +40,8 @@ pub then : {old mid new xs ys : NameList} → Put old xs mid → Put mid ys new 
 then {old = old} {xs = xs} {ys = ys} first next = record { is = next.is ∙ ap (λ m. once m ys) first.is ∙ sym (once_append old xs ys) }
 
 -- the same where the last piece may be refused
-pub finally : {T E : Type 0} {old mid xs : NameList} (r : Result T E) (new ys all : NameList) → Put old xs mid → xs ++ ys ≡ all → OnOk r (new ≡ once mid ys) → OnOk r (new ≡ once old all)
+pub finally : {T E : Type 0} {old mid xs : NameList} (r : Result T E) (new ys all : NameList) → Put old xs mid → xs ++ ys ≡ all
+    → OnOk r (new ≡ once mid ys) → OnOk r (new ≡ once old all)
 finally {old = old} {xs = xs} r new ys all first whole next =
     on_ok_weaker r (λ e. e ∙ ap (λ m. once m ys) first.is ∙ sym (once_append old xs ys) ∙ ap (once old) whole) next
 

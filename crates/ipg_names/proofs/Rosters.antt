@@ -12,7 +12,14 @@ locals_length : (r a : ℕ) (alts : List Alt) → length (locals_from r a alts) 
 locals_length r a [] = refl
 locals_length r a (alt ∷ alts) =
     let rest = locals_length r (a + 1) alts in
-    omega (arith, rest, sum_by-cons locals_in alt alts, length-map (out-Alt alt).locals (local r a alt), length-append (map (local r a alt) (out-Alt alt).locals) (locals_from r (a + 1) alts))
+    omega (
+      arith,
+      rest,
+      sum_by-cons locals_in alt alts,
+      length-map (out-Alt alt).locals (local r a alt),
+      length-append (map (local r a alt)
+          (out-Alt alt).locals) (locals_from r (a + 1) alts),
+    )
 
 pub family_length : (r : ℕ) (rule : Rule) → length (family_of r rule) ≡ rules_in rule
 family_length r rule = let h = locals_length r 0 (out-Rule rule).alts in omega (arith, h)
@@ -26,7 +33,8 @@ roster_length r (rule ∷ rules) =
 
 -- one rule more
 pub roster_turn : (rules : List Rule) (i : ℕ) (rule : Rule) (old new all : List Entry) → rule ≡ get_or rules i rule → i < length rules
-    → new ≡ old ++ family_of (length old) rule → old ++ roster_from (length old) (drop i rules) ≡ all → new ++ roster_from (length new) (drop (i + 1) rules) ≡ all
+    → new ≡ old ++ family_of (length old) rule → old ++ roster_from (length old) (drop i rules) ≡ all
+    → new ++ roster_from (length new) (drop (i + 1) rules) ≡ all
 roster_turn rules i rule old new all is within put so_far =
     let family = family_of (length old) rule in
     let rest = drop (i + 1) rules in
@@ -35,7 +43,8 @@ roster_turn rules i rule old new all is within put so_far =
     (ap (λ n. family ++ roster_from n rest) (sym counted)) (ap (λ rs. old ++ roster_from (length old) rs) (sym (at_item rules i rule is within)) ∙ so_far)
 
 pub locals_turn : (r : ℕ) (alts : List Alt) (a : ℕ) (alt : Alt) (old new all : List Entry) → alt ≡ get_or alts a alt → a < length alts
-    → new ≡ old ++ map (local r a alt) (out-Alt alt).locals → old ++ locals_from r a (drop a alts) ≡ all → new ++ locals_from r (a + 1) (drop (a + 1) alts) ≡ all
+    → new ≡ old ++ map (local r a alt) (out-Alt alt).locals → old ++ locals_from r a (drop a alts) ≡ all
+    → new ++ locals_from r (a + 1) (drop (a + 1) alts) ≡ all
 locals_turn r alts a alt old new all is within put so_far =
     pieces old _ new (locals_from r (a + 1) (drop (a + 1) alts)) (locals_from r a (alt ∷ drop (a + 1) alts)) all put refl
     (ap (λ xs. old ++ locals_from r a xs) (sym (at_item alts a alt is within)) ∙ so_far)

@@ -42,7 +42,8 @@ rule_same home roster (Some r) = ap (λ b. cond b (Some (Rule r)) None) (visible
 sym_same : (site : Site) → AreTables site.tables → (name : List ℕ)
     → sym_else (primitive_of name) (rule_callee site name) ≡ sym_named (entries_view site.tables.roster.now) site.home name
 sym_same site is name =
-    ap (λ o. sym_else (primitive_of name) o) (ap (rule_if site.home site.tables.roster.now) (is.numbers name) ∙ rule_same site.home site.tables.roster.now (rule_named (entries_view site.tables.roster.now) name))
+    ap (λ o. sym_else (primitive_of name) o) (ap (rule_if site.home site.tables.roster.now) (is.numbers name)
+    ∙ rule_same site.home site.tables.roster.now (rule_named (entries_view site.tables.roster.now) name))
 
 -- ---- attributes of rules
 
@@ -123,7 +124,8 @@ scope_is site outer terms is marks out = λ i. record {
   var = None;
 }
 
-pub scope_here : (tables : Tables) (entry : code.Entry) (at : ℕ × ℕ) (terms : List Term) (site : Site) → site.tables ≡ tables → site.home ≡ home_of at entry.holder
+pub scope_here : (tables : Tables) (entry : code.Entry) (at : ℕ × ℕ) (terms : List Term) (site : Site) → site.tables ≡ tables
+    → site.home ≡ home_of at entry.holder
     → AreTables tables → AreMarks terms site.term site.marks.now → IsOuter entry.outer.now site.outer.now
     → site_scope site ≡ scopes_at tables entry at terms site.term
 scope_here tables entry at terms site same home are marks out =

@@ -48,7 +48,13 @@ layer (Expr-F.Num n) = rolled (Expr-F.Num n) (omega arith)
 layer Expr-F.Eoi = rolled Expr-F.Eoi (omega arith)
 layer (Expr-F.Id i) = rolled (Expr-F.Id i) (omega arith)
 layer (Expr-F.Part i f) = rolled (Expr-F.Part i f) (omega (arith, field_size f))
-layer (Expr-F.Item i c f) = rolled (Expr-F.Item i c.0 f) (omega (arith, length-append (expr_tokens c.0) (Symbol (codes ")") ∷ Symbol (codes ".") ∷ field_tokens f), field_size f, c.1))
+layer (Expr-F.Item i c f) = rolled (Expr-F.Item i c.0 f) (omega (
+  arith,
+  length-append (expr_tokens c.0) (Symbol (codes ")") ∷ Symbol
+      (codes ".") ∷ field_tokens f),
+  field_size f,
+  c.1,
+))
 layer (Expr-F.Group c) = rolled (Expr-F.Group c.0) (omega (arith, length-append (expr_tokens c.0) (Symbol (codes ")") ∷ []), c.1))
 layer (Expr-F.Neg c) = rolled (Expr-F.Neg c.0) (omega (arith, c.1))
 layer (Expr-F.Not c) = rolled (Expr-F.Not c.0) (omega (arith, c.1))
@@ -73,7 +79,14 @@ place_size : (p : Place) → place_count p ≤ length (place_tokens p)
 place_size Open = omega arith
 place_size (Length e) = omega (arith, length-append (expr_tokens e) (Symbol (codes "]") ∷ []), expr_size e)
 place_size (Ends l r) =
-    omega (arith, length-append (expr_tokens l) (Symbol (codes ",") ∷ (expr_tokens r ++ (Symbol (codes "]") ∷ []))), length-append (expr_tokens r) (Symbol (codes "]") ∷ []), expr_size l, expr_size r)
+    omega (
+      arith,
+      length-append (expr_tokens l) (Symbol (codes ",") ∷ (expr_tokens r ++ (Symbol (codes "]") ∷ []))),
+      length-append (expr_tokens r) (Symbol
+          (codes "]") ∷ []),
+      expr_size l,
+      expr_size r,
+    )
 
 what_size : (w : What) → what_count w ≤ 1
 what_size (what.Text bytes) = omega arith
@@ -95,7 +108,15 @@ term_size (Set name value) = omega (arith, length-append (expr_tokens value) (Sy
 term_size (Test at cond) = omega (arith, length-append (expr_tokens cond) (Symbol (codes ")") ∷ []), expr_size cond)
 term_size (Repeat var first last item from to) =
     let item_tokens : Tokens = Word (codes "do") ∷ Name item.name ∷ place_tokens (Ends from to) in
-    omega (arith, length-append (expr_tokens first) (Word (codes "to") ∷ (expr_tokens last ++ item_tokens)), length-append (expr_tokens last) item_tokens, expr_size first, expr_size last, place_size (Ends from to))
+    omega (
+      arith,
+      length-append (expr_tokens first) (Word (codes "to") ∷ (expr_tokens last ++ item_tokens)),
+      length-append
+          (expr_tokens last) item_tokens,
+      expr_size first,
+      expr_size last,
+      place_size (Ends from to),
+    )
 term_size (Many at item place) = omega (arith, place_size place)
 term_size (Pick at cases other) =
     omega (
@@ -116,21 +137,46 @@ local_alts_size : (mark : TokenKind) (alts : List Alt) → sum_by local_alt_coun
 local_alts_size mark [] = omega arith
 local_alts_size mark (a ∷ alts) =
     let next = Symbol (codes "/") in
-    omega (arith, sum_by-cons local_alt_count a alts, length-append (terms_tokens (out-Alt a).terms) (local_alts_from next alts), terms_size (out-Alt a).terms, local_alts_size next alts)
+    omega (
+      arith,
+      sum_by-cons local_alt_count a alts,
+      length-append (terms_tokens (out-Alt a).terms) (local_alts_from next alts),
+      terms_size
+          (out-Alt a).terms,
+      local_alts_size next alts,
+    )
 
 local_size : (rule : Rule) → local_count rule ≤ 2 * length (local_tokens rule)
-local_size rule = omega (arith, length-append (local_alts_tokens (out-Rule rule).alts) (Symbol (codes ";") ∷ []), local_alts_size (Symbol (codes "->")) (out-Rule rule).alts)
+local_size rule = omega (
+  arith,
+  length-append (local_alts_tokens (out-Rule rule).alts) (Symbol (codes ";") ∷ []),
+  local_alts_size (Symbol (codes "->"))
+      (out-Rule rule).alts,
+)
 
 locals_size : (rules : List Rule) → sum_by local_count rules ≤ 2 * length (locals_tokens rules)
 locals_size [] = omega arith
-locals_size (rule ∷ rules) = omega (arith, sum_by-cons local_count rule rules, length-append (local_tokens rule) (locals_tokens rules), local_size rule, locals_size rules)
+locals_size (rule ∷ rules) = omega (
+  arith,
+  sum_by-cons local_count rule rules,
+  length-append (local_tokens rule)
+      (locals_tokens rules),
+  local_size rule,
+  locals_size rules,
+)
 
 where_size : (rules : List Rule) → sum_by local_count rules ≤ 2 * length (where_tokens rules)
 where_size [] = omega arith
 where_size (rule ∷ rules) = omega (arith, length-append (locals_tokens (rule ∷ rules)) (Symbol (codes "}") ∷ []), locals_size (rule ∷ rules))
 
 alt_size : (alt : Alt) → alt_count alt ≤ 2 * length (alt_tokens alt)
-alt_size alt = omega (arith, length-append (terms_tokens (out-Alt alt).terms) (where_tokens (out-Alt alt).locals), terms_size (out-Alt alt).terms, where_size (out-Alt alt).locals)
+alt_size alt = omega (
+  arith,
+  length-append (terms_tokens (out-Alt alt).terms) (where_tokens (out-Alt alt).locals),
+  terms_size
+      (out-Alt alt).terms,
+  where_size (out-Alt alt).locals,
+)
 
 alts_size : (mark : TokenKind) (alts : List Alt) → sum_by alt_count alts ≤ 2 * length (alts_from mark alts)
 alts_size mark [] = omega arith
@@ -143,7 +189,14 @@ rule_size rule = omega (arith, length-append (alts_tokens (out-Rule rule).alts) 
 
 rules_size : (rules : List Rule) → sum_by rule_count rules ≤ 2 * length (rules_tokens rules)
 rules_size [] = omega arith
-rules_size (rule ∷ rules) = omega (arith, sum_by-cons rule_count rule rules, length-append (rule_tokens rule) (rules_tokens rules), rule_size rule, rules_size rules)
+rules_size (rule ∷ rules) = omega (
+  arith,
+  sum_by-cons rule_count rule rules,
+  length-append (rule_tokens rule)
+      (rules_tokens rules),
+  rule_size rule,
+  rules_size rules,
+)
 
 -- ---- the conditions
 

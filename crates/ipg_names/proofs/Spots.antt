@@ -26,7 +26,8 @@ put f mark name x now e = by (bytes_eq name x) refl
     by true h = e ∙ ap (λ n. marked mark (f n)) (same_bytes name x h)
     by false h = refl
 
-pub marks_append : (mark : Mark) (x : List ℕ) (xs ys : List (List ℕ)) (s : Option declared.Spots) → marks_on mark x (xs ++ ys) s ≡ marks_on mark x ys (marks_on mark x xs s)
+pub marks_append : (mark : Mark) (x : List ℕ) (xs ys : List (List ℕ)) (s : Option declared.Spots)
+    → marks_on mark x (xs ++ ys) s ≡ marks_on mark x ys (marks_on mark x xs s)
 marks_append mark x [] ys s = refl
 marks_append mark x (a ∷ xs) ys s = marks_append mark x xs ys (cond (bytes_eq a x) (marked mark s) s)
 
@@ -41,7 +42,12 @@ nat_same : (n : ℕ) → nat_eq n n ≡ true
 nat_same n = grind (arith, nat_tests)
 
 marked_twice : (mark : Mark) (s : Option declared.Spots) → marked mark (marked mark s) ≡ marked mark s
-marked_twice (Met u) None = ap (λ b. Some (cond b (record { first = u; second = None; left = None }) (record { first = u; second = Some u; left = None }))) (nat_same u)
+marked_twice (Met u) None = ap (λ b. Some (cond b (record { first = u; second = None; left = None }) (record {
+  first = u;
+  second = Some u;
+  left =
+      None;
+}))) (nat_same u)
 marked_twice (Met u) (Some s) = by (nat_eq s.first u) refl
   where
     later : declared.Spots
@@ -58,7 +64,8 @@ settled : (mark : Mark) (s : Option declared.Spots) (b : Bool) → cond b (marke
 settled mark s true = marked_twice mark s
 settled mark s false = refl
 
-pub marks_once : (mark : Mark) (x : List ℕ) (names : List (List ℕ)) (s : Option declared.Spots) → marks_on mark x names s ≡ cond (list_any (bytes_eq x) names) (marked mark s) s
+pub marks_once : (mark : Mark) (x : List ℕ) (names : List (List ℕ)) (s : Option declared.Spots)
+    → marks_on mark x names s ≡ cond (list_any (bytes_eq x) names) (marked mark s) s
 marks_once mark x [] s = refl
 marks_once mark x (name ∷ names) s =
     ap (λ b. marks_on mark x names (cond b (marked mark s) s)) (bytes_turned name x) ∙ by (bytes_eq x name) (marks_once mark x names)
@@ -88,7 +95,8 @@ module _ {A : Type 0} (p : A → Bool) where
   never n k [] e = cc
   never n k (x ∷ xs) e = by (p x) e (never (n + 1) n xs) (never (n + 1) k xs)
     where
-      by : (b : Bool) → last_from p (n + 1) (cond b (Some n) (Some k)) xs ≡ None → (last_from p (n + 1) (Some n) xs ≡ None → ⊥) → (last_from p (n + 1) (Some k) xs ≡ None → ⊥) → ⊥
+      by : (b : Bool) → last_from p (n + 1) (cond b (Some n) (Some k)) xs ≡ None → (last_from p (n + 1) (Some n) xs ≡ None → ⊥)
+          → (last_from p (n + 1) (Some k) xs ≡ None → ⊥) → ⊥
       by true h f g = f h
       by false h f g = g h
 
@@ -138,7 +146,8 @@ module _ {A : Type 0} (p : A → Bool) where
   first_within n k [] h = absurd (cc)
   first_within n k (x ∷ xs) h = by (p x) h (first_within (n + 1) k xs)
     where
-      by : (b : Bool) → cond b (Some n) (first_from p (n + 1) xs) ≡ Some k → (first_from p (n + 1) xs ≡ Some k → (n + 1 ≤ k) × (k < n + 1 + length xs)) → (n ≤ k) × (k < n + suc (length xs))
+      by : (b : Bool) → cond b (Some n) (first_from p (n + 1) xs) ≡ Some k → (first_from p (n + 1) xs ≡ Some k → (n + 1 ≤ k) × (k < n + 1 + length xs))
+          → (n ≤ k) × (k < n + suc (length xs))
       by true e f = let same : n ≡ k = cc in (omega arith, omega arith)
       by false e f = let within = f e in (omega (arith, within.0), omega (arith, within.1))
 
@@ -164,7 +173,8 @@ module _ {A : Type 0} (p : A → Bool) where
     where
       apart : (b : Bool) → nat_eq first u ≡ b → left_of p xs u ≡ None → cond b (right_of p xs first) (Some first) ≡ right_of p xs u
       apart true e none = ap (right_of p xs) (eqb-true first u e)
-      apart false e none = right_first xs u first (sym (none_left u 0 xs none ∙ ap (λ m. first_from p m (drop u xs)) (let z : 0 + u ≡ u = omega arith in z)) ∙ h) e
+      apart false e none = right_first xs u first (sym (none_left u 0 xs none
+          ∙ ap (λ m. first_from p m (drop u xs)) (let z : 0 + u ≡ u = omega arith in z)) ∙ h) e
 
       by : (o : Option ℕ) → left_of p xs u ≡ o → or_else o (cond (nat_eq first u) (right_of p xs first) (Some first)) ≡ or_else o (right_of p xs u)
       by None e = apart (nat_eq first u) refl e
@@ -185,14 +195,16 @@ module _ {A : Type 0} (p : A → Bool) where
       let within = first_within 0 first xs h in
       ap (first_from p (first + 1)) (drop-append-le (first + 1) xs (x ∷ []) (omega (arith, within.1)))
       ∙ first_append (first + 1) (drop (first + 1) xs) (x ∷ [])
-      ∙ ap (λ m. or_else (right_of p xs first) (cond (p x) (Some m) None)) (let e : first + 1 + length (drop (first + 1) xs) ≡ length xs = omega (arith, length-drop (first + 1) xs, within.1) in e)
+      ∙ ap (λ m. or_else (right_of p xs first) (cond (p x) (Some m) None)) (let e : first + 1 + length (drop (first + 1) xs) ≡ length xs = omega
+      (arith, length-drop (first + 1) xs, within.1) in e)
 
   pub else_none : (o : Option ℕ) → or_else o None ≡ o
   else_none None = refl
   else_none (Some n) = refl
 
   first_new : (xs : List A) (x : A) → first_from p 0 xs ≡ None → first_from p 0 (xs ++ x ∷ []) ≡ cond (p x) (Some (length xs)) None
-  first_new xs x h = first_append 0 xs (x ∷ []) ∙ ap (λ o. or_else o (first_from p (0 + length xs) (x ∷ []))) h ∙ ap (λ m. cond (p x) (Some m) None) (let e : 0 + length xs ≡ length xs = omega arith in e)
+  first_new xs x h = first_append 0 xs (x ∷ []) ∙ ap (λ o. or_else o (first_from p (0 + length xs) (x ∷ []))) h
+      ∙ ap (λ m. cond (p x) (Some m) None) (let e : 0 + length xs ≡ length xs = omega arith in e)
 
   first_old : (xs : List A) (x : A) (first : ℕ) → first_from p 0 xs ≡ Some first → first_from p 0 (xs ++ x ∷ []) ≡ Some first
   first_old xs x first h = first_append 0 xs (x ∷ []) ∙ ap (λ o. or_else o (first_from p (0 + length xs) (x ∷ []))) h
@@ -208,13 +220,21 @@ module _ {A : Type 0} (p : A → Bool) where
       new true = ap (λ o. let made : declared.Spots = record { first = length xs; second = o; left = None } in Some made) (right_end xs x)
       new false = refl
 
-      old : (b : Bool) (first : ℕ) → nat_eq first (length xs) ≡ false → (let made : declared.Spots = record { first = first; second = or_else (right_of p xs first) (cond b (Some (length xs)) None); left = None } in Some made)
+      old : (b : Bool) (first : ℕ) → nat_eq first (length xs) ≡ false
+          → (let made : declared.Spots = record {
+            first = first;
+            second = or_else (right_of p xs first) (cond b (Some (length xs)) None);
+            left =
+                None;
+          } in Some made)
           ≡ cond b (marked (Met (length xs)) (spots_from (Some first) p xs 0)) (spots_from (Some first) p xs 0)
       old true first apart = sym (ap (λ b. let s : declared.Spots = record { first = first; second = right_of p xs first; left = None } in
           let t : declared.Spots = record { first = first; second = or_else (right_of p xs first) (Some (length xs)); left = None } in Some (cond b s t)) apart)
-      old false first apart = ap (λ o. let made : declared.Spots = record { first = first; second = o; left = None } in Some made) (else_none (right_of p xs first))
+      old false first apart = ap (λ o. let made : declared.Spots = record { first = first; second = o; left = None } in Some made) (else_none
+          (right_of p xs first))
 
-      by : (o : Option ℕ) → first_from p 0 xs ≡ o → spots_of p (xs ++ x ∷ []) 0 ≡ cond (p x) (marked (Met (length xs)) (spots_from o p xs 0)) (spots_from o p xs 0)
+      by : (o : Option ℕ) → first_from p 0 xs ≡ o
+          → spots_of p (xs ++ x ∷ []) 0 ≡ cond (p x) (marked (Met (length xs)) (spots_from o p xs 0)) (spots_from o p xs 0)
       by None e = ap (λ o. spots_from o p (xs ++ x ∷ []) 0) (first_new xs x e) ∙ new (p x)
       by (Some first) e =
           ap (λ o. spots_from o p (xs ++ x ∷ []) 0) (first_old xs x first e)
@@ -240,14 +260,20 @@ module _ {A : Type 0} (p : A → Bool) where
       ∙ ap (λ m. cond (p y) (Some m) (last_from p (n + 1) (cond (p x) (Some n) found) (take u xs))) (let e : n + 1 + u ≡ n + suc u = omega arith in e)
 
   -- the item at u is passed
-  pub passed : (u : ℕ) (xs ys : List A) (y : A) → drop u xs ≡ y ∷ ys → spots_of p xs (u + 1) ≡ cond (p y) (marked (Passed u) (spots_of p xs u)) (spots_of p xs u)
+  pub passed : (u : ℕ) (xs ys : List A) (y : A) → drop u xs ≡ y ∷ ys
+      → spots_of p xs (u + 1) ≡ cond (p y) (marked (Passed u) (spots_of p xs u)) (spots_of p xs u)
   passed u xs ys y h = by (first_from p 0 xs)
     where
       left : left_of p xs (u + 1) ≡ cond (p y) (Some u) (left_of p xs u)
       left = ap (λ k. last_from p 0 None (take k xs)) (let e : u + 1 ≡ suc u = omega arith in e) ∙ left_more u 0 None xs ys y h
           ∙ ap (λ k. cond (p y) (Some k) (left_of p xs u)) (let e : 0 + u ≡ u = omega arith in e)
 
-      each : (b : Bool) (first : ℕ) → (let made : declared.Spots = record { first = first; second = right_of p xs first; left = cond b (Some u) (left_of p xs u) } in Some made)
+      each : (b : Bool) (first : ℕ) → (let made : declared.Spots = record {
+        first = first;
+        second = right_of p xs first;
+        left = cond b (Some u)
+            (left_of p xs u);
+      } in Some made)
           ≡ cond b (marked (Passed u) (spots_from (Some first) p xs u)) (spots_from (Some first) p xs u)
       each true first = refl
       each false first = refl
@@ -258,7 +284,8 @@ module _ {A : Type 0} (p : A → Bool) where
 
       by : (o : Option ℕ) → spots_from o p xs (u + 1) ≡ cond (p y) (marked (Passed u) (spots_from o p xs u)) (spots_from o p xs u)
       by None = none (p y)
-      by (Some first) = ap (λ l. let made : declared.Spots = record { first = first; second = right_of p xs first; left = l } in Some made) left ∙ each (p y) first
+      by (Some first) = ap (λ l. let made : declared.Spots = record { first = first; second = right_of p xs first; left = l } in Some made) left
+          ∙ each (p y) first
 
   -- ---- whether there is one at all
 
@@ -278,8 +305,10 @@ module _ {A : Type 0} (p : A → Bool) where
   spots_any xs u = spots_some (first_from p 0 xs) xs u ∙ found_any 0 xs
 
 -- a table as one term is passed
-pub pass_turn : {S : Type 0} (family : Family) (old new : IndexMap (Bor (List ℕ)) declared.Spots S) (terms : List Term) (u : ℕ) (term : Term) → term ≡ get_or terms u term → u < length terms
-    → IsMarked (Passed u) (names_in family term) old new → ((x : List ℕ) → look old x ≡ spots_of (has family x) terms u) → (x : List ℕ) → look new x ≡ spots_of (has family x) terms (u + 1)
+pub pass_turn : {S : Type 0} (family : Family) (old new : IndexMap (Bor (List ℕ)) declared.Spots S) (terms : List Term) (u : ℕ) (term : Term)
+    → term ≡ get_or terms u term → u < length terms
+    → IsMarked (Passed u) (names_in family term) old new → ((x : List ℕ) → look old x ≡ spots_of (has family x) terms u) → (x : List ℕ)
+    → look new x ≡ spots_of (has family x) terms (u + 1)
 pass_turn family old new terms u term is within marks were x =
     let p = has family x in
     marks x ∙ marks_once (Passed u) x (names_in family term) (look old x)

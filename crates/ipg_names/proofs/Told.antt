@@ -29,7 +29,8 @@ turned n p m q h = grind (arith, nat_tests)
 later : (a b c : NameFault) → is_before a b ≡ false → is_before b c ≡ false → is_before a c ≡ false
 later a b c f g = not_before (number_of a) (place_of a) (number_of b) (place_of b) (number_of c) (place_of c) f g
 
-all_later : (x y : NameFault) (faults : List NameFault) → is_before y x ≡ false → AllByRecursion (λ z. is_before z y ≡ false) faults → AllByRecursion (λ z. is_before z x ≡ false) faults
+all_later : (x y : NameFault) (faults : List NameFault) → is_before y x ≡ false → AllByRecursion (λ z. is_before z y ≡ false) faults
+    → AllByRecursion (λ z. is_before z x ≡ false) faults
 all_later x y [] h k = tt
 all_later x y (z ∷ faults) h k = (later z y x k.0 h, all_later x y faults h k.1)
 
@@ -38,7 +39,14 @@ first_is [] fault h = absurd (cc)
 first_is (x ∷ xs) fault h = by (first_of xs) refl h (first_is xs)
   where
     one : x ≡ fault → xs ≡ [] → IsFirst (x ∷ xs) fault
-    one e none = subst (IsFirst (x ∷ xs)) e (record { stands = inl refl; least = (itself (number_of x) (place_of x), subst (AllByRecursion (λ z. is_before z x ≡ false)) (sym none) tt) })
+    one e none = subst (IsFirst (x ∷ xs)) e (record {
+      stands = inl refl;
+      least = (
+        itself (number_of x) (place_of x),
+        subst (AllByRecursion
+            (λ z. is_before z x ≡ false)) (sym none) tt,
+      );
+    })
 
     two : (y : NameFault) (b : Bool) → is_before y x ≡ b → IsFirst xs y → Some (cond b y x) ≡ Some fault → IsFirst (x ∷ xs) fault
     two y true e f k = subst (IsFirst (x ∷ xs)) (let same : y ≡ fault = cc in same)
@@ -46,11 +54,13 @@ first_is (x ∷ xs) fault h = by (first_of xs) refl h (first_is xs)
     two y false e f k = subst (IsFirst (x ∷ xs)) (let same : x ≡ fault = cc in same)
         (record { stands = inl refl; least = (itself (number_of x) (place_of x), all_later x y xs e f.least) })
 
-    by : (o : Option NameFault) → first_of xs ≡ o → earlier (Some x) o ≡ Some fault → ((y : NameFault) → first_of xs ≡ Some y → IsFirst xs y) → IsFirst (x ∷ xs) fault
+    by : (o : Option NameFault) → first_of xs ≡ o → earlier (Some x) o ≡ Some fault → ((y : NameFault) → first_of xs ≡ Some y → IsFirst xs y)
+        → IsFirst (x ∷ xs) fault
     by None e k f = one (let same : x ≡ fault = cc in same) (first_none xs e)
     by (Some y) e k f = two y (is_before y x) refl (f y e) k
 
-pub first_told : (faults : List NameFault) → ((first_of faults ≡ None) ↔ (faults ≡ [])) × ((fault : NameFault) → first_of faults ≡ Some fault → IsFirst faults fault)
+pub first_told : (faults : List NameFault) → ((first_of faults ≡ None) ↔ (faults ≡ [])) × ((fault : NameFault) → first_of faults ≡ Some fault
+    → IsFirst faults fault)
 first_told faults = ((first_none faults, λ e. ap first_of e), first_is faults)
 
 -- ---- where faults stand
@@ -86,11 +96,18 @@ module _ {A : Type 0} (faults_from : ℕ → List A → List NameFault) (faults_
   which n [] f h = absurd (subst (λ l. Stands l f) (none n) h)
   which n (x ∷ xs) f h = by (either (faults_at n x) (faults_from (n + 1) xs) f (subst (λ l. Stands l f) (on n x xs) h)) (which (n + 1) xs f)
     where
-      by : Stands (faults_at n x) f ⊎ Stands (faults_from (n + 1) xs) f → (Stands (faults_from (n + 1) xs) f → At faults_at (n + 1) xs f) → At faults_at n (x ∷ xs) f
+      by : Stands (faults_at n x) f ⊎ Stands (faults_from (n + 1) xs) f → (Stands (faults_from (n + 1) xs) f → At faults_at (n + 1) xs f)
+          → At faults_at n (x ∷ xs) f
       by (inl k) rest = record { number = 0; item = x; is_item = refl; stands = subst (λ m. Stands (faults_at m x) f) (let e : n ≡ n + 0 = omega arith in e) k }
       by (inr k) rest =
           let w = rest k in
-          record { number = suc w.number; item = w.item; is_item = w.is_item; stands = subst (λ m. Stands (faults_at m w.item) f) (let e : n + 1 + w.number ≡ n + suc w.number = omega arith in e) w.stands }
+          record {
+            number = suc w.number;
+            item = w.item;
+            is_item = w.is_item;
+            stands = subst (λ m. Stands (faults_at m w.item) f)
+                (let e : n + 1 + w.number ≡ n + suc w.number = omega arith in e) w.stands;
+          }
 
   there : (n : ℕ) (xs : List A) (f : NameFault) (k : ℕ) (x : A) → slice_get xs k ≡ Some x → Stands (faults_at (n + k) x) f → Stands (faults_from n xs) f
   there n [] f k x e h = absurd (cc)
@@ -125,7 +142,8 @@ is_when false fault f h e = absurd (true≢false (sym h))
 heads_which : (before : List (List ℕ)) (es : List Entry) (f : NameFault) → Stands (head_faults before es) f → Head before es f
 heads_which before [] f h = absurd h
 heads_which before (e ∷ es) f h =
-    by (either (when (clash before e) (DuplicateRule (head_at e))) (head_faults (before ++ name_of e ∷ []) es) f h) (heads_which (before ++ name_of e ∷ []) es f)
+    by (either (when (clash before e) (DuplicateRule (head_at e))) (head_faults (before ++ name_of e ∷ []) es) f h) (heads_which
+    (before ++ name_of e ∷ []) es f)
   where
     by : Stands (when (clash before e) (DuplicateRule (head_at e))) f ⊎ Stands (head_faults (before ++ name_of e ∷ []) es) f
         → (Stands (head_faults (before ++ name_of e ∷ []) es) f → Head (before ++ name_of e ∷ []) es f) → Head before (e ∷ es) f
@@ -134,7 +152,14 @@ heads_which before (e ∷ es) f h =
         record { number = 0; entry = e; is_entry = refl; twice = ap (λ l. clash l e) (append-nil before) ∙ w.0; fault_is = w.1 }
     by (inr k) rest =
         let w = rest k in
-        record { number = suc w.number; entry = w.entry; is_entry = w.is_entry; twice = ap (λ l. clash l w.entry) (sym (append_assoc before (name_of e ∷ []) (map name_of (take w.number es)))) ∙ w.twice; fault_is = w.fault_is }
+        record {
+          number = suc w.number;
+          entry = w.entry;
+          is_entry = w.is_entry;
+          twice = ap (λ l. clash l w.entry) (sym (append_assoc before
+              (name_of e ∷ []) (map name_of (take w.number es)))) ∙ w.twice;
+          fault_is = w.fault_is;
+        }
 
 heads_there : (before : List (List ℕ)) (es : List Entry) (f : NameFault) (k : ℕ) (entry : Entry) → slice_get es k ≡ Some entry
     → clash (before ++ map name_of (take k es)) entry ≡ true → f ≡ DuplicateRule (head_at entry) → Stands (head_faults before es) f
@@ -142,10 +167,12 @@ heads_there before [] f k entry is twice e = absurd (cc)
 heads_there before (x ∷ es) f zero entry is twice e =
     let same : entry ≡ x = cc in
     left (when (clash before x) (DuplicateRule (head_at x))) (head_faults (before ++ name_of x ∷ []) es) f
-    (is_when (clash before x) (DuplicateRule (head_at x)) f (ap (clash before) (sym same) ∙ ap (λ l. clash l entry) (sym (append-nil before)) ∙ twice) (e ∙ ap (λ y. DuplicateRule (head_at y)) same))
+    (is_when (clash before x) (DuplicateRule (head_at x)) f (ap (clash before) (sym same) ∙ ap (λ l. clash l entry) (sym (append-nil before)) ∙ twice) (e
+    ∙ ap (λ y. DuplicateRule (head_at y)) same))
 heads_there before (x ∷ es) f (suc k) entry is twice e =
     right (when (clash before x) (DuplicateRule (head_at x))) (head_faults (before ++ name_of x ∷ []) es) f
-    (heads_there (before ++ name_of x ∷ []) es f k entry is (ap (λ l. clash l entry) (append_assoc before (name_of x ∷ []) (map name_of (take k es))) ∙ twice) e)
+    (heads_there (before ++ name_of x ∷ []) es f k entry is (ap (λ l. clash l entry) (append_assoc before (name_of x ∷ []) (map name_of (take k es)))
+    ∙ twice) e)
 
 -- ---- all faults of a text
 
@@ -156,7 +183,8 @@ module _ (g : Grammar) (f : NameFault) where
   abbrev names : List (List ℕ)
   names = attr_names g
 
-  known : (entry : Entry) (k : ℕ) → (list_any (is_named (name_of entry)) (take k roster) || is_some (primitive_of (name_of entry))) ≡ clash (map name_of (take k roster)) entry
+  known : (entry : Entry) (k : ℕ) → (list_any (is_named (name_of entry)) (take k roster) || is_some (primitive_of (name_of entry))) ≡ clash (map name_of
+      (take k roster)) entry
   known entry k = ap (λ b. b || is_some (primitive_of (name_of entry))) (sym (any_map (bytes_eq (name_of entry)) name_of (take k roster)))
 
   of_head : Head [] roster f → IsHeadFault g f
@@ -169,7 +197,8 @@ module _ (g : Grammar) (f : NameFault) where
   of_term h =
       let r = which (rules_faults roster names) (λ n e. alts_faults roster names e n 0 (alts_of e)) (λ n x xs. refl) (λ n. refl) 0 roster f h in
       let in_rule = subst (λ n. Stands (alts_faults roster names r.item n 0 (alts_of r.item)) f) (from_zero r.number) r.stands in
-      let a = which (alts_faults roster names r.item r.number) (λ n x. alt_faults roster names r.item (r.number, n) x) (λ n x xs. refl) (λ n. refl) 0 (alts_of r.item) f in_rule in
+      let a = which (alts_faults roster names r.item r.number) (λ n x. alt_faults roster names r.item (r.number, n) x) (λ n x xs. refl) (λ n. refl) 0
+      (alts_of r.item) f in_rule in
       let in_alt = subst (λ n. Stands (alt_faults roster names r.item (r.number, n) a.item) f) (from_zero a.number) a.stands in
       let scopes = alt_scopes roster names r.item (r.number, a.number) a.item in
       let t = which (terms_faults scopes) (λ n x. term_faults (scopes n) x) (λ n x xs. refl) (λ n. refl) 0 (out-Alt a.item).terms f in_alt in
@@ -189,9 +218,11 @@ module _ (g : Grammar) (f : NameFault) where
   term_there : IsTermFault g f → Stands (rules_faults roster names 0 roster) f
   term_there w =
       let scopes = alt_scopes roster names w.entry (w.rule, w.place) w.alt in
-      let in_alt = there (terms_faults scopes) (λ n x. term_faults (scopes n) x) (λ n x xs. refl) (λ n. refl) 0 (out-Alt w.alt).terms f w.number w.term w.is_term
+      let in_alt = there (terms_faults scopes) (λ n x. term_faults (scopes n) x) (λ n x xs. refl) (λ n. refl) 0
+      (out-Alt w.alt).terms f w.number w.term w.is_term
       (subst (λ n. Stands (term_faults (scopes n) w.term) f) (sym (from_zero w.number)) w.fault_in) in
-      let in_rule = there (alts_faults roster names w.entry w.rule) (λ n x. alt_faults roster names w.entry (w.rule, n) x) (λ n x xs. refl) (λ n. refl) 0 (alts_of w.entry) f w.place w.alt w.is_alt
+      let in_rule = there (alts_faults roster names w.entry w.rule) (λ n x. alt_faults roster names w.entry (w.rule, n) x) (λ n x xs. refl) (λ n. refl) 0
+      (alts_of w.entry) f w.place w.alt w.is_alt
       (subst (λ n. Stands (alt_faults roster names w.entry (w.rule, n) w.alt) f) (sym (from_zero w.place)) in_alt) in
       there (rules_faults roster names) (λ n e. alts_faults roster names e n 0 (alts_of e)) (λ n x xs. refl) (λ n. refl) 0 roster f w.rule w.entry w.is_rule
       (subst (λ n. Stands (alts_faults roster names w.entry n 0 (alts_of w.entry)) f) (sym (from_zero w.rule)) in_rule)
@@ -201,7 +232,8 @@ module _ (g : Grammar) (f : NameFault) where
   found (inr h) = inr (of_term h)
 
   standing : IsHeadFault g f ⊎ IsTermFault g f → Stands (faults_of g) f
-  standing (inl w) = left (head_faults [] roster) (rules_faults roster names 0 roster) f (heads_there [] roster f w.rule w.entry w.is_rule (sym (known w.entry w.rule) ∙ w.twice) w.fault_is)
+  standing (inl w) = left (head_faults [] roster) (rules_faults roster names 0 roster) f (heads_there [] roster f w.rule w.entry w.is_rule (sym
+      (known w.entry w.rule) ∙ w.twice) w.fault_is)
   standing (inr w) = right (head_faults [] roster) (rules_faults roster names 0 roster) f (term_there w)
 
   pub faults_stand : Stands (faults_of g) f ↔ (IsHeadFault g f ⊎ IsTermFault g f)

@@ -34,6 +34,8 @@ module _ {A : Type 0} (faults_from : ℕ → List A → List NameFault) (faults_
       ∙ ap (λ xs. earlier old (first_of (faults_from i xs))) (sym (at_item items i x is within))
       ∙ so_far
 
-  pub fault_done : (items : List A) (i : ℕ) (old all : Option NameFault) → length items ≤ i → earlier old (first_of (faults_from i (drop i items))) ≡ all → old ≡ all
+  pub fault_done : (items : List A) (i : ℕ) (old all : Option NameFault) → length items ≤ i → earlier old (first_of (faults_from i (drop i items))) ≡ all
+      → old ≡ all
   fault_done items i old all past so_far =
-      sym (earlier_none old) ∙ ap (λ xs. earlier old (first_of xs)) (sym (none i)) ∙ sym (ap (λ xs. earlier old (first_of (faults_from i xs))) (drop_all i items past)) ∙ so_far
+      sym (earlier_none old) ∙ ap (λ xs. earlier old (first_of xs)) (sym (none i))
+      ∙ sym (ap (λ xs. earlier old (first_of (faults_from i xs))) (drop_all i items past)) ∙ so_far

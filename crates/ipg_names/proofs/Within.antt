@@ -20,7 +20,8 @@ number_below (x ∷ names) n h = by (bytes_eq n x) h (number_below names n)
     by false k f = omega (arith, f k)
 
 -- names of one number are one
-pub number_apart : (names : NameList) (a b : List ℕ) → IsIn names a → IsIn names b → position_or_len (bytes_eq a) names ≡ position_or_len (bytes_eq b) names → a ≡ b
+pub number_apart : (names : NameList) (a b : List ℕ) → IsIn names a → IsIn names b
+    → position_or_len (bytes_eq a) names ≡ position_or_len (bytes_eq b) names → a ≡ b
 number_apart [] a b h k e = absurd (true≢false (sym h))
 number_apart (x ∷ names) a b h k e = by (bytes_eq a x) (bytes_eq b x) refl refl h k e (number_apart names a b)
   where
@@ -91,7 +92,8 @@ pub once_distinct : (xs seen : NameList) → IsDistinct bytes_eq seen → IsDist
 once_distinct [] seen d = d
 once_distinct (x ∷ xs) seen d = by (list_any (bytes_eq x) seen) refl (once_distinct xs seen d) (once_distinct xs (seen ++ x ∷ []))
   where
-    by : (b : Bool) → list_any (bytes_eq x) seen ≡ b → IsDistinct bytes_eq (once seen xs) → (IsDistinct bytes_eq (seen ++ x ∷ []) → IsDistinct bytes_eq (once (seen ++ x ∷ []) xs))
+    by : (b : Bool) → list_any (bytes_eq x) seen ≡ b → IsDistinct bytes_eq (once seen xs) → (IsDistinct bytes_eq (seen ++ x ∷ [])
+        → IsDistinct bytes_eq (once (seen ++ x ∷ []) xs))
         → IsDistinct bytes_eq (once (cond b seen (seen ++ x ∷ [])) xs)
     by true h f g = f
     by false h f g = g (distinct_push seen x d h)

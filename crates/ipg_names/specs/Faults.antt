@@ -128,7 +128,8 @@ term_faults scope (term.Slot slot) = slot_faults scope slot
 term_faults scope (term.Set name value) = set_fault scope name ++ expr_faults scope value
 term_faults scope (term.Test at cond) = expr_faults scope cond
 term_faults scope (term.Repeat var first last item from to) =
-    var_fault scope var ++ (ends_faults scope first last ++ (rule_fault scope item.name item.span.from ++ ends_faults (inside scope var.name item.name) from to))
+    var_fault scope var ++ (ends_faults scope first last ++ (rule_fault scope item.name item.span.from ++ ends_faults
+    (inside scope var.name item.name) from to))
 term_faults scope (term.Many at item place) = rule_fault scope item.name item.span.from ++ place_faults scope place
 term_faults scope (term.Pick at cases other) = flat_map (case_faults scope) cases ++ slot_faults scope other
 

@@ -15,7 +15,8 @@ FormedIsReadable = (g : Grammar) → IsFormed g → length (grammar_tokens g) �
 
 -- of any list of faults the first is told, and none exactly of the empty list
 abbrev pub FirstIsTold : Type 0
-FirstIsTold = (faults : List NameFault) → ((first_of faults ≡ None) ↔ (faults ≡ [])) × ((fault : NameFault) → first_of faults ≡ Some fault → IsFirst faults fault)
+FirstIsTold = (faults : List NameFault) → ((first_of faults ≡ None) ↔ (faults ≡ [])) × ((fault : NameFault) → first_of faults ≡ Some fault
+    → IsFirst faults fault)
 
 -- the faults of a text are those of its heads and those of its terms
 abbrev pub FaultsStand : Type 0

@@ -14,6 +14,7 @@ use Rattle.ipg_names.specs.declared.scope.Marks.{Marks}
 use Rattle.ipg_ast.specs.declared.grammar.Term.{Term}
 use Rattle.ipg_names.specs.declared.marks.Family.TheVariants.{Calls, Items, Sets}
 use Rattle.ipg_names.specs.Terms.{has, sets}
+use Rattle.ipg_names.specs.Roster.{Entry}
 use Rattle.ipg_names.specs.View.{entries_view}
 use Rattle.ipg_names.specs.Fields.{rows_set, row_of}
 use Rattle.ipg_names.specs.declared.scope.Spot.{Spot}
@@ -96,6 +97,12 @@ site_scope site = scope_at site None
 pub record AreTables (tables : Tables) : Type 0 where
   pub numbers : (x : List ℕ) → look tables.numbers.now x ≡ rule_named (entries_view tables.roster.now) x
   pub fields : (f : List ℕ) → rows_set f tables.fields.now ≡ map (row_of f) (entries_view tables.roster.now)
+
+abbrev pub roster_in : Tables → List Entry
+roster_in tables = entries_view tables.roster.now
+
+abbrev pub names_under : Tables → List (List ℕ)
+names_under tables = shown tables.attrs.now.names
 
 -- the scopes of the terms of an alternative at a place, by the tables of the whole text
 abbrev pub scopes_at : Tables → code.Entry → ℕ × ℕ → List Term → ℕ → Scope

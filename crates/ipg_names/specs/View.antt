@@ -1,10 +1,13 @@
 -- The rules that the code holds, as the roster of them.
-use Rattle.std.specs.Prelude.{ℕ, ◌≤◌, List, map, length}
+use Rattle.std.specs.Prelude.{◌||◌, Option, Some, None, is_some, if◌then◌else◌, bytes_eq, ℕ, ◌≤◌, List, map, length}
 use Rattle.std.specs.List.{AllByRecursion}
 use Rattle.ipg_ast.specs.declared.grammar.Rule.{Rule, out-Rule}
 use Rattle.ipg_ast.specs.declared.grammar.Alt.{Alt, out-Alt}
 use Rattle.ipg_ast.specs.Shape.{max_alts}
+use Rattle.ipg_names.specs.declared.fault.NameFault.{NameFault}
+use Rattle.ipg_names.specs.declared.fault.NameFault.TheVariants.{DuplicateRule}
 use Rattle.ipg_names.specs.declared.roster.Entry as code
+use Rattle.ipg_names.specs.Primitives.{primitive_of}
 use Rattle.ipg_names.specs.Roster.{Entry, local, name_of, head_at, alts_of}
 use Rattle.ipg_names.specs.Marks.{IsShort}
 
@@ -39,3 +42,10 @@ pub record IsFit (entry : Entry) : Type 0 where
   pub few : length (alts_of entry) ≤ max_alts
   pub short : AllByRecursion HasShortTerms (alts_of entry)
   pub outer : IsShort entry.outer
+
+-- a head of that name, where the rule that is known by it is at hand
+abbrev pub head_told : Option ℕ → List ℕ → ℕ → Option NameFault
+head_told known name at = if is_some known || is_some (primitive_of name) then Some (DuplicateRule at) else None
+
+abbrev pub number_if : List ℕ → List ℕ → ℕ → Option ℕ
+number_if name x rule = if bytes_eq name x then Some rule else None

@@ -1,11 +1,10 @@
 //! The rules by the names of their heads.
-ghost use Rattle.std.specs.Prelude.{◌≡◌, ◌<◌, ◌^◌, ◌||◌, ℕ, List, [], length, IfOk, OnOk, Some, None, is_some, if◌then◌else◌, bytes_eq};
+ghost use Rattle.std.specs.Prelude.{◌≡◌, ◌<◌, ◌^◌, ℕ, List, [], length, IfOk, OnOk};
 ghost use Rattle.ipg_names.specs.Fault.{first_of};
 ghost use Rattle.ipg_names.specs.Faults.{head_faults};
 ghost use Rattle.ipg_names.specs.Scope.{rule_named};
 ghost use Rattle.ipg_names.specs.Marks.{look, or_else};
-ghost use Rattle.ipg_names.specs.View.{entries_view, entry_name, entry_at};
-ghost use Rattle.ipg_names.specs.Primitives.{primitive_of};
+ghost use Rattle.ipg_names.specs.View.{entries_view, entry_name, entry_at, head_told, number_if};
 
 use crate::fault::{NameFault, earlier};
 use crate::primitives::primitive;
@@ -42,8 +41,8 @@ fn add_head<'a>(
     rule: u32,
     entry: &Entry<'a>,
 ) -> Result<Option<NameFault>, AllocError>
-    ensures numbers { OnOk result ((x : List ℕ) → look numbers.new x ≡ or_else (look numbers.old x) (if bytes_eq (entry_name entry.now) x then Some rule else None)) }
-    ensures fault { IfOk result (λ fault. fault ≡ (if is_some (look numbers.old (entry_name entry.now)) || is_some (primitive_of (entry_name entry.now)) then Some (NameFault.DuplicateRule (entry_at entry.now)) else None)) }
+    ensures numbers { OnOk result ((x : List ℕ) → look numbers.new x ≡ or_else (look numbers.old x) (number_if (entry_name entry.now) x rule)) }
+    ensures fault { IfOk result (λ fault. fault ≡ head_told (look numbers.old (entry_name entry.now)) (entry_name entry.now) (entry_at entry.now)) }
 {
     let name = entry.rule.name.name.as_slice();
     let fault = head_fault(numbers, name, entry.rule.name.span.from);
@@ -54,7 +53,7 @@ fn add_head<'a>(
 }
 
 fn head_fault(numbers: &Numbers<'_>, name: &[u8], at: u32) -> Option<NameFault>
-    ensures { result ≡ (if is_some (look numbers.now name.now) || is_some (primitive_of name.now) then Some (NameFault.DuplicateRule at) else None) }
+    ensures { result ≡ head_told (look numbers.now name.now) name.now at }
 {
     if numbers.contains_key(name) {
         Some(NameFault::DuplicateRule { at })

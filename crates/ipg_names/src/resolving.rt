@@ -1,5 +1,5 @@
 //! The names of a grammar, resolved.
-ghost use Rattle.std.specs.Prelude.{◌≡◌, ◌⊎◌, ◌<◌, ◌^◌, Some, None, IfOk, MatchResult, length, slice_get};
+ghost use Rattle.std.specs.Prelude.{◌≡◌, ◌⊎◌, ◌<◌, ◌^◌, Some, None, IfOk, IfErr, length, slice_get};
 ghost use Rattle.ipg_names.specs.Readable.{IsReadable};
 ghost use Rattle.ipg_names.specs.Fault.{first_of};
 ghost use Rattle.ipg_names.specs.Faults.{roster_faults, faults_of};
@@ -32,7 +32,8 @@ use std::alloc::{AllocError, Global};
 /// The first fault of its names, G6 to G11, with its place in bytes; `Memory` where memory is wanting.
 pub fn resolve(alloc: Global, g: &Grammar) -> Result<Named, NameFault>
     requires { IsReadable g.now }
-    ensures { MatchResult result (λ named. (first_of (faults_of g.now) ≡ None) × (named ≡ names_of g.now)) (λ fault. (fault ≡ NameFault.Memory) ⊎ (first_of (faults_of g.now) ≡ Some fault)) }
+    ensures ok { IfOk result (λ named. (first_of (faults_of g.now) ≡ None) × (named ≡ names_of g.now)) }
+    ensures err { IfErr result (λ fault. (fault ≡ NameFault.Memory) ⊎ (first_of (faults_of g.now) ≡ Some fault)) }
 {
     let attrs = attrs_of(alloc, g)?;
     let judged = judged(alloc, g, &attrs)?;

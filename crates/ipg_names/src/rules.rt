@@ -10,7 +10,7 @@ ghost use Rattle.ipg_names.specs.Marks.{IsShort, IsMarked};
 ghost use Rattle.ipg_names.specs.View.{entry_view, entries_view, HasShortTerms, IsFit};
 ghost use Rattle.ipg_names.specs.Lookup.{shown};
 ghost use Rattle.ipg_names.specs.Roster.{alts_of};
-ghost use Rattle.ipg_names.specs.Site.{site_scope, scopes_at, AreTables, AreMarks, IsOuter};
+ghost use Rattle.ipg_names.specs.Site.{site_scope, scopes_at, roster_in, names_under, AreTables, AreMarks, IsOuter};
 
 use crate::fault::{NameFault, earlier};
 use crate::faults::term_fault;
@@ -122,8 +122,8 @@ fn judged_alt<'a>(
     requires tables { AreTables tables.now }
     requires outer { IsOuter entry.now.outer.now outer.now }
     requires short { HasShortTerms alt.now }
-    ensures made { IfOk result (λ judged. judged.made ≡ spec.alt_in (entries_view tables.now.roster.now) (shown tables.now.attrs.now.names) (entry_view entry.now) at alt.now) }
-    ensures fault { IfOk result (λ judged. judged.fault ≡ first_of (faults.alt_faults (entries_view tables.now.roster.now) (shown tables.now.attrs.now.names) (entry_view entry.now) at alt.now)) }
+    ensures made { IfOk result (λ judged. judged.made ≡ spec.alt_in (roster_in tables.now) (names_under tables.now) (entry_view entry.now) at alt.now) }
+    ensures fault { IfOk result (λ judged. judged.fault ≡ first_of (faults.alt_faults (roster_in tables.now) (names_under tables.now) (entry_view entry.now) at alt.now)) }
 {
     let judged = judged_terms(alloc, tables, entry, at, outer, alt.terms.as_slice())?;
     Ok(Judged {
@@ -140,8 +140,8 @@ fn judged_alts<'a>(
 ) -> Result<Judged<List<NamedAlt>>, AllocError>
     requires tables { AreTables tables.now }
     requires fit { IsFit (entry_view entry.now) }
-    ensures made { IfOk result (λ judged. judged.made ≡ spec.alts_from (entries_view tables.now.roster.now) (shown tables.now.attrs.now.names) (entry_view entry.now) rule 0 (alts_of (entry_view entry.now))) }
-    ensures fault { IfOk result (λ judged. judged.fault ≡ first_of (faults.alts_faults (entries_view tables.now.roster.now) (shown tables.now.attrs.now.names) (entry_view entry.now) rule 0 (alts_of (entry_view entry.now)))) }
+    ensures made { IfOk result (λ judged. judged.made ≡ spec.alts_from (roster_in tables.now) (names_under tables.now) (entry_view entry.now) rule 0 (alts_of (entry_view entry.now))) }
+    ensures fault { IfOk result (λ judged. judged.fault ≡ first_of (faults.alts_faults (roster_in tables.now) (names_under tables.now) (entry_view entry.now) rule 0 (alts_of (entry_view entry.now)))) }
 {
     let alts = entry.rule.alts.as_slice();
     let outer = places(alloc, Family::Sets, entry.outer)?;
@@ -166,8 +166,8 @@ fn judged_rule<'a>(
 ) -> Result<Judged<NamedRule>, AllocError>
     requires tables { AreTables tables.now }
     requires fit { IsFit (entry_view entry.now) }
-    ensures made { IfOk result (λ judged. judged.made ≡ spec.rule_in (entries_view tables.now.roster.now) (shown tables.now.attrs.now.names) rule (entry_view entry.now)) }
-    ensures fault { IfOk result (λ judged. judged.fault ≡ first_of (faults.alts_faults (entries_view tables.now.roster.now) (shown tables.now.attrs.now.names) (entry_view entry.now) rule 0 (alts_of (entry_view entry.now)))) }
+    ensures made { IfOk result (λ judged. judged.made ≡ spec.rule_in (roster_in tables.now) (names_under tables.now) rule (entry_view entry.now)) }
+    ensures fault { IfOk result (λ judged. judged.fault ≡ first_of (faults.alts_faults (roster_in tables.now) (names_under tables.now) (entry_view entry.now) rule 0 (alts_of (entry_view entry.now)))) }
 {
     let name = copy(alloc, entry.rule.name.name.as_slice())?;
     let alts = judged_alts(alloc, tables, rule, entry)?;
@@ -188,9 +188,9 @@ pub fn judged_rules<'a>(
 ) -> Result<Judged<List<NamedRule>>, AllocError>
     requires tables { AreTables tables.now }
     requires few { length tables.now.roster.now < 2 ^ 32 }
-    requires fit { AllByRecursion IsFit (entries_view tables.now.roster.now) }
-    ensures made { IfOk result (λ judged. judged.made ≡ spec.rules_from (entries_view tables.now.roster.now) (shown tables.now.attrs.now.names) 0 (entries_view tables.now.roster.now)) }
-    ensures fault { IfOk result (λ judged. judged.fault ≡ first_of (faults.rules_faults (entries_view tables.now.roster.now) (shown tables.now.attrs.now.names) 0 (entries_view tables.now.roster.now))) }
+    requires fit { AllByRecursion IsFit (roster_in tables.now) }
+    ensures made { IfOk result (λ judged. judged.made ≡ spec.rules_from (roster_in tables.now) (names_under tables.now) 0 (roster_in tables.now)) }
+    ensures fault { IfOk result (λ judged. judged.fault ≡ first_of (faults.rules_faults (roster_in tables.now) (names_under tables.now) 0 (roster_in tables.now))) }
 {
     let roster = tables.roster;
     let mut made = Vec::with_capacity(alloc, roster.len())?;

@@ -14,7 +14,8 @@ returns-in-Item t c =
     let scope : Scope = spot_scope c.args.spot.now in
     let index : First c.expr_fault-index.result (expr_faults scope c.get.result.now) = record { is = c.expr_fault-index.ensures } in
     let called : First c.reference_fault-in-Item.result (reference_fault scope (scope.items c.in-Item.of.name) c.in-Item.of c.in-Item.field) = record {
-      is = c.reference_fault-in-Item.ensures ∙ ap (λ r. first_of (reference_fault scope r c.in-Item.of c.in-Item.field)) (c.items_at-referred.ensures ∙ ap scope.items c.as_slice-in-Item.ensures);
+      is = c.reference_fault-in-Item.ensures ∙ ap (λ r. first_of (reference_fault scope r c.in-Item.of c.in-Item.field)) (c.items_at-referred.ensures
+          ∙ ap scope.items c.as_slice-in-Item.ensures);
     } in
     let shape : c.args.e.now ≡ Item c.in-Item.of c.get.result.now c.in-Item.field = search (rules, the_lemmas) in
     let whole = join c.earlier.result index called c.earlier.ensures in

@@ -18,6 +18,7 @@ returns-in-Repeat c =
     let ends : First c.ends_fault-ends.result (ends_faults own c.in-Repeat.from c.in-Repeat.to) = record {
       is = c.ends_fault-ends.ensures ∙ ap (λ s. first_of (ends_faults s c.in-Repeat.from c.in-Repeat.to)) c.item_spot-inside.ensures;
     } in
-    let later = join c.earlier-in-Repeat-2.result bounds (join c.earlier-in-Repeat.result rule ends c.earlier-in-Repeat.ensures) c.earlier-in-Repeat-2.ensures in
+    let later = join c.earlier-in-Repeat-2.result bounds
+    (join c.earlier-in-Repeat.result rule ends c.earlier-in-Repeat.ensures) c.earlier-in-Repeat-2.ensures in
     let whole = join c.earlier-in-Repeat-3.result var later c.earlier-in-Repeat-3.ensures in
     whole.is ∙ ap (λ t. first_of (term_faults scope t)) (sym c.in-Repeat.is)

@@ -4,4 +4,5 @@ use Rattle.ipg_names.specs.View.{entries_view}
 use Rattle.ipg_names.proofs.fields.fields.Given as goal
 
 abbrev pub invariant-loop-entry : goal.invariant-loop-entry
-invariant-loop-entry l = (f : List ℕ) → rows_set f l.rows.items ++ map (row_of f) (entries_view (drop l.entry-index l.roster)) ≡ map (row_of f) (entries_view l.roster)
+invariant-loop-entry l = (f : List ℕ) → rows_set f l.rows.items ++ map (row_of f) (entries_view (drop l.entry-index l.roster)) ≡ map (row_of f)
+    (entries_view l.roster)

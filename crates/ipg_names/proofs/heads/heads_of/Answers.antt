@@ -17,9 +17,11 @@ loop-r-preserved c =
     record {
       numbers = λ x. c.in_ok-add_head.ensures.numbers x ∙ ap (λ o. or_else o (cond (bytes_eq (entry_name e) x) (Some r) None)) (c.loop-r.invariant.numbers x)
           ∙ sym (numbers_turn roster r e x c.index-roster-r.is c.loop-r-test.true);
-      fault = ap (λ f. earlier f (first_of (head_faults (map name_of (entries_view (take (r + 1) roster))) (entries_view (drop (r + 1) roster))))) c.earlier-fault.ensures
+      fault = ap (λ f. earlier f (first_of (head_faults (map name_of (entries_view (take (r + 1) roster))) (entries_view (drop
+          (r + 1) roster))))) c.earlier-fault.ensures
           ∙ faults_turn roster r e c.loop-r.fault _ _ c.index-roster-r.is c.loop-r-test.true
           (c.in_ok-add_head.ensures.fault
-          ∙ ap (λ o. cond (is_some o || is_some (primitive_of (entry_name e))) (Some (DuplicateRule (entry_at e))) None) (c.loop-r.invariant.numbers (entry_name e)))
+          ∙ ap (λ o. cond (is_some o || is_some (primitive_of (entry_name e))) (Some (DuplicateRule (entry_at e))) None) (c.loop-r.invariant.numbers
+          (entry_name e)))
           c.loop-r.invariant.fault;
     }

@@ -9,7 +9,8 @@ loop-case-init c = rw c.in_ok-made.ensures.items refl
 
 pub loop-case-preserved : goal.loop-case-preserved
 loop-case-preserved c =
-    rw (c.in_ok-push.ensures.items, c.in_ok-named_case.ensures) (map_turn (case_in (spot_scope c.args.spot.now)) _ _ _ _ _ _ c.case-item.is c.loop-case-test.true refl c.loop-case.invariant)
+    rw (c.in_ok-push.ensures.items, c.in_ok-named_case.ensures) (map_turn (case_in
+    (spot_scope c.args.spot.now)) _ _ _ _ _ _ c.case-item.is c.loop-case-test.true refl c.loop-case.invariant)
 
 pub returns : goal.returns
 returns c = c.from_vec.ensures ∙ map_done (case_in (spot_scope c.args.spot.now)) _ _ _ _ c.loop-case-test.false c.loop-case.invariant

@@ -25,7 +25,8 @@ loop-a-preserved c =
     let first : First c.in_ok-judged.judged.fault (alt_faults roster names entry (r, a) alt) = record { is = c.in_ok-judged.ensures.fault } in
     record {
       made = rw (c.in_ok-push.ensures.items, c.in_ok-judged.ensures.made)
-          (made_turn (alts_from roster names entry r) (λ n x. alt_in roster names entry (r, n) x) (λ n x xs. refl) (λ n. refl) _ _ _ _ _ _ c.index-alts-a.is c.loop-a-test.true refl c.loop-a.invariant.made);
+          (made_turn (alts_from roster names entry r) (λ n x. alt_in roster names entry (r, n) x) (λ n x xs. refl)
+          (λ n. refl) _ _ _ _ _ _ c.index-alts-a.is c.loop-a-test.true refl c.loop-a.invariant.made);
       fault = fault_turn (alts_faults roster names entry r) (λ n x. alt_faults roster names entry (r, n) x) (λ n x xs. refl) (λ n. refl)
           _ _ _ _ _ _ c.index-alts-a.is c.loop-a-test.true first c.earlier-fault.ensures c.loop-a.invariant.fault;
     }
@@ -36,5 +37,6 @@ returns-clause-fault c =
     let names = shown c.args.tables.now.attrs.now.names in
     let entry = entry_view c.args.entry.now in
     let r = c.args.rule in
-    fault_done (alts_faults roster names entry r) (λ n x. alt_faults roster names entry (r, n) x) (λ n x xs. refl) (λ n. refl) _ _ _ _ c.loop-a-test.false c.loop-a.invariant.fault
+    fault_done (alts_faults roster names entry r) (λ n x. alt_faults roster names entry (r, n) x) (λ n x xs. refl)
+    (λ n. refl) _ _ _ _ c.loop-a-test.false c.loop-a.invariant.fault
     ∙ ap (λ alts. first_of (alts_faults roster names entry r 0 alts)) c.as_slice-alts.ensures

@@ -13,5 +13,6 @@ invariant-loop-a l =
     let entry = entry_view l.entry in
     record {
       made : l.made.items ++ alts_from roster names entry l.rule l.a (drop l.a l.alts) ≡ alts_from roster names entry l.rule 0 l.alts;
-      fault : earlier l.fault (first_of (alts_faults roster names entry l.rule l.a (drop l.a l.alts))) ≡ first_of (alts_faults roster names entry l.rule 0 l.alts);
+      fault : earlier l.fault (first_of (alts_faults roster names entry l.rule l.a (drop l.a l.alts))) ≡ first_of
+          (alts_faults roster names entry l.rule 0 l.alts);
     }

@@ -22,8 +22,10 @@ loop-r-preserved c =
     let first : First c.in_ok-judged.judged.fault (alts_faults roster names entry r 0 (alts_of entry)) = record { is = c.in_ok-judged.ensures.fault } in
     record {
       made = rw (c.in_ok-push.ensures.items, c.in_ok-judged.ensures.made)
-          (made_turn (λ n es. rules_from roster names n (entries_view es)) (λ n (e : code.Entry). rule_in roster names n (entry_view e)) (λ n x xs. refl) (λ n. refl)
+          (made_turn (λ n es. rules_from roster names n (entries_view es)) (λ n (e : code.Entry). rule_in roster names n (entry_view e)) (λ n x xs. refl)
+          (λ n. refl)
           _ _ _ _ _ _ c.index-roster-r.is c.loop-r-test.true refl c.loop-r.invariant.made);
-      fault = fault_turn (λ n es. rules_faults roster names n (entries_view es)) (λ n (e : code.Entry). alts_faults roster names (entry_view e) n 0 (alts_of (entry_view e)))
+      fault = fault_turn (λ n es. rules_faults roster names n (entries_view es)) (λ n (e : code.Entry). alts_faults roster names (entry_view e) n 0
+          (alts_of (entry_view e)))
           (λ n x xs. refl) (λ n. refl) _ _ _ _ _ _ c.index-roster-r.is c.loop-r-test.true first c.earlier-fault.ensures c.loop-r.invariant.fault;
     }

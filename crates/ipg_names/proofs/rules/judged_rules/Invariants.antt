@@ -12,5 +12,6 @@ invariant-loop-r l =
     let names = shown l.tables.attrs.now.names in
     record {
       made : l.made.items ++ rules_from roster names l.r (entries_view (drop l.r l.roster)) ≡ rules_from roster names 0 (entries_view l.roster);
-      fault : earlier l.fault (first_of (rules_faults roster names l.r (entries_view (drop l.r l.roster)))) ≡ first_of (rules_faults roster names 0 (entries_view l.roster));
+      fault : earlier l.fault (first_of (rules_faults roster names l.r (entries_view (drop l.r l.roster)))) ≡ first_of (rules_faults roster names 0
+          (entries_view l.roster));
     }

@@ -20,7 +20,10 @@ loop-u-preserved c =
     let term = c.index-terms-u.result in
     let scopes = scopes_at c.args.tables.now c.args.entry.now c.args.at terms in
     let here = scope_here c.args.tables.now c.args.entry.now c.args.at terms _ refl c.home_of.ensures c.requires.tables c.loop-u.invariant.marks c.requires.outer in
-    let first : First c.in_ok-judged.judged.fault (term_faults (scopes u) term) = record { is = c.in_ok-judged.ensures.fault ∙ ap (λ s. first_of (term_faults s term)) here } in
+    let first : First c.in_ok-judged.judged.fault (term_faults (scopes u) term) = record {
+      is = c.in_ok-judged.ensures.fault
+          ∙ ap (λ s. first_of (term_faults s term)) here;
+    } in
     let marks = c.loop-u.invariant.marks in
     record {
       marks = record {
@@ -29,7 +32,8 @@ loop-u-preserved c =
         sets = pass_turn Sets c.loop-u.marks.sets c.pass.new.marks.sets terms u term c.index-terms-u.is c.loop-u-test.true c.in_ok-pass.ensures.sets marks.sets;
       };
       made = rw (c.in_ok-push.ensures.items, c.in_ok-judged.ensures.made, here)
-          (made_turn (terms_from scopes) (λ n x. term_in (scopes n) x) (λ n x xs. refl) (λ n. refl) _ _ _ _ _ _ c.index-terms-u.is c.loop-u-test.true refl c.loop-u.invariant.made);
+          (made_turn (terms_from scopes) (λ n x. term_in (scopes n) x) (λ n x xs. refl)
+          (λ n. refl) _ _ _ _ _ _ c.index-terms-u.is c.loop-u-test.true refl c.loop-u.invariant.made);
       fault = fault_turn (terms_faults scopes) (λ n x. term_faults (scopes n) x) (λ n x xs. refl) (λ n. refl)
           _ _ _ _ _ _ c.index-terms-u.is c.loop-u-test.true first c.earlier-fault.ensures c.loop-u.invariant.fault;
     }
@@ -37,7 +41,8 @@ loop-u-preserved c =
 pub returns-clause-made : goal.returns-clause-made
 returns-clause-made c =
     let scopes = scopes_at c.args.tables.now c.args.entry.now c.args.at c.args.terms.now in
-    c.from_vec.ensures ∙ made_done (terms_from scopes) (λ n x. term_in (scopes n) x) (λ n x xs. refl) (λ n. refl) _ _ _ _ c.loop-u-test.false c.loop-u.invariant.made
+    c.from_vec.ensures ∙ made_done (terms_from scopes) (λ n x. term_in (scopes n) x) (λ n x xs. refl)
+    (λ n. refl) _ _ _ _ c.loop-u-test.false c.loop-u.invariant.made
 
 pub returns-clause-fault : goal.returns-clause-fault
 returns-clause-fault c =
