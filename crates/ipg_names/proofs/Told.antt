@@ -1,0 +1,240 @@
+-- The first of a list of faults, and where the faults of a text stand.
+use Rattle.std.proofs.Common.{◌≡◌, ◌↔◌, ℕ, zero, suc, ◌+◌, Bool, true, false, ◌||◌, ◌&&◌, ◌⊎◌, inl, inr, nat_lt, nat_eq, List, [], ◌∷◌, ◌++◌, take, map, Option, Some, None, is_some, slice_get, refl, sym, ap, subst, ◌∙◌, cond, bytes_eq, arith, true≢false, append_assoc, append-nil}
+use Rattle.std.specs.List.{AllByRecursion, list_any}
+use Rattle.std.proofs.lemmas.Bool.Decides.{nat_tests}
+use Rattle.ipg_ast.specs.declared.grammar.Grammar.{Grammar}
+use Rattle.ipg_ast.specs.declared.grammar.Alt.{out-Alt}
+use Rattle.ipg_names.specs.declared.fault.NameFault.{NameFault}
+use Rattle.ipg_names.specs.declared.fault.NameFault.TheVariants.{DuplicateRule}
+use Rattle.ipg_names.specs.Roster.{Entry, name_of, head_at, alts_of, roster_of}
+use Rattle.ipg_names.specs.Primitives.{primitive_of}
+use Rattle.ipg_names.specs.Names.{attr_names}
+use Rattle.ipg_names.specs.Scope.{is_named}
+use Rattle.ipg_names.specs.Resolved.{alt_scopes}
+use Rattle.ipg_names.specs.Fault.{number_of, place_of, is_before, earlier, first_of}
+use Rattle.ipg_names.specs.Faults.{when, head_faults, term_faults, terms_faults, alt_faults, alts_faults, rules_faults, faults_of}
+use Rattle.ipg_names.specs.Told.{Stands, IsFirst, IsHeadFault, IsTermFault}
+use Rattle.ipg_names.proofs.Firsts.{not_before}
+use Rattle.ipg_names.proofs.Lists.{any_map}
+use Rattle.ipg_names.proofs.GoodNames.{first_none}
+
+-- ---- the first
+
+itself : (n p : ℕ) → (nat_lt n n || (nat_eq n n && nat_lt p p)) ≡ false
+itself n p = grind (arith, nat_tests)
+
+turned : (n p m q : ℕ) → (nat_lt n m || (nat_eq n m && nat_lt p q)) ≡ true → (nat_lt m n || (nat_eq m n && nat_lt q p)) ≡ false
+turned n p m q h = grind (arith, nat_tests)
+
+later : (a b c : NameFault) → is_before a b ≡ false → is_before b c ≡ false → is_before a c ≡ false
+later a b c f g = not_before (number_of a) (place_of a) (number_of b) (place_of b) (number_of c) (place_of c) f g
+
+all_later : (x y : NameFault) (faults : List NameFault) → is_before y x ≡ false → AllByRecursion (λ z. is_before z y ≡ false) faults
+    → AllByRecursion (λ z. is_before z x ≡ false) faults
+all_later x y [] h k = tt
+all_later x y (z ∷ faults) h k = (later z y x k.0 h, all_later x y faults h k.1)
+
+first_is : (faults : List NameFault) (fault : NameFault) → first_of faults ≡ Some fault → IsFirst faults fault
+first_is [] fault h = absurd (cc)
+first_is (x ∷ xs) fault h = by (first_of xs) refl h (first_is xs)
+  where
+    one : x ≡ fault → xs ≡ [] → IsFirst (x ∷ xs) fault
+    one e none = subst (IsFirst (x ∷ xs)) e (record {
+      stands = inl refl;
+      least = (
+        itself (number_of x) (place_of x),
+        subst (AllByRecursion
+            (λ z. is_before z x ≡ false)) (sym none) tt,
+      );
+    })
+
+    two : (y : NameFault) (b : Bool) → is_before y x ≡ b → IsFirst xs y → Some (cond b y x) ≡ Some fault → IsFirst (x ∷ xs) fault
+    two y true e f k = subst (IsFirst (x ∷ xs)) (let same : y ≡ fault = cc in same)
+        (record { stands = inr f.stands; least = (turned (number_of y) (place_of y) (number_of x) (place_of x) e, f.least) })
+    two y false e f k = subst (IsFirst (x ∷ xs)) (let same : x ≡ fault = cc in same)
+        (record { stands = inl refl; least = (itself (number_of x) (place_of x), all_later x y xs e f.least) })
+
+    by : (o : Option NameFault) → first_of xs ≡ o → earlier (Some x) o ≡ Some fault → ((y : NameFault) → first_of xs ≡ Some y → IsFirst xs y)
+        → IsFirst (x ∷ xs) fault
+    by None e k f = one (let same : x ≡ fault = cc in same) (first_none xs e)
+    by (Some y) e k f = two y (is_before y x) refl (f y e) k
+
+pub first_told : (faults : List NameFault) → ((first_of faults ≡ None) ↔ (faults ≡ [])) × ((fault : NameFault) → first_of faults ≡ Some fault
+    → IsFirst faults fault)
+first_told faults = ((first_none faults, λ e. ap first_of e), first_is faults)
+
+-- ---- where faults stand
+
+left : {A : Type 0} (xs ys : List A) (x : A) → Stands xs x → Stands (xs ++ ys) x
+left [] ys x h = absurd h
+left (z ∷ xs) ys x (inl e) = inl e
+left (z ∷ xs) ys x (inr h) = inr (left xs ys x h)
+
+right : {A : Type 0} (xs ys : List A) (x : A) → Stands ys x → Stands (xs ++ ys) x
+right [] ys x h = h
+right (z ∷ xs) ys x h = inr (right xs ys x h)
+
+either : {A : Type 0} (xs ys : List A) (x : A) → Stands (xs ++ ys) x → Stands xs x ⊎ Stands ys x
+either [] ys x h = inr h
+either (z ∷ xs) ys x (inl e) = inl (inl e)
+either (z ∷ xs) ys x (inr h) = more (either xs ys x h)
+  where
+    more : Stands xs x ⊎ Stands ys x → Stands (z ∷ xs) x ⊎ Stands ys x
+    more (inl k) = inl (inr k)
+    more (inr k) = inr k
+
+-- faults of an item of a list
+pub record At {A : Type 0} (faults_at : ℕ → A → List NameFault) (n : ℕ) (xs : List A) (f : NameFault) : Type 0 where
+  pub number : ℕ
+  pub item : A
+  pub is_item : slice_get xs number ≡ Some item
+  pub stands : Stands (faults_at (n + number) item) f
+
+module _ {A : Type 0} (faults_from : ℕ → List A → List NameFault) (faults_at : ℕ → A → List NameFault)
+    (on : (n : ℕ) (x : A) (xs : List A) → faults_from n (x ∷ xs) ≡ faults_at n x ++ faults_from (n + 1) xs) (none : (n : ℕ) → faults_from n [] ≡ []) where
+  which : (n : ℕ) (xs : List A) (f : NameFault) → Stands (faults_from n xs) f → At faults_at n xs f
+  which n [] f h = absurd (subst (λ l. Stands l f) (none n) h)
+  which n (x ∷ xs) f h = by (either (faults_at n x) (faults_from (n + 1) xs) f (subst (λ l. Stands l f) (on n x xs) h)) (which (n + 1) xs f)
+    where
+      by : Stands (faults_at n x) f ⊎ Stands (faults_from (n + 1) xs) f → (Stands (faults_from (n + 1) xs) f → At faults_at (n + 1) xs f)
+          → At faults_at n (x ∷ xs) f
+      by (inl k) rest = record { number = 0; item = x; is_item = refl; stands = subst (λ m. Stands (faults_at m x) f) (let e : n ≡ n + 0 = omega arith in e) k }
+      by (inr k) rest =
+          let w = rest k in
+          record {
+            number = suc w.number;
+            item = w.item;
+            is_item = w.is_item;
+            stands = subst (λ m. Stands (faults_at m w.item) f)
+                (let e : n + 1 + w.number ≡ n + suc w.number = omega arith in e) w.stands;
+          }
+
+  there : (n : ℕ) (xs : List A) (f : NameFault) (k : ℕ) (x : A) → slice_get xs k ≡ Some x → Stands (faults_at (n + k) x) f → Stands (faults_from n xs) f
+  there n [] f k x e h = absurd (cc)
+  there n (y ∷ xs) f zero x e h =
+      subst (λ l. Stands l f) (sym (on n y xs)) (left (faults_at n y) (faults_from (n + 1) xs) f
+      (subst (λ z. Stands (faults_at n z) f) (let same : x ≡ y = cc in same) (subst (λ m. Stands (faults_at m x) f) (let z : n + 0 ≡ n = omega arith in z) h)))
+  there n (y ∷ xs) f (suc k) x e h =
+      subst (λ l. Stands l f) (sym (on n y xs)) (right (faults_at n y) (faults_from (n + 1) xs) f
+      (there (n + 1) xs f k x e (subst (λ m. Stands (faults_at m x) f) (let z : n + suc k ≡ n + 1 + k = omega arith in z) h)))
+
+-- ---- heads
+
+abbrev clash : List (List ℕ) → Entry → Bool
+clash before entry = list_any (bytes_eq (name_of entry)) before || is_some (primitive_of (name_of entry))
+
+pub record Head (before : List (List ℕ)) (es : List Entry) (f : NameFault) : Type 0 where
+  pub number : ℕ
+  pub entry : Entry
+  pub is_entry : slice_get es number ≡ Some entry
+  pub twice : clash (before ++ map name_of (take number es)) entry ≡ true
+  pub fault_is : f ≡ DuplicateRule (head_at entry)
+
+when_is : (b : Bool) (fault f : NameFault) → Stands (when b fault) f → (b ≡ true) × (f ≡ fault)
+when_is true fault f (inl e) = (refl, sym e)
+when_is true fault f (inr h) = absurd h
+when_is false fault f h = absurd h
+
+is_when : (b : Bool) (fault f : NameFault) → b ≡ true → f ≡ fault → Stands (when b fault) f
+is_when true fault f h e = inl (sym e)
+is_when false fault f h e = absurd (true≢false (sym h))
+
+heads_which : (before : List (List ℕ)) (es : List Entry) (f : NameFault) → Stands (head_faults before es) f → Head before es f
+heads_which before [] f h = absurd h
+heads_which before (e ∷ es) f h =
+    by (either (when (clash before e) (DuplicateRule (head_at e))) (head_faults (before ++ name_of e ∷ []) es) f h) (heads_which
+    (before ++ name_of e ∷ []) es f)
+  where
+    by : Stands (when (clash before e) (DuplicateRule (head_at e))) f ⊎ Stands (head_faults (before ++ name_of e ∷ []) es) f
+        → (Stands (head_faults (before ++ name_of e ∷ []) es) f → Head (before ++ name_of e ∷ []) es f) → Head before (e ∷ es) f
+    by (inl k) rest =
+        let w = when_is (clash before e) (DuplicateRule (head_at e)) f k in
+        record { number = 0; entry = e; is_entry = refl; twice = ap (λ l. clash l e) (append-nil before) ∙ w.0; fault_is = w.1 }
+    by (inr k) rest =
+        let w = rest k in
+        record {
+          number = suc w.number;
+          entry = w.entry;
+          is_entry = w.is_entry;
+          twice = ap (λ l. clash l w.entry) (sym (append_assoc before
+              (name_of e ∷ []) (map name_of (take w.number es)))) ∙ w.twice;
+          fault_is = w.fault_is;
+        }
+
+heads_there : (before : List (List ℕ)) (es : List Entry) (f : NameFault) (k : ℕ) (entry : Entry) → slice_get es k ≡ Some entry
+    → clash (before ++ map name_of (take k es)) entry ≡ true → f ≡ DuplicateRule (head_at entry) → Stands (head_faults before es) f
+heads_there before [] f k entry is twice e = absurd (cc)
+heads_there before (x ∷ es) f zero entry is twice e =
+    let same : entry ≡ x = cc in
+    left (when (clash before x) (DuplicateRule (head_at x))) (head_faults (before ++ name_of x ∷ []) es) f
+    (is_when (clash before x) (DuplicateRule (head_at x)) f (ap (clash before) (sym same) ∙ ap (λ l. clash l entry) (sym (append-nil before)) ∙ twice) (e
+    ∙ ap (λ y. DuplicateRule (head_at y)) same))
+heads_there before (x ∷ es) f (suc k) entry is twice e =
+    right (when (clash before x) (DuplicateRule (head_at x))) (head_faults (before ++ name_of x ∷ []) es) f
+    (heads_there (before ++ name_of x ∷ []) es f k entry is (ap (λ l. clash l entry) (append_assoc before (name_of x ∷ []) (map name_of (take k es)))
+    ∙ twice) e)
+
+-- ---- all faults of a text
+
+module _ (g : Grammar) (f : NameFault) where
+  abbrev roster : List Entry
+  roster = roster_of g
+
+  abbrev names : List (List ℕ)
+  names = attr_names g
+
+  known : (entry : Entry) (k : ℕ) → (list_any (is_named (name_of entry)) (take k roster) || is_some (primitive_of (name_of entry))) ≡ clash (map name_of
+      (take k roster)) entry
+  known entry k = ap (λ b. b || is_some (primitive_of (name_of entry))) (sym (any_map (bytes_eq (name_of entry)) name_of (take k roster)))
+
+  of_head : Head [] roster f → IsHeadFault g f
+  of_head w = record { rule = w.number; entry = w.entry; is_rule = w.is_entry; twice = known w.entry w.number ∙ w.twice; fault_is = w.fault_is }
+
+  from_zero : (n : ℕ) → 0 + n ≡ n
+  from_zero n = omega arith
+
+  of_term : Stands (rules_faults roster names 0 roster) f → IsTermFault g f
+  of_term h =
+      let r = which (rules_faults roster names) (λ n e. alts_faults roster names e n 0 (alts_of e)) (λ n x xs. refl) (λ n. refl) 0 roster f h in
+      let in_rule = subst (λ n. Stands (alts_faults roster names r.item n 0 (alts_of r.item)) f) (from_zero r.number) r.stands in
+      let a = which (alts_faults roster names r.item r.number) (λ n x. alt_faults roster names r.item (r.number, n) x) (λ n x xs. refl) (λ n. refl) 0
+      (alts_of r.item) f in_rule in
+      let in_alt = subst (λ n. Stands (alt_faults roster names r.item (r.number, n) a.item) f) (from_zero a.number) a.stands in
+      let scopes = alt_scopes roster names r.item (r.number, a.number) a.item in
+      let t = which (terms_faults scopes) (λ n x. term_faults (scopes n) x) (λ n x xs. refl) (λ n. refl) 0 (out-Alt a.item).terms f in_alt in
+      record {
+        rule = r.number;
+        entry = r.item;
+        is_rule = r.is_item;
+        place = a.number;
+        alt = a.item;
+        is_alt = a.is_item;
+        number = t.number;
+        term = t.item;
+        is_term = t.is_item;
+        fault_in = subst (λ n. Stands (term_faults (scopes n) t.item) f) (from_zero t.number) t.stands;
+      }
+
+  term_there : IsTermFault g f → Stands (rules_faults roster names 0 roster) f
+  term_there w =
+      let scopes = alt_scopes roster names w.entry (w.rule, w.place) w.alt in
+      let in_alt = there (terms_faults scopes) (λ n x. term_faults (scopes n) x) (λ n x xs. refl) (λ n. refl) 0
+      (out-Alt w.alt).terms f w.number w.term w.is_term
+      (subst (λ n. Stands (term_faults (scopes n) w.term) f) (sym (from_zero w.number)) w.fault_in) in
+      let in_rule = there (alts_faults roster names w.entry w.rule) (λ n x. alt_faults roster names w.entry (w.rule, n) x) (λ n x xs. refl) (λ n. refl) 0
+      (alts_of w.entry) f w.place w.alt w.is_alt
+      (subst (λ n. Stands (alt_faults roster names w.entry (w.rule, n) w.alt) f) (sym (from_zero w.place)) in_alt) in
+      there (rules_faults roster names) (λ n e. alts_faults roster names e n 0 (alts_of e)) (λ n x xs. refl) (λ n. refl) 0 roster f w.rule w.entry w.is_rule
+      (subst (λ n. Stands (alts_faults roster names w.entry n 0 (alts_of w.entry)) f) (sym (from_zero w.rule)) in_rule)
+
+  found : Stands (head_faults [] roster) f ⊎ Stands (rules_faults roster names 0 roster) f → IsHeadFault g f ⊎ IsTermFault g f
+  found (inl h) = inl (of_head (heads_which [] roster f h))
+  found (inr h) = inr (of_term h)
+
+  standing : IsHeadFault g f ⊎ IsTermFault g f → Stands (faults_of g) f
+  standing (inl w) = left (head_faults [] roster) (rules_faults roster names 0 roster) f (heads_there [] roster f w.rule w.entry w.is_rule (sym
+      (known w.entry w.rule) ∙ w.twice) w.fault_is)
+  standing (inr w) = right (head_faults [] roster) (rules_faults roster names 0 roster) f (term_there w)
+
+  pub faults_stand : Stands (faults_of g) f ↔ (IsHeadFault g f ⊎ IsTermFault g f)
+  faults_stand = (λ h. found (either (head_faults [] roster) (rules_faults roster names 0 roster) f h), standing)

@@ -1,0 +1,5 @@
+use Rattle.ipg_names.proofs.Told.{faults_stand}
+use Rattle.ipg_names.proofs.laws.faults_stand.Goals as goal
+
+pub returns : goal.returns
+returns c = faults_stand
