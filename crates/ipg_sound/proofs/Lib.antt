@@ -10,3 +10,4 @@ pub mod Rebuild
 pub mod Slots
 pub mod Ran
 pub mod Grows
+pub mod Calls

@@ -20,6 +20,10 @@ use Rattle.ipg_sound.specs.Known.{AreSo, Fits, Knows}
 use Rattle.std.specs.List.{AllByRecursion}
 use Rattle.ipg_core.specs.Mention.{mentions}
 use Rattle.ipg_sound.specs.Grows.{Grows, IsSettled}
+use Rattle.ipg_core.specs.Grammar.{Grammar}
+use Rattle.ipg_core.specs.Environment.{Values}
+use Rattle.ipg_graph.specs.declared.edge.Edge.{Edge}
+use Rattle.ipg_sound.specs.Reached.{Reached, CallsAt, frame_of}
 use Rattle.ipg_sound.specs.Ran.{TermRan, AllRan, CallsWhole}
 
 -- values in the box that make the formula hold
@@ -56,6 +60,11 @@ TermsAreKnown = (v : Valuation) (scope : Scope) (env : Environment) → Fits v s
 abbrev pub OwnMembersAreKnown : Type 0
 OwnMembersAreKnown = (v : Valuation) (scope : Scope) (env : Environment) → Fits v scope env
     → (branch : ℕ) (term : CoreTerm) → CallsWhole env branch term → AreSo v (own_members scope branch (Some term))
+
+-- where an edge is reached, its term makes a call on the whole part
+abbrev pub EdgesCall : Type 0
+EdgesCall = (g : Grammar) (e : Edge) (s : List ℕ) (outer : Values) (height : ℕ) → (reached : Reached g e s outer height)
+    → CallsAt (frame_of g e s outer) reached.state e.term e.branch reached.term
 
 -- a value stays where its environment goes on
 abbrev pub ValuesStay : Type 0

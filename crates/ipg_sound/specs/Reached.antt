@@ -1,12 +1,18 @@
 -- A call of an edge that is made on its caller's whole part.
-use Rattle.std.specs.Prelude.{◌≡◌, ℕ, List, ◌∷◌, ◌++◌, length, Some, Ok, Contains, slice_get}
+use Rattle.std.specs.Prelude.{◌≡◌, ℕ, List, ◌∷◌, ◌++◌, length, Some, None, Ok, false, Contains, slice_get, ℤ, ◌≤ℤ◌, ◌<ℤ◌}
+use Rattle.ipg_num.specs.declared.op.Answer.TheVariants.{Val}
+use Rattle.ipg_core.specs.declared.grammar.CoreSlot.{CoreSlot}
+use Rattle.ipg_core.specs.declared.grammar.CoreTerm.TheVariants.{Repeat}
+use Rattle.ipg_core.specs.Tree.{Kid, Array, kids_of}
+use Rattle.ipg_core.specs.Eval.{eval}
+use Rattle.ipg_sound.specs.Ran.{IsWholeCall, CallsWhole}
 use Rattle.ipg_core.specs.declared.grammar.CoreTerm.{CoreTerm}
 use Rattle.ipg_core.specs.declared.grammar.CoreAlt.{CoreAlt}
 use Rattle.ipg_core.specs.declared.grammar.CoreRule.{CoreRule}
 use Rattle.ipg_core.specs.Grammar.{Grammar}
 use Rattle.ipg_core.specs.Environment.{Values}
 use Rattle.ipg_core.specs.Run.{Asked}
-use Rattle.ipg_core.specs.Meaning.{Frame, State, start, term_on, terms_on, den}
+use Rattle.ipg_core.specs.Meaning.{Frame, State, environment, with_kid, start, term_on, terms_on, den}
 use Rattle.ipg_core.specs.Good.{AltAt}
 use Rattle.ipg_graph.specs.declared.edge.Edge.{Edge}
 
@@ -23,6 +29,21 @@ pub record IsCallOf (e : Edge) (n : ℕ) (asked : Asked) : Type 0 where
   pub callee : asked.callee ≡ e.callee
   pub from : asked.from ≡ 0
   pub to : asked.to ≡ n
+
+-- an item of an array from a to b is called on the whole part, behind these items
+pub record ItemCalls (f : Frame) (state : State) (term : ℕ) (slot : CoreSlot) (a b : ℤ) : Type 0 where
+  pub items : List Kid
+  pub turn : ℤ
+  pub begun : a ≤ℤ turn
+  pub ends : turn <ℤ b
+  pub whole : IsWholeCall (environment f (with_kid state term false (Array slot.sym (kids_of items))) (Some turn)) slot.from slot.to
+
+-- in this state a term makes a call of that branch on the whole part
+abbrev pub CallsAt : Frame → State → ℕ → ℕ → CoreTerm → Type 0
+CallsAt f state term b (Repeat first last item from to) =
+    (ends : ℤ × ℤ) × (eval first (environment f state None) ≡ Val ends.0) × (eval last (environment f state None) ≡ Val ends.1)
+    × ItemCalls f state term (record { sym = item; from = from; to = to }) ends.0 ends.1
+CallsAt f state term b other = CallsWhole (environment f state None) b other
 
 -- the terms before the edge's have results, and the edge's term then makes that call
 pub record Reached (g : Grammar) (e : Edge) (s : List ℕ) (outer : Values) (height : ℕ) : Type 0 where

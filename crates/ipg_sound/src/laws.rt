@@ -1,6 +1,6 @@
 //! Laws of the conditions, each the contract of a function that does nothing.
 
-ghost use Rattle.ipg_sound.specs.Laws.{FactsSolve, MembersAreKnown, OwnMembersAreKnown, PartsSolveJoint, SpellingsDiffer, TermsAreKnown, ValuesAreKnown, ValuesStay};
+ghost use Rattle.ipg_sound.specs.Laws.{EdgesCall, FactsSolve, MembersAreKnown, OwnMembersAreKnown, PartsSolveJoint, SpellingsDiffer, TermsAreKnown, ValuesAreKnown, ValuesStay};
 
 /// Facts that hold where variables have values by their keys make their formula over numbers hold, in its box.
 pub fn facts_solve()
@@ -42,4 +42,9 @@ pub fn terms_are_known()
 /// A value stays where its environment goes on, if behind the items that are mentioned nothing is added.
 pub fn values_stay()
     ensures { ValuesStay }
+{}
+
+/// Where an edge is reached, its term makes a call on the whole part.
+pub fn edges_call()
+    ensures { EdgesCall }
 {}
