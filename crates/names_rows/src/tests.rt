@@ -282,7 +282,7 @@ const REFERENCES: [Reference; 8] = [
     },
 ];
 
-fn meaning(e: &CoreExpr) -> Meaning {
+fn meaning_of(e: &CoreExpr) -> Meaning {
     match e {
         CoreExpr::Seen { term, .. } => Meaning::Seen(*term),
         CoreExpr::Item { term, .. } => Meaning::Item(*term),
@@ -301,13 +301,13 @@ fn meant(named: &Named, rule: usize, term: usize) -> Meaning {
         return Meaning::Other;
     };
     match item_at(alt.terms.as_slice(), term) {
-        Some(NamedTerm::Test(cond)) => meaning(cond),
-        Some(NamedTerm::Repeat { from, .. }) => meaning(from),
+        Some(NamedTerm::Test(cond)) => meaning_of(cond),
+        Some(NamedTerm::Repeat { from, .. }) => meaning_of(from),
         _ => Meaning::Other,
     }
 }
 
-fn reference(alloc: Global, row: &Reference) -> Meaning {
+fn meant_in(alloc: Global, row: &Reference) -> Meaning {
     match grammar_in(alloc, row.text) {
         Some(g) => match resolve(alloc, &g) {
             Ok(named) => meant(&named, row.rule, row.term),
@@ -320,7 +320,7 @@ fn reference(alloc: Global, row: &Reference) -> Meaning {
 #[test]
 fn references(rt: HostRuntime) -> Result<(), Fail> {
     for row in &REFERENCES {
-        assert_eq!(rt; reference(rt.alloc(), row), row.means);
+        assert_eq!(rt; meant_in(rt.alloc(), row), row.means);
     }
     Ok(())
 }
