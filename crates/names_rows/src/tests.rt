@@ -1,5 +1,8 @@
 use super::grammar_in;
-use ipg_names::{NameFault, Named, resolve};
+use ipg_core::grammar::CoreExpr;
+use ipg_names::{NameFault, Named, NamedTerm, resolve};
+use ipg_num::item_at;
+use std::alloc::Global;
 use std::test::Fail;
 
 struct Row {
@@ -194,12 +197,130 @@ fn told(answer: &Result<Named, NameFault>) -> (u32, u32) {
     }
 }
 
+/// The number and the place of the refusal of a text's names; (0, 0) where there is none, (1, 0) where the text is no grammar.
+fn refusal(alloc: Global, text: &[u8]) -> (u32, u32) {
+    match grammar_in(alloc, text) {
+        Some(g) => told(&resolve(alloc, &g)),
+        None => (1, 0),
+    }
+}
+
 #[test]
 fn refusals(rt: HostRuntime) -> Result<(), Fail> {
-    let alloc = rt.alloc();
     for row in &ROWS {
-        let g = grammar_in(alloc, row.text).ok_or("no grammar")?;
-        assert_eq!(rt; told(&resolve(alloc, &g)), (row.number, row.at));
+        assert_eq!(rt; refusal(rt.alloc(), row.text), (row.number, row.at));
+    }
+    Ok(())
+}
+
+/// A test of the text whose condition is one name: the rule and the term where it stands, and what it means.
+struct Reference {
+    text: &'static [u8],
+    rule: usize,
+    term: usize,
+    means: Meaning,
+}
+
+#[derive(Clone, Copy, Debug, PartialEq, Eq)]
+enum Meaning {
+    Seen(u32),
+    Item(u32),
+    Own(u32),
+    Outer(u32),
+    Loop,
+    Other,
+}
+
+const REFERENCES: [Reference; 8] = [
+    Reference {
+        text: b"S -> A A ?(A.n) A ; A -> {n = 1} ;",
+        rule: 0,
+        term: 2,
+        means: Meaning::Seen(1),
+    },
+    Reference {
+        text: b"S -> ?(A.n) A A ; A -> {n = 1} ;",
+        rule: 0,
+        term: 0,
+        means: Meaning::Seen(1),
+    },
+    Reference {
+        text: b"S -> A switch { case (1) A else U8 } ?(A.n) ; A -> {n = 1} ;",
+        rule: 0,
+        term: 2,
+        means: Meaning::Seen(1),
+    },
+    Reference {
+        text: b"S -> for i = 0 to 1 do A[0,1] for i = 0 to 1 do A[0,1] ?(A(0).n) ; A -> {n = 1} ;",
+        rule: 0,
+        term: 2,
+        means: Meaning::Item(1),
+    },
+    Reference {
+        text: b"S -> {x = 1} L where { L -> {x = 2} ?(x) ; } ;",
+        rule: 1,
+        term: 1,
+        means: Meaning::Own(0),
+    },
+    Reference {
+        text: b"S -> {y = 1} {x = 1} L where { L -> ?(x) ; } ;",
+        rule: 1,
+        term: 0,
+        means: Meaning::Outer(1),
+    },
+    Reference {
+        text: b"S -> {x = 1} L where { L -> for x = 0 to 1 do U8[x, 1] ; } ;",
+        rule: 1,
+        term: 0,
+        means: Meaning::Loop,
+    },
+    Reference {
+        text: b"S -> ?(A.n) {m = A.k} ?(m) A ; A -> {k = 1} {n = 2} ;",
+        rule: 0,
+        term: 2,
+        means: Meaning::Own(1),
+    },
+];
+
+fn meaning_of(e: &CoreExpr) -> Meaning {
+    match e {
+        CoreExpr::Seen { term, .. } => Meaning::Seen(*term),
+        CoreExpr::Item { term, .. } => Meaning::Item(*term),
+        CoreExpr::Own(attr) => Meaning::Own(*attr),
+        CoreExpr::Outer(attr) => Meaning::Outer(*attr),
+        CoreExpr::Loop => Meaning::Loop,
+        _ => Meaning::Other,
+    }
+}
+
+fn meant(named: &Named, rule: usize, term: usize) -> Meaning {
+    let Some(rule) = item_at(named.rules(), rule) else {
+        return Meaning::Other;
+    };
+    let Some(alt) = item_at(rule.alts.as_slice(), 0) else {
+        return Meaning::Other;
+    };
+    match item_at(alt.terms.as_slice(), term) {
+        Some(NamedTerm::Test(cond)) => meaning_of(cond),
+        Some(NamedTerm::Repeat { from, .. }) => meaning_of(from),
+        _ => Meaning::Other,
+    }
+}
+
+fn meant_in(alloc: Global, row: &Reference) -> Meaning {
+    match grammar_in(alloc, row.text) {
+        Some(g) => match resolve(alloc, &g) {
+            Ok(named) => meant(&named, row.rule, row.term),
+            Err(_) => Meaning::Other,
+        },
+        None => Meaning::Other,
+    }
+}
+
+#[test]
+fn references(rt: HostRuntime) -> Result<(), Fail> {
+    for row in &REFERENCES {
+        assert_eq!(rt; meant_in(rt.alloc(), row), row.means);
     }
     Ok(())
 }
