@@ -11,3 +11,4 @@ pub mod Slots
 pub mod Ran
 pub mod Grows
 pub mod Calls
+pub mod Inside

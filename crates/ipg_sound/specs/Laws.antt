@@ -23,6 +23,9 @@ use Rattle.ipg_sound.specs.Grows.{Grows, IsSettled}
 use Rattle.ipg_core.specs.Grammar.{Grammar}
 use Rattle.ipg_core.specs.Environment.{Values}
 use Rattle.ipg_graph.specs.declared.edge.Edge.{Edge}
+use Rattle.ipg_core.specs.Good.{Good}
+use Rattle.ipg_graph.specs.Graph.{IsInside}
+use Rattle.ipg_edges.specs.Edges.{edges_of}
 use Rattle.ipg_sound.specs.Reached.{Reached, CallsAt, frame_of}
 use Rattle.ipg_sound.specs.Ran.{TermRan, AllRan, CallsWhole}
 
@@ -60,6 +63,14 @@ TermsAreKnown = (v : Valuation) (scope : Scope) (env : Environment) → Fits v s
 abbrev pub OwnMembersAreKnown : Type 0
 OwnMembersAreKnown = (v : Valuation) (scope : Scope) (env : Environment) → Fits v scope env
     → (branch : ℕ) (term : CoreTerm) → CallsWhole env branch term → AreSo v (own_members scope branch (Some term))
+
+-- the calls of a good grammar are from its rules to its rules
+abbrev pub EdgesAreInside : Type 0
+EdgesAreInside = (g : Grammar) → Good g → AllByRecursion (IsInside (length g.rules)) (edges_of g)
+
+-- they have numbers of 32 bits
+abbrev pub EdgesAreFew : Type 0
+EdgesAreFew = (g : Grammar) → Good g → length (edges_of g) < 2 ^ 32
 
 -- where an edge is reached, its term makes a call on the whole part
 abbrev pub EdgesCall : Type 0

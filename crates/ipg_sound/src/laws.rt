@@ -1,6 +1,6 @@
 //! Laws of the conditions, each the contract of a function that does nothing.
 
-ghost use Rattle.ipg_sound.specs.Laws.{EdgesCall, FactsSolve, MembersAreKnown, OwnMembersAreKnown, PartsSolveJoint, SpellingsDiffer, TermsAreKnown, ValuesAreKnown, ValuesStay};
+ghost use Rattle.ipg_sound.specs.Laws.{EdgesAreFew, EdgesAreInside, EdgesCall, FactsSolve, MembersAreKnown, OwnMembersAreKnown, PartsSolveJoint, SpellingsDiffer, TermsAreKnown, ValuesAreKnown, ValuesStay};
 
 /// Facts that hold where variables have values by their keys make their formula over numbers hold, in its box.
 pub fn facts_solve()
@@ -47,4 +47,14 @@ pub fn values_stay()
 /// Where an edge is reached, its term makes a call on the whole part.
 pub fn edges_call()
     ensures { EdgesCall }
+{}
+
+/// The calls of a good grammar are from its rules to its rules.
+pub fn edges_are_inside()
+    ensures { EdgesAreInside }
+{}
+
+/// A good grammar has fewer than 2^32 calls.
+pub fn edges_are_few()
+    ensures { EdgesAreFew }
 {}
