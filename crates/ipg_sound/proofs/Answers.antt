@@ -7,7 +7,10 @@ use Rattle.std.proofs.lemmas.Bool.Decides.{nat_tests, Decides-int_eq}
 use Rattle.ipg_num.specs.Number.{limited, flag}
 use Rattle.ipg_num.specs.declared.op.Answer.{Answer}
 use Rattle.ipg_num.specs.declared.op.Answer.TheVariants.{Val, Fail, Range}
-use Rattle.ipg_core.specs.Eval.{on_value, found, is_zero}
+use Rattle.ipg_core.specs.declared.grammar.CoreExpr.{CoreExpr, fold_out-CoreExpr}
+use Rattle.ipg_core.specs.Environment.{Environment}
+use Rattle.ipg_core.specs.Eval as core
+use Rattle.ipg_core.specs.Eval.{eval, opened, limited_reading, on_value, found, is_zero}
 
 pub found_is : (o : Option ℤ) (z : ℤ) → found o ≡ Val z → o ≡ Some z
 found_is None z e = cc
@@ -30,6 +33,14 @@ pub kept : (r : Answer) (z : ℤ) → on_value r limited ≡ Val z → Kept r z
 kept (Val y) z e = let f : y ≡ z = limited_is y z e in record { is = ap Val f; number = ap limited (sym f) ∙ e }
 kept Fail z e = cc
 kept Range z e = cc
+
+eval_opened : (e : CoreExpr) (env : Environment) → eval e env ≡ limited_reading (opened e) env
+unfolding eval
+eval_opened e env = ap (λ f. f env) (fold_out-CoreExpr core.Reading limited_reading e)
+
+-- a value is a number, since it was evaluated
+pub is_limited : (e : CoreExpr) (env : Environment) (z : ℤ) → eval e env ≡ Val z → limited z ≡ Val z
+is_limited e env z h = (kept (core.reading (opened e) env) z (sym (eval_opened e env) ∙ h)).number
 
 -- the value that came first
 pub record First (r : Answer) (go : ℤ → Answer) (z : ℤ) : Type 0 where

@@ -64,7 +64,8 @@ module _ (v : Valuation) where
   sum_added [] p = omega (arith, ints)
   sum_added (q ∷ qs) p = added (bytes_eq q.key p.key) q p qs (add_part qs p) refl (sum_added qs p)
 
-  true_chosen : (b : Bool) (q p : Part) (qs more : List Part) → AreTrue v (q ∷ qs) → AreTrue v more → AreTrue v (if b then record q { factor = q.factor +ℤ p.factor } ∷ qs else q ∷ more)
+  true_chosen : (b : Bool) (q p : Part) (qs more : List Part) → AreTrue v (q ∷ qs) → AreTrue v more
+      → AreTrue v (if b then record q { factor = q.factor +ℤ p.factor } ∷ qs else q ∷ more)
   true_chosen true q p qs more h k = h
   true_chosen false q p qs more h k = (h.0, k)
 
@@ -89,7 +90,8 @@ module _ (v : Valuation) where
   pub stands_plus : (a b : Form) (x y : ℤ) → Stands v a x → Stands v b y → Stands v (plus a b) (x +ℤ y)
   unfolding plus
   stands_plus a b x y s t = record {
-    value = ap (λ z. z +ℤ (a.constant +ℤ b.constant)) (sums_added a.parts b.parts) ∙ regroup (parts_sum v a.parts) (parts_sum v b.parts) a.constant b.constant x y s.value t.value;
+    value = ap (λ z. z +ℤ (a.constant +ℤ b.constant)) (sums_added a.parts b.parts)
+        ∙ regroup (parts_sum v a.parts) (parts_sum v b.parts) a.constant b.constant x y s.value t.value;
     facts = trues_added a.parts b.parts s.facts t.facts;
   }
 
@@ -141,7 +143,8 @@ module _ (v : Valuation) where
   sum_counted [] = refl
   sum_counted (p ∷ ps) = counted (is_zero p.factor) p ps refl (sum_counted ps)
 
-  facts_chosen : (b : Bool) (p : Part) (ps : List Part) → AreSo v p.facts → AreSo v (flat_map (λ p. p.facts) ps) → AreSo v (flat_map (λ p. p.facts) (if b then p ∷ ps else ps))
+  facts_chosen : (b : Bool) (p : Part) (ps : List Part) → AreSo v p.facts → AreSo v (flat_map (λ p. p.facts) ps)
+      → AreSo v (flat_map (λ p. p.facts) (if b then p ∷ ps else ps))
   facts_chosen true p ps h k = so_append p.facts _ h k
   facts_chosen false p ps h k = k
 
@@ -181,7 +184,8 @@ module _ (v : Valuation) where
   pub so_less : (a b : Form) (x y : ℤ) → Stands v a x → Stands v b y → x <ℤ y → AreSo v (less a b)
   unfolding less
   so_less a b x y s t h =
-      so_at_most_zero (shifted (minus a b) (pos 1)) ((x -ℤ y) +ℤ pos 1) (stands_shifted (minus a b) (pos 1) (x -ℤ y) (stands_minus a b x y s t)) (omega (arith, ints))
+      so_at_most_zero (shifted (minus a b) (pos 1)) ((x -ℤ y) +ℤ pos 1) (stands_shifted (minus a b) (pos 1) (x -ℤ y) (stands_minus a b x y s t))
+      (omega (arith, ints))
 
   so_both : (d n : Form) → Stands v d (pos 0) → Stands v n (pos 0) → AreSo v (both_at_most_zero d n)
   unfolding both_at_most_zero
@@ -193,7 +197,8 @@ module _ (v : Valuation) where
   unfolding equal is_nothing
   so_equal a b x y s t h =
       let d : Stands v (minus a b) (pos 0) = stands_at _ _ _ (let e : x -ℤ y ≡ pos 0 = omega (arith, ints) in e) (stands_minus a b x y s t) in
-      so_both (minus a b) (scaled (negsuc 0) (minus a b)) d (stands_at _ _ _ (let e : pos 0 -ℤ pos 0 ≡ pos 0 = refl in e) (stands_negated (minus a b) (pos 0) d))
+      so_both (minus a b) (scaled (negsuc 0) (minus a b)) d
+      (stands_at _ _ _ (let e : pos 0 -ℤ pos 0 ≡ pos 0 = refl in e) (stands_negated (minus a b) (pos 0) d))
 
   pub all_is : (fs : List Fact) → is_so v (facts.All fs) ≡ are_so v fs
   all_is fs = ap (is_so v) (sym (facts.rolls-All fs)) ∙ fold-roll-Fact Bool (so_step v) (Fact-F.All fs)
@@ -214,7 +219,8 @@ module _ (v : Valuation) where
   pub so_second : (xs ys : List Fact) → AreSo v ys → AreSo v (choice xs ys)
   unfolding choice
   so_second xs ys h =
-      both _ _ (any_is (facts.All xs ∷ facts.All ys ∷ []) ∙ ap (λ b. is_so v (facts.All xs) || (b || false)) (all_is ys ∙ h) ∙ or_true (is_so v (facts.All xs))) refl
+      both _ _ (any_is (facts.All xs ∷ facts.All ys ∷ []) ∙ ap (λ b. is_so v (facts.All xs) || (b || false)) (all_is ys ∙ h)
+      ∙ or_true (is_so v (facts.All xs))) refl
 
   pub so_below : (a b : Form) (x y : ℤ) → Stands v a x → Stands v b y → x <ℤ y → AreSo v (differ a b)
   unfolding differ

@@ -15,9 +15,9 @@ use Rattle.ipg_facts.specs.Joint.{moved, moved_term, apart, apart_step, parts_ap
 use Rattle.ipg_sound.specs.Laws.{AllSolved, PartsSolveJoint}
 
 -- a formula apart holds where the formula does at the moved variables, and where they have the values of its own
-record Apart (f : Formula) : Type 0 where
-  apart_holds : (n : ℕ) (v : Assignment) → holds_at v (apart n f) ≡ holds_at (λ x. v (moved n x)) f
-  agrees : (v w : Assignment) → ((x : ℕ) → x < width f → v x ≡ w x) → holds_at v f ≡ holds_at w f
+pub record Apart (f : Formula) : Type 0 where
+  pub apart_holds : (n : ℕ) (v : Assignment) → holds_at v (apart n f) ≡ holds_at (λ x. v (moved n x)) f
+  pub agrees : (v w : Assignment) → ((x : ℕ) → x < width f → v x ≡ w x) → holds_at v f ≡ holds_at w f
 
 abbrev bare : List ((f : Formula) × Apart f) → List Formula
 bare ms = map (λ (e : (f : Formula) × Apart f). e.0) ms
@@ -34,7 +34,7 @@ sum_agrees v w (t ∷ terms) h =
 holds_atom : (v : Assignment) (form : Form) → holds_at v (roll-Formula (Atom form)) ≡ int_le (value_at v form) (pos 0)
 holds_atom v form = fold-roll-Formula Bool (holds_step v) (Atom form)
 
-holds_all : (v : Assignment) (fs : List Formula) → holds_at v (roll-Formula (All fs)) ≡ every (map (holds_at v) fs)
+pub holds_all : (v : Assignment) (fs : List Formula) → holds_at v (roll-Formula (All fs)) ≡ every (map (holds_at v) fs)
 holds_all v fs = fold-roll-Formula Bool (holds_step v) (All fs)
 
 holds_any : (v : Assignment) (fs : List Formula) → holds_at v (roll-Formula (Any fs)) ≡ some (map (holds_at v) fs)
@@ -52,7 +52,8 @@ apart_any : (n : ℕ) (fs : List Formula) → apart n (roll-Formula (Any fs)) �
 unfolding apart
 apart_any n fs = fold-roll-Formula Formula (apart_step n) (Any fs) ∙ sym (formula.rolls-Any _)
 
-members_apart : (n : ℕ) (v : Assignment) (ms : List ((f : Formula) × Apart f)) → map (holds_at v) (map (apart n) (bare ms)) ≡ map (holds_at (λ x. v (moved n x))) (bare ms)
+members_apart : (n : ℕ) (v : Assignment) (ms : List ((f : Formula) × Apart f))
+    → map (holds_at v) (map (apart n) (bare ms)) ≡ map (holds_at (λ x. v (moved n x))) (bare ms)
 members_apart n v [] = refl
 members_apart n v (m ∷ ms) = rw (m.1.apart_holds n v) (ap (λ bs. holds_at (λ x. v (moved n x)) m.0 ∷ bs) (members_apart n v ms))
 
@@ -76,8 +77,10 @@ below m n x e h = omega arith
 
 on_atom : (form : Form) → Apart (roll-Formula (Atom form))
 on_atom form = record {
-  apart_holds = λ n v. ap (holds_at v) (apart_atom n form) ∙ holds_atom v _ ∙ ap (λ z. int_le (z +ℤ form.constant) (pos 0)) (sum_moved n v form.terms) ∙ sym (holds_atom _ form);
-  agrees = λ v w h. holds_atom v form ∙ ap (λ z. int_le (z +ℤ form.constant) (pos 0)) (sum_agrees v w form.terms (λ x l. h x (below _ _ x (width_atom form) l))) ∙ sym (holds_atom w form);
+  apart_holds = λ n v. ap (holds_at v) (apart_atom n form) ∙ holds_atom v _ ∙ ap (λ z. int_le (z +ℤ form.constant) (pos 0)) (sum_moved n v form.terms)
+      ∙ sym (holds_atom _ form);
+  agrees = λ v w h. holds_atom v form ∙ ap (λ z. int_le (z +ℤ form.constant) (pos 0)) (sum_agrees v w form.terms (λ x l. h x (below _ _ x (width_atom form) l)))
+      ∙ sym (holds_atom w form);
 }
 
 on_all : (ms : List ((f : Formula) × Apart f)) → Apart (roll-Formula (All (bare ms)))
@@ -92,12 +95,13 @@ on_any ms = record {
   agrees = λ v w h. holds_any v (bare ms) ∙ ap some (members_agree v w ms (λ x l. h x (below _ _ x (width_any (bare ms)) l))) ∙ sym (holds_any w (bare ms));
 }
 
-on_layer : (y : Formula-F ((f : Formula) × Apart f)) (x : Formula-F Formula) → map-Formula ((f : Formula) × Apart f) Formula (λ e. e.0) y ≡ x → Apart (roll-Formula x)
+on_layer : (y : Formula-F ((f : Formula) × Apart f)) (x : Formula-F Formula) → map-Formula ((f : Formula) × Apart f) Formula (λ e. e.0) y ≡ x
+    → Apart (roll-Formula x)
 on_layer (Atom form) x is = subst (λ z. Apart (roll-Formula z)) is (on_atom form)
 on_layer (All ms) x is = subst (λ z. Apart (roll-Formula z)) is (on_all ms)
 on_layer (Any ms) x is = subst (λ z. Apart (roll-Formula z)) is (on_any ms)
 
-is_apart : (f : Formula) → Apart f
+pub is_apart : (f : Formula) → Apart f
 is_apart = ind-Formula Apart (λ x y is. on_layer y x is)
 
 -- the variables of parts, one part behind another: the y-th of them
@@ -118,10 +122,10 @@ not_less m n h = grind (arith, nat_tests)
 both : (a b : Bool) → a ≡ true → b ≡ true → a && b ≡ true
 both a b e f = rw (e, f) refl
 
-is_true : (b : Bool) → IsTrue b → b ≡ true
+pub is_true : (b : Bool) → IsTrue b → b ≡ true
 is_true b h = h
 
-truly : (b : Bool) → b ≡ true → IsTrue b
+pub truly : (b : Bool) → b ≡ true → IsTrue b
 truly b e = e
 
 own_below : (n k : ℕ) → suc n < k → n < k - 1
@@ -134,7 +138,8 @@ module _ (values : Assignment) (eoi : ℤ) (zero_is : values 0 ≡ eoi) where
   agree_at n part parts h at zero l = zero_is ∙ sym h.0.1.2
   agree_at n part parts h at (suc y) l =
       let within : suc y < length part.1.bounds = let b : width part.0 ≤ length part.1.bounds = h.0.0.bounded in omega arith in
-      at y ∙ ap (λ b. if b then h.0.1.0 (suc y) else pick parts eoi h.1 (y - own_variables part)) (less y (own_variables part) (own_below y (length part.1.bounds) within))
+      at y ∙ ap (λ b. if b then h.0.1.0 (suc y) else pick parts eoi h.1 (y - own_variables part))
+      (less y (own_variables part) (own_below y (length part.1.bounds) within))
 
   tail_at : (n : ℕ) (part : Formula × Boxed) (parts : List (Formula × Boxed)) (h : AllSolved eoi (part ∷ parts))
       → ((y : ℕ) → values (suc y + n) ≡ pick (part ∷ parts) eoi h y) → (y : ℕ) → values (suc y + (n + own_variables part)) ≡ pick parts eoi h.1 y
@@ -155,7 +160,7 @@ module _ (values : Assignment) (eoi : ℤ) (zero_is : values 0 ≡ eoi) where
       (parts_hold (n + own_variables part) parts h.1 (tail_at n part parts h at))
 
 -- the bounds of a part's own variables
-own_bound : (bounds : List (ℤ × ℤ)) (y : ℕ) → slice_get (drop 1 bounds) y ≡ slice_get bounds (suc y)
+pub own_bound : (bounds : List (ℤ × ℤ)) (y : ℕ) → slice_get (drop 1 bounds) y ≡ slice_get bounds (suc y)
 own_bound [] y = refl
 own_bound (b ∷ bounds) y = refl
 
@@ -174,8 +179,11 @@ test_suc y k a w =
 own_within : (v : ℕ → ℤ) (w : ℕ → ℤ) (xs ys : List (ℤ × ℤ))
     → ((y : ℕ) (b : ℤ × ℤ) → slice_get xs y ≡ Some b → IsWithin (v y) b) → ((y : ℕ) (b : ℤ × ℤ) → slice_get ys y ≡ Some b → IsWithin (w y) b)
     → (y : ℕ) (b : ℤ × ℤ) → slice_get (xs ++ ys) y ≡ Some b → IsWithin (if nat_lt y (length xs) then v y else w (y - length xs)) b
-own_within v w [] ys f g y b e = subst (λ z. IsWithin z b) (ap w (let h : y ≡ y - 0 = omega arith in h) ∙ sym (ap (λ t. if t then v y else w (y - 0)) (not_less y 0 (omega arith)))) (g y b e)
-own_within v w (x ∷ xs) ys f g zero b e = subst (λ z. IsWithin z b) (sym (ap (λ t. if t then v 0 else w (0 - length (x ∷ xs))) (less 0 (length (x ∷ xs)) (omega arith)))) (f zero b e)
+own_within v w [] ys f g y b e =
+    subst (λ z. IsWithin z b) (ap w (let h : y ≡ y - 0 = omega arith in h) ∙ sym (ap (λ t. if t then v y else w (y - 0)) (not_less y 0 (omega arith))))
+    (g y b e)
+own_within v w (x ∷ xs) ys f g zero b e =
+    subst (λ z. IsWithin z b) (sym (ap (λ t. if t then v 0 else w (0 - length (x ∷ xs))) (less 0 (length (x ∷ xs)) (omega arith)))) (f zero b e)
 own_within v w (x ∷ xs) ys f g (suc y) b e =
     subst (λ z. IsWithin z b) (test_suc y (length xs) (v (suc y)) w)
     (own_within (λ i. v (suc i)) w xs ys (λ i b e. f (suc i) b e) g y b e)
@@ -196,7 +204,8 @@ lies_first (c ∷ bounds) rest v eoi some f g z zero b e = subst (λ n. IsWithin
 lies_first (c ∷ bounds) rest v eoi some f g z (suc y) b e = g y b e
 
 lies : (parts : List (Formula × Boxed)) (eoi : ℤ) (h : AllSolved eoi parts) (x : ℕ) (low high : ℤ)
-    → slice_get (shared_bounds parts ++ flat_map (λ part. drop 1 part.1.bounds) parts) x ≡ Some (low, high) → (low ≤ℤ spread parts eoi h x) × (spread parts eoi h x ≤ℤ high)
+    → slice_get (shared_bounds parts ++ flat_map (λ part. drop 1 part.1.bounds) parts) x ≡ Some (low, high)
+    → (low ≤ℤ spread parts eoi h x) × (spread parts eoi h x ≤ℤ high)
 lies [] eoi h x low high e = cc
 lies (part ∷ parts) eoi h x low high e =
     lies_first part.1.bounds (flat_map (λ part. drop 1 part.1.bounds) (part ∷ parts)) (spread (part ∷ parts) eoi h) eoi h.0.0.first

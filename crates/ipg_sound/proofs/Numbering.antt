@@ -27,7 +27,7 @@ key_at keys x = unwrap_or (slice_get keys x) []
 abbrev IsNumbered : List Key → Key → Type 0
 IsNumbered keys key = key_at keys (place keys key) ≡ key
 
-same_key : (a b : Key) → bytes_eq a b ≡ true → a ≡ b
+pub same_key : (a b : Key) → bytes_eq a b ≡ true → a ≡ b
 same_key a b e = (bytes_eq-Decides a b).0 e
 
 or_true : (a b : Bool) → a ≡ false → a || b ≡ true → b ≡ true
@@ -45,24 +45,25 @@ is_numbered [] key e = cc
 is_numbered (k ∷ keys) key e = head_or_tail (bytes_eq key k) k key keys refl e (is_numbered keys key)
 
 -- keys of one list are in another
-abbrev Has : List Key → List Key → Type 0
+abbrev pub Has : List Key → List Key → Type 0
 Has keys ks = (key : Key) → list_any (bytes_eq key) ks ≡ true → list_any (bytes_eq key) keys ≡ true
 
-or_left : (a b : Bool) → a ≡ true → a || b ≡ true
+pub or_left : (a b : Bool) → a ≡ true → a || b ≡ true
 or_left a b e = ap (λ c. c || b) e
 
-or_right : (a b : Bool) → b ≡ true → a || b ≡ true
+pub or_right : (a b : Bool) → b ≡ true → a || b ≡ true
 or_right true b e = refl
 or_right false b e = e
 
-any_left : (key : Key) (xs ys : List Key) → list_any (bytes_eq key) xs ≡ true → list_any (bytes_eq key) (xs ++ ys) ≡ true
+pub any_left : (key : Key) (xs ys : List Key) → list_any (bytes_eq key) xs ≡ true → list_any (bytes_eq key) (xs ++ ys) ≡ true
 any_left key xs ys e = list_any-append (bytes_eq key) xs ys ∙ or_left _ _ e
 
-any_right : (key : Key) (xs ys : List Key) → list_any (bytes_eq key) ys ≡ true → list_any (bytes_eq key) (xs ++ ys) ≡ true
+pub any_right : (key : Key) (xs ys : List Key) → list_any (bytes_eq key) ys ≡ true → list_any (bytes_eq key) (xs ++ ys) ≡ true
 any_right key xs ys e = list_any-append (bytes_eq key) xs ys ∙ or_right _ _ e
 
 -- keys stay in a table, and a key that is put is in it
-kept_or_put : (b : Bool) (keys : List Key) (k key : Key) → list_any (bytes_eq key) keys ≡ true → list_any (bytes_eq key) (if b then keys else keys ++ k ∷ []) ≡ true
+kept_or_put : (b : Bool) (keys : List Key) (k key : Key) → list_any (bytes_eq key) keys ≡ true
+    → list_any (bytes_eq key) (if b then keys else keys ++ k ∷ []) ≡ true
 kept_or_put true keys k key e = e
 kept_or_put false keys k key e = any_left key keys (k ∷ []) e
 
@@ -75,13 +76,14 @@ keys_keep keys [] key e = e
 keys_keep keys (m ∷ more) key e = keys_keep (with_key keys m) more key (kept_or_put (list_any (bytes_eq m) keys) keys m key e)
 
 here_or_later : (b : Bool) (keys more : List Key) (m key : Key) → bytes_eq key m ≡ b → b || list_any (bytes_eq key) more ≡ true
-    → (list_any (bytes_eq key) more ≡ true → list_any (bytes_eq key) (with_keys (with_key keys m) more) ≡ true) → list_any (bytes_eq key) (with_keys (with_key keys m) more) ≡ true
+    → (list_any (bytes_eq key) more ≡ true → list_any (bytes_eq key) (with_keys (with_key keys m) more) ≡ true)
+    → list_any (bytes_eq key) (with_keys (with_key keys m) more) ≡ true
 here_or_later true keys more m key e f g =
     subst (λ k. list_any (bytes_eq k) (with_keys (with_key keys m) more) ≡ true) (sym (same_key key m e))
     (keys_keep (with_key keys m) more m (has_put (list_any (bytes_eq m) keys) keys m refl))
 here_or_later false keys more m key e f g = g f
 
-keys_have : (keys more : List Key) → Has (with_keys keys more) more
+pub keys_have : (keys more : List Key) → Has (with_keys keys more) more
 keys_have keys [] key e = cc
 keys_have keys (m ∷ more) key e = here_or_later (bytes_eq key m) keys more m key refl e (keys_have (with_key keys m) more key)
 
@@ -100,8 +102,12 @@ unfolding insert
 sum_insert values t [] = refl
 sum_insert values t (next ∷ terms) = inserted (nat_lt next.0 t.0) values t next terms (insert t terms) (sum_insert values t terms)
 
-abbrev keys_of_terms : List (Key × ℤ) → List Key
+abbrev pub keys_of_terms : List (Key × ℤ) → List Key
 keys_of_terms terms = map (λ term. term.0) terms
+
+pub keys_joined : (fs : List Fact) → flat_map (λ ks. ks) (map keys_in fs) ≡ flat_map keys_in fs
+keys_joined [] = refl
+keys_joined (f ∷ fs) = ap (λ ks. keys_in f ++ ks) (keys_joined fs)
 
 module _ (v : Valuation) (keys : List Key) where
   abbrev values : Assignment
@@ -130,16 +136,13 @@ module _ (v : Valuation) (keys : List Key) where
       rw (m.1 (λ key e. h key (any_left key (keys_in m.0) _ e)))
       (ap (λ bs. is_so v m.0 ∷ bs) (members_agree ms (λ key e. h key (any_right key (keys_in m.0) _ e))))
 
-  keys_joined : (fs : List Fact) → flat_map (λ ks. ks) (map keys_in fs) ≡ flat_map keys_in fs
-  keys_joined [] = refl
-  keys_joined (f ∷ fs) = ap (λ ks. keys_in f ++ ks) (keys_joined fs)
-
   on_atom : (draft : Draft) → Agrees (roll-Fact (Fact-F.Atom draft))
   unfolding formula_of keys_in
   on_atom draft h =
       ap (holds_at values) (fold-roll-Fact Formula (formula_step keys) (Fact-F.Atom draft))
       ∙ ap (holds_at values) (sym (formula.rolls-Atom _)) ∙ fold-roll-Formula Bool (holds_step values) (Formula-F.Atom _)
-      ∙ ap (λ z. int_le (z +ℤ draft.constant) (pos 0)) (sum_numbered draft.terms (λ key e. h key (ap (list_any (bytes_eq key)) (fold-roll-Fact (List Key) keys_step (Fact-F.Atom draft)) ∙ e)))
+      ∙ ap (λ z. int_le (z +ℤ draft.constant) (pos 0))
+      (sum_numbered draft.terms (λ key e. h key (ap (list_any (bytes_eq key)) (fold-roll-Fact (List Key) keys_step (Fact-F.Atom draft)) ∙ e)))
       ∙ sym (fold-roll-Fact Bool (so_step v) (Fact-F.Atom draft))
 
   on_all : (ms : List ((fact : Fact) × Agrees fact)) → Agrees (roll-Fact (Fact-F.All (facts_in ms)))
@@ -147,7 +150,8 @@ module _ (v : Valuation) (keys : List Key) where
   on_all ms h =
       ap (holds_at values) (fold-roll-Fact Formula (formula_step keys) (Fact-F.All (facts_in ms)))
       ∙ ap (holds_at values) (sym (formula.rolls-All _)) ∙ fold-roll-Formula Bool (holds_step values) (Formula-F.All _)
-      ∙ ap every (members_agree ms (λ key e. h key (ap (list_any (bytes_eq key)) (fold-roll-Fact (List Key) keys_step (Fact-F.All (facts_in ms)) ∙ keys_joined (facts_in ms)) ∙ e)))
+      ∙ ap every (members_agree ms (λ key e. h key
+      (ap (list_any (bytes_eq key)) (fold-roll-Fact (List Key) keys_step (Fact-F.All (facts_in ms)) ∙ keys_joined (facts_in ms)) ∙ e)))
       ∙ sym (fold-roll-Fact Bool (so_step v) (Fact-F.All (facts_in ms)))
 
   on_any : (ms : List ((fact : Fact) × Agrees fact)) → Agrees (roll-Fact (Fact-F.Any (facts_in ms)))
@@ -155,7 +159,8 @@ module _ (v : Valuation) (keys : List Key) where
   on_any ms h =
       ap (holds_at values) (fold-roll-Fact Formula (formula_step keys) (Fact-F.Any (facts_in ms)))
       ∙ ap (holds_at values) (sym (formula.rolls-Any _)) ∙ fold-roll-Formula Bool (holds_step values) (Formula-F.Any _)
-      ∙ ap some (members_agree ms (λ key e. h key (ap (list_any (bytes_eq key)) (fold-roll-Fact (List Key) keys_step (Fact-F.Any (facts_in ms)) ∙ keys_joined (facts_in ms)) ∙ e)))
+      ∙ ap some (members_agree ms (λ key e. h key
+      (ap (list_any (bytes_eq key)) (fold-roll-Fact (List Key) keys_step (Fact-F.Any (facts_in ms)) ∙ keys_joined (facts_in ms)) ∙ e)))
       ∙ sym (fold-roll-Fact Bool (so_step v) (Fact-F.Any (facts_in ms)))
 
   on_layer : (y : Fact-F ((fact : Fact) × Agrees fact)) (x : Fact-F Fact) → map-Fact ((fact : Fact) × Agrees fact) Fact (λ m. m.0) y ≡ x → Agrees (roll-Fact x)

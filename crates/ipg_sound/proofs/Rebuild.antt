@@ -118,14 +118,16 @@ primitive_is U64BE = refl
 primitive_is Bytes = refl
 
 -- the bytes of a text
-run_bytes : (bytes before words : List ℕ) (r : Read) → r.bytes ≡ before → run (flat_map spelled_byte bytes ++ words) r ≡ run words (record r { bytes = before ++ bytes })
+run_bytes : (bytes before words : List ℕ) (r : Read) → r.bytes ≡ before
+    → run (flat_map spelled_byte bytes ++ words) r ≡ run words (record r { bytes = before ++ bytes })
 unfolding run
 run_bytes [] before words r e = ap (λ bs. run words (record r { bytes = bs })) (e ∙ sym (append-nil before))
 run_bytes (byte ∷ bytes) before words r e =
     run_bytes bytes (before ++ byte ∷ []) words (record r { bytes = r.bytes ++ byte ∷ [] }) (ap (λ bs. bs ++ byte ∷ []) e)
     ∙ ap (λ bs. run words (record r { bytes = bs })) (append_assoc before (byte ∷ []) bytes)
 
-run_sym : (symbol : Sym) (words : List ℕ) (stack : List CoreExpr) → run (spelled_sym symbol ++ words) (clean stack) ≡ run words (record (clean stack) { symbol = symbol })
+run_sym : (symbol : Sym) (words : List ℕ) (stack : List CoreExpr)
+    → run (spelled_sym symbol ++ words) (clean stack) ≡ run words (record (clean stack) { symbol = symbol })
 unfolding run
 run_sym (Text bytes) words stack =
     ap (λ ws. run ws (clean stack)) (append_assoc (flat_map spelled_byte bytes) (word 18 0 0 0) words)
@@ -133,13 +135,15 @@ run_sym (Text bytes) words stack =
 run_sym (Prim prim) words stack = ap (λ p. run words (record (clean stack) { symbol = Prim p })) (primitive_is prim)
 run_sym (Rule r) words stack = refl
 
-run_number : (z : ℤ) (words : List ℕ) (stack : List CoreExpr) → run (spelled_number z ++ words) (clean stack) ≡ run words (clean (roll-CoreExpr (CoreExpr-F.Num z) ∷ stack))
+run_number : (z : ℤ) (words : List ℕ) (stack : List CoreExpr)
+    → run (spelled_number z ++ words) (clean stack) ≡ run words (clean (roll-CoreExpr (CoreExpr-F.Num z) ∷ stack))
 unfolding run
 run_number (pos n) words stack = refl
 run_number (negsuc n) words stack = refl
 
 run_seen : (term : ℕ) (symbol : Sym) (f : CoreField) (words : List ℕ) (stack : List CoreExpr)
-    → run (spelled_field 6 term f ++ words) (record (clean stack) { symbol = symbol }) ≡ run words (clean (roll-CoreExpr (CoreExpr-F.Seen term symbol f) ∷ stack))
+    → run (spelled_field 6 term f ++ words) (record (clean stack) { symbol = symbol }) ≡ run words
+    (clean (roll-CoreExpr (CoreExpr-F.Seen term symbol f) ∷ stack))
 unfolding run
 run_seen term symbol (Attr a) words stack = refl
 run_seen term symbol Start words stack = refl
@@ -160,7 +164,8 @@ module _ (scope : Scope) where
   abbrev readings : CoreExpr-F (Sure Rebuilds) → CoreExpr-F Reading
   readings y = map-CoreExpr CoreExpr Reading (read scope) (bare y)
 
-  layer : (y : CoreExpr-F (Sure Rebuilds)) (words : List ℕ) (stack : List CoreExpr) → run ((reading scope (readings y)).words ++ words) (clean stack) ≡ run words (clean (roll-CoreExpr (bare y) ∷ stack))
+  layer : (y : CoreExpr-F (Sure Rebuilds)) (words : List ℕ) (stack : List CoreExpr)
+      → run ((reading scope (readings y)).words ++ words) (clean stack) ≡ run words (clean (roll-CoreExpr (bare y) ∷ stack))
   unfolding reading plain run
   layer (CoreExpr-F.Num z) words stack = run_number z words stack
   layer CoreExpr-F.Eoi words stack = refl
@@ -181,23 +186,28 @@ module _ (scope : Scope) where
       ap (λ ws. run ws (clean stack)) (append_assoc (read scope a.0).words (word 10 0 0 0) words) ∙ a.1 (word 10 0 0 0 ++ words) stack
   layer (CoreExpr-F.Two op a b) words stack =
       let last : List ℕ = word 11 (operator_number op) 0 0 in
-      ap (λ ws. run ws (clean stack)) (append_assoc (read scope a.0).words ((read scope b.0).words ++ last) words ∙ ap (λ ws. (read scope a.0).words ++ ws) (append_assoc (read scope b.0).words last words))
+      ap (λ ws. run ws (clean stack)) (append_assoc (read scope a.0).words ((read scope b.0).words ++ last) words
+      ∙ ap (λ ws. (read scope a.0).words ++ ws) (append_assoc (read scope b.0).words last words))
       ∙ a.1 ((read scope b.0).words ++ (last ++ words)) stack ∙ b.1 (last ++ words) (a.0 ∷ stack)
       ∙ ap (λ o. run words (clean (roll-CoreExpr (CoreExpr-F.Two o a.0 b.0) ∷ stack))) (operator_is op)
   layer (CoreExpr-F.Both a b) words stack =
       let last : List ℕ = word 12 0 0 0 in
-      ap (λ ws. run ws (clean stack)) (append_assoc (read scope a.0).words ((read scope b.0).words ++ last) words ∙ ap (λ ws. (read scope a.0).words ++ ws) (append_assoc (read scope b.0).words last words))
+      ap (λ ws. run ws (clean stack)) (append_assoc (read scope a.0).words ((read scope b.0).words ++ last) words
+      ∙ ap (λ ws. (read scope a.0).words ++ ws) (append_assoc (read scope b.0).words last words))
       ∙ a.1 ((read scope b.0).words ++ (last ++ words)) stack ∙ b.1 (last ++ words) (a.0 ∷ stack)
   layer (CoreExpr-F.Either a b) words stack =
       let last : List ℕ = word 13 0 0 0 in
-      ap (λ ws. run ws (clean stack)) (append_assoc (read scope a.0).words ((read scope b.0).words ++ last) words ∙ ap (λ ws. (read scope a.0).words ++ ws) (append_assoc (read scope b.0).words last words))
+      ap (λ ws. run ws (clean stack)) (append_assoc (read scope a.0).words ((read scope b.0).words ++ last) words
+      ∙ ap (λ ws. (read scope a.0).words ++ ws) (append_assoc (read scope b.0).words last words))
       ∙ a.1 ((read scope b.0).words ++ (last ++ words)) stack ∙ b.1 (last ++ words) (a.0 ∷ stack)
   layer (CoreExpr-F.Cond c a b) words stack =
       let last : List ℕ = word 14 0 0 0 in
       let two : List ℕ = (read scope b.0).words ++ last in
       ap (λ ws. run ws (clean stack)) (append_assoc (read scope c.0).words ((read scope a.0).words ++ two) words
-      ∙ ap (λ ws. (read scope c.0).words ++ ws) (append_assoc (read scope a.0).words two words ∙ ap (λ ws. (read scope a.0).words ++ ws) (append_assoc (read scope b.0).words last words)))
-      ∙ c.1 ((read scope a.0).words ++ ((read scope b.0).words ++ (last ++ words))) stack ∙ a.1 ((read scope b.0).words ++ (last ++ words)) (c.0 ∷ stack) ∙ b.1 (last ++ words) (a.0 ∷ c.0 ∷ stack)
+      ∙ ap (λ ws. (read scope c.0).words ++ ws)
+      (append_assoc (read scope a.0).words two words ∙ ap (λ ws. (read scope a.0).words ++ ws) (append_assoc (read scope b.0).words last words)))
+      ∙ c.1 ((read scope a.0).words ++ ((read scope b.0).words ++ (last ++ words))) stack ∙ a.1 ((read scope b.0).words ++ (last ++ words)) (c.0 ∷ stack)
+      ∙ b.1 (last ++ words) (a.0 ∷ c.0 ∷ stack)
 
   rolled : (y : CoreExpr-F (Sure Rebuilds)) → Rebuilds (roll-CoreExpr (bare y))
   unfolding read

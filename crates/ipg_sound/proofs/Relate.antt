@@ -63,7 +63,8 @@ module _ (v : Valuation) where
   StandsSome None z = Unit {0}
   StandsSome (Some a) z = Stands v a z
 
-  pub stands_limited : (scope : Scope) (words : List ℕ) (a : Option Form) (z : ℤ) → v (value scope.side words) ≡ z → StandsSome a z → Stands v (limited scope words a) z
+  pub stands_limited : (scope : Scope) (words : List ℕ) (a : Option Form) (z : ℤ) → v (value scope.side words) ≡ z → StandsSome a z
+      → Stands v (limited scope words a) z
   unfolding limited
   stands_limited scope words None z e s = stands_key (value scope.side words) [] z refl e
   stands_limited scope words (Some a) z e s = stands_chosen (in_limits a) a _ z s (stands_key (value scope.side words) [] z refl e)
@@ -133,7 +134,8 @@ module _ (v : Valuation) where
   not_not false = refl
 
   -- an operator's value that isn't 0
-  so_asserted : (op : Op2) (a b e : Form) (x y z : ℤ) → apply_of op x y ≡ Val z → Stands v a x → Stands v b y → Stands v e z → is_zero z ≡ false → AreSo v (asserted op a b e)
+  so_asserted : (op : Op2) (a b e : Form) (x y z : ℤ) → apply_of op x y ≡ Val z → Stands v a x → Stands v b y → Stands v e z → is_zero z ≡ false
+      → AreSo v (asserted op a b e)
   unfolding asserted
   so_asserted ops.Eq a b e x y z f s t u h = when_equal a b x y s t (not_false _ (int_eq x y) (flag_is (int_eq x y) z f) h)
   so_asserted ops.Ne a b e x y z f s t u h = when_apart a b x y s t (sym (not_not (int_eq x y)) ∙ sym (flag_is (not (int_eq x y)) z f) ∙ h)
@@ -155,7 +157,8 @@ module _ (v : Valuation) where
   so_nought : (e : Form) (z : ℤ) → Stands v e z → is_zero z ≡ true → AreSo v (equal e nought)
   so_nought e z u h = so_equal v e nought z (pos 0) u stands_nought (zero_is z h)
 
-  so_denied : (op : Op2) (a b e : Form) (x y z : ℤ) → apply_of op x y ≡ Val z → Stands v a x → Stands v b y → Stands v e z → is_zero z ≡ true → AreSo v (denied op a b e)
+  so_denied : (op : Op2) (a b e : Form) (x y z : ℤ) → apply_of op x y ≡ Val z → Stands v a x → Stands v b y → Stands v e z → is_zero z ≡ true
+      → AreSo v (denied op a b e)
   unfolding denied
   so_denied ops.Eq a b e x y z f s t u h = when_apart a b x y s t (not_true _ (int_eq x y) (flag_is (int_eq x y) z f) h)
   so_denied ops.Ne a b e x y z f s t u h = when_equal a b x y s t (sym (not_not (int_eq x y)) ∙ sym (flag_is (not (int_eq x y)) z f) ∙ h)
@@ -178,7 +181,8 @@ module _ (v : Valuation) where
   unfolding ranges
   so_ranges a None z s h = refl
   so_ranges a (Some n) z s h =
-      so_append v (leq nought a) (leq a (number (pos n))) (so_leq v nought a (pos 0) z stands_nought s h.0) (so_leq v a (number (pos n)) z (pos n) s (stands_number v (pos n)) h.1)
+      so_append v (leq nought a) (leq a (number (pos n))) (so_leq v nought a (pos 0) z stands_nought s h.0)
+      (so_leq v a (number (pos n)) z (pos n) s (stands_number v (pos n)) h.1)
 
   module _ (scope : Scope) (env : Environment) (fits : Fits v scope env) where
     pub stands_length : Stands v (length_of scope) (pos env.eoi)
@@ -206,7 +210,8 @@ module _ (v : Valuation) where
         (so_leq v a (length_of scope) (pos end) (pos env.eoi) s stands_length h.1)
 
     -- the place behind items: the greatest end, else that of `left`
-    so_after : (bounds : Option Bounds) (found : Option ℕ) (a left : Form) (answer : Answer) (z : ℤ) → IsBehind v env.eoi bounds found → behind found answer ≡ Val z → Stands v a z
+    so_after : (bounds : Option Bounds) (found : Option ℕ) (a left : Form) (answer : Answer) (z : ℤ) → IsBehind v env.eoi bounds found
+        → behind found answer ≡ Val z → Stands v a z
         → (answer ≡ Val z → Stands v left z) → AreSo v (after_facts scope bounds a left)
     unfolding after_facts
     so_after None None a left answer z h e s l = so_second v (inside scope a) (equal a left) (so_equal v a left z z s (l e) refl)
@@ -218,7 +223,8 @@ module _ (v : Valuation) where
     so_after (Some bounds) (Some end) a left answer z h e s l =
         let f : z ≡ pos end = cc in
         so_first v (less bounds.first bounds.last ++ inside scope a) (leq bounds.last bounds.first ++ equal a left)
-        (so_append v (less bounds.first bounds.last) (inside scope a) (so_less v bounds.first bounds.last h.0 h.1 h.2 h.3 h.4) (so_inside a end (stands_at v a z (pos end) f s) h.5))
+        (so_append v (less bounds.first bounds.last) (inside scope a) (so_less v bounds.first bounds.last h.0 h.1 h.2 h.3 h.4)
+        (so_inside a end (stands_at v a z (pos end) f s) h.5))
 
     -- an expression that has a value is known
     abbrev IsKnown : CoreExpr → Type 0
@@ -230,10 +236,12 @@ module _ (v : Valuation) where
     abbrev evals : CoreExpr-F (Sure IsKnown) → CoreExpr-F core.Reading
     evals y = map-CoreExpr CoreExpr core.Reading eval (bare y)
 
-    knows_negated : (a : Form) (words : List ℕ) (x z : ℤ) → negate_of x ≡ Val z → Stands v a x → v (value scope.side words) ≡ z → Knows v (plain words (limited scope words (Some (scaled (negsuc 0) a)))) z
+    knows_negated : (a : Form) (words : List ℕ) (x z : ℤ) → negate_of x ≡ Val z → Stands v a x → v (value scope.side words) ≡ z
+        → Knows v (plain words (limited scope words (Some (scaled (negsuc 0) a)))) z
     knows_negated a words x z e s h =
         knows_plain words (limited scope words (Some (scaled (negsuc 0) a))) z
-        (stands_limited scope words (Some (scaled (negsuc 0) a)) z h (stands_at v (scaled (negsuc 0) a) (pos 0 -ℤ x) z (minus_is x ∙ limited_is (neg_ℤ x) z e) (stands_negated v a x s)))
+        (stands_limited scope words (Some (scaled (negsuc 0) a)) z h
+        (stands_at v (scaled (negsuc 0) a) (pos 0 -ℤ x) z (minus_is x ∙ limited_is (neg_ℤ x) z e) (stands_negated v a x s)))
 
     knows_not : (r : Reading) (words : List ℕ) (x z : ℤ) → flag (is_zero x) ≡ Val z → Knows v r x → v (value scope.side words) ≡ z
         → Knows v (record { words = words; form = opaque scope words; holds = r.fails; fails = r.holds }) z
@@ -244,7 +252,8 @@ module _ (v : Valuation) where
     }
 
     knows_two : (op : Op2) (a b : Reading) (words : List ℕ) (x y z : ℤ) → apply_of op x y ≡ Val z → Knows v a x → Knows v b y → v (value scope.side words) ≡ z
-        → (let form = limited scope words (computed op a.form b.form) in Knows v (record { words = words; form = form; holds = asserted op a.form b.form form; fails = denied op a.form b.form form }) z)
+        → (let form = limited scope words (computed op a.form b.form) in
+        Knows v (record { words = words; form = form; holds = asserted op a.form b.form form; fails = denied op a.form b.form form }) z)
     knows_two op a b words x y z e k l h =
         let form : Form = limited scope words (computed op a.form b.form) in
         let s : Stands v form z = stands_limited scope words (computed op a.form b.form) z h (stands_computed op a.form b.form x y z e k.form l.form) in
@@ -252,7 +261,8 @@ module _ (v : Valuation) where
 
     -- of two conditions both: the second is evaluated where the first isn't 0
     both_on : (zero : Bool) (a b : Reading) (rest : Answer) (words : List ℕ) (x z : ℤ) → is_zero x ≡ zero → Knows v a x
-        → (if zero then flag false else on_value rest (λ y. flag (not (is_zero y)))) ≡ Val z → ((y : ℤ) → rest ≡ Val y → Knows v b y) → v (value scope.side words) ≡ z
+        → (if zero then flag false else on_value rest (λ y. flag (not (is_zero y)))) ≡ Val z → ((y : ℤ) → rest ≡ Val y → Knows v b y)
+        → v (value scope.side words) ≡ z
         → Knows v (record { words = words; form = opaque scope words; holds = a.holds ++ b.holds; fails = choice a.fails (a.holds ++ b.fails) }) z
     both_on true a b rest words x z f k e l h = record {
       form = stands_opaque words z h;
@@ -270,7 +280,8 @@ module _ (v : Valuation) where
         }
 
     either_on : (zero : Bool) (a b : Reading) (rest : Answer) (words : List ℕ) (x z : ℤ) → is_zero x ≡ zero → Knows v a x
-        → (if zero then on_value rest (λ y. flag (not (is_zero y))) else flag true) ≡ Val z → ((y : ℤ) → rest ≡ Val y → Knows v b y) → v (value scope.side words) ≡ z
+        → (if zero then on_value rest (λ y. flag (not (is_zero y))) else flag true) ≡ Val z → ((y : ℤ) → rest ≡ Val y → Knows v b y)
+        → v (value scope.side words) ≡ z
         → Knows v (record { words = words; form = opaque scope words; holds = choice a.holds (a.fails ++ b.holds); fails = a.fails ++ b.fails }) z
     either_on false a b rest words x z f k e l h = record {
       form = stands_opaque words z h;
@@ -296,13 +307,15 @@ module _ (v : Valuation) where
     }
 
     cond_on : (zero : Bool) (c a b : Reading) (one two : Answer) (words : List ℕ) (x z : ℤ) → is_zero x ≡ zero → Knows v c x
-        → (if zero then two else one) ≡ Val z → (one ≡ Val z → Knows v a z) → (two ≡ Val z → Knows v b z) → v (value scope.side words) ≡ z → Knows v (conditional words c a b) z
+        → (if zero then two else one) ≡ Val z → (one ≡ Val z → Knows v a z) → (two ≡ Val z → Knows v b z) → v (value scope.side words) ≡ z
+        → Knows v (conditional words c a b) z
     cond_on false c a b one two words x z f k e l m h =
         let t = l e in
         record {
           form = stands_key (value scope.side words) _ z
               (so_first v (c.holds ++ equal (opaque scope words) a.form) (c.fails ++ equal (opaque scope words) b.form)
-              (so_append v c.holds (equal (opaque scope words) a.form) (k.holds f) (so_equal v (opaque scope words) a.form z z (stands_opaque words z h) t.form refl))) h;
+              (so_append v c.holds (equal (opaque scope words) a.form) (k.holds f)
+              (so_equal v (opaque scope words) a.form z z (stands_opaque words z h) t.form refl))) h;
           holds = λ g. so_first v (c.holds ++ a.holds) (c.fails ++ b.holds) (so_append v c.holds a.holds (k.holds f) (t.holds g));
           fails = λ g. so_first v (c.holds ++ a.fails) (c.fails ++ b.fails) (so_append v c.holds a.fails (k.holds f) (t.fails g));
         }
@@ -311,7 +324,8 @@ module _ (v : Valuation) where
         record {
           form = stands_key (value scope.side words) _ z
               (so_second v (c.holds ++ equal (opaque scope words) a.form) (c.fails ++ equal (opaque scope words) b.form)
-              (so_append v c.fails (equal (opaque scope words) b.form) (k.fails f) (so_equal v (opaque scope words) b.form z z (stands_opaque words z h) t.form refl))) h;
+              (so_append v c.fails (equal (opaque scope words) b.form) (k.fails f)
+              (so_equal v (opaque scope words) b.form z z (stands_opaque words z h) t.form refl))) h;
           holds = λ g. so_second v (c.holds ++ a.holds) (c.fails ++ b.holds) (so_append v c.fails b.holds (k.fails f) (t.holds g));
           fails = λ g. so_second v (c.holds ++ a.fails) (c.fails ++ b.fails) (so_append v c.fails b.fails (k.fails f) (t.fails g));
         }
@@ -321,17 +335,20 @@ module _ (v : Valuation) where
         → Knows v (reading scope (readings y)) z
     unfolding reading plain
     layer (CoreExpr-F.Num n) z k h = knows_plain _ (number n) z (stands_at v (number n) n z (let e : Val n ≡ Val z = k.is in cc) (stands_number v n))
-    layer CoreExpr-F.Eoi z k h = knows_plain _ (length_of scope) z (stands_at v (length_of scope) (pos env.eoi) z (let e : Val (pos env.eoi) ≡ Val z = k.is in cc) stands_length)
+    layer CoreExpr-F.Eoi z k h =
+        knows_plain _ (length_of scope) z (stands_at v (length_of scope) (pos env.eoi) z (let e : Val (pos env.eoi) ≡ Val z = k.is in cc) stands_length)
     layer (CoreExpr-F.Own a) z k h = knows_plain _ _ z (stands_key (attribute scope.side a) [] z refl (fits.own a z (found_is _ z k.is) k.number))
     layer (CoreExpr-F.Outer a) z k h = knows_plain _ _ z (stands_key (attribute holder_side a) [] z refl (fits.outer a z (found_is _ z k.is) k.number))
     layer CoreExpr-F.Loop z k h = knows_plain _ _ z (stands_key (loop scope.side) [] z refl (fits.turn z (found_is _ z k.is) k.number))
-    layer (CoreExpr-F.Seen term sym f) z k h = knows_plain _ _ z (stands_key (field scope.names scope.side term f) [] z refl (fits.results term sym f z (found_is _ z k.is) k.number))
+    layer (CoreExpr-F.Seen term sym f) z k h =
+        knows_plain _ _ z (stands_key (field scope.names scope.side term f) [] z refl (fits.results term sym f z (found_is _ z k.is) k.number))
     layer (CoreExpr-F.Item term index f) z k h =
         let i = first_of (eval index.0 env) (λ i. found (field_of_item env.names f (core.item_at (items_so_far (done_at env.done term)) i))) z k.is in
         knows_plain _ _ z (stands_key _ _ z (so_item (item_at scope term) f _ z (stands_opaque _ z h) (fits.items term f i.first z (found_is _ z i.goes))) h)
     layer (CoreExpr-F.After term left) z k h =
         knows_plain _ _ z (stands_key _ _ z
-        (so_after (touching scope term) (greatest_end (items_so_far (done_at env.done term))) _ (read scope left.0).form (eval left.0 env) z (fits.ends term) k.is (stands_opaque _ z h) (λ e. (left.1 z e).form)) h)
+        (so_after (touching scope term) (greatest_end (items_so_far (done_at env.done term))) _ (read scope left.0).form (eval left.0 env) z
+        (fits.ends term) k.is (stands_opaque _ z h) (λ e. (left.1 z e).form)) h)
     layer (CoreExpr-F.Neg a) z k h =
         let x = first_of (eval a.0 env) negate_of z k.is in
         knows_negated (read scope a.0).form _ x.first z x.goes (a.1 x.first x.is).form h
@@ -350,16 +367,19 @@ module _ (v : Valuation) where
         either_on (is_zero x.first) (read scope a.0) (read scope b.0) (eval b.0 env) _ x.first z refl (a.1 x.first x.is) x.goes b.1 h
     layer (CoreExpr-F.Cond c a b) z k h =
         let x = first_of (eval c.0 env) (λ x. if is_zero x then eval b.0 env else eval a.0 env) z k.is in
-        cond_on (is_zero x.first) (read scope c.0) (read scope a.0) (read scope b.0) (eval a.0 env) (eval b.0 env) _ x.first z refl (c.1 x.first x.is) x.goes (a.1 z) (b.1 z) h
+        cond_on (is_zero x.first) (read scope c.0) (read scope a.0) (read scope b.0) (eval a.0 env) (eval b.0 env) _ x.first z refl (c.1 x.first x.is) x.goes
+        (a.1 z) (b.1 z) h
 
     rolled : (y : CoreExpr-F (Sure IsKnown)) → IsKnown (roll-CoreExpr (bare y))
     unfolding read eval
     rolled y z e =
         let made : read scope (roll-CoreExpr (bare y)) ≡ reading scope (readings y) = fold-roll-CoreExpr Reading (reading scope) (bare y) in
-        let valued : eval (roll-CoreExpr (bare y)) env ≡ limited_reading (evals y) env = ap (λ f. f env) (fold-roll-CoreExpr core.Reading limited_reading (bare y)) in
+        let valued : eval (roll-CoreExpr (bare y)) env ≡ limited_reading (evals y) env = ap (λ f. f env)
+        (fold-roll-CoreExpr core.Reading limited_reading (bare y)) in
         subst (λ r. Knows v r z) (sym made)
         (layer y z (kept (core.reading (evals y) env) z (sym valued ∙ e))
-        (ap (λ (r : Reading). v (value scope.side r.words)) (sym made) ∙ ap (λ ws. v (value scope.side ws)) (words_are_spelled scope (roll-CoreExpr (bare y))) ∙ fits.opaques (roll-CoreExpr (bare y)) z e))
+        (ap (λ (r : Reading). v (value scope.side r.words)) (sym made) ∙ ap (λ ws. v (value scope.side ws)) (words_are_spelled scope (roll-CoreExpr (bare y)))
+        ∙ fits.opaques (roll-CoreExpr (bare y)) z e))
 
     pub known : (e : CoreExpr) → IsKnown e
     known = induct IsKnown rolled

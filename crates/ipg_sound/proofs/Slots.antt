@@ -159,7 +159,8 @@ module _ (v : Valuation) (scope : Scope) (env : Environment) (fits : Fits v scop
         (so_equal v (end_of scope term) r (pos y) (pos b) ends t (ap pos f))
 
     -- a terminal of w bytes
-    so_text : (w : ℕ) → a ≤ b → w ≤ b - a → x ≡ (moved a (first_of (b - a) w)).start → y ≡ (moved a (first_of (b - a) w)).end → AreSo v (text_touches scope term l r w)
+    so_text : (w : ℕ) → a ≤ b → w ≤ b - a → x ≡ (moved a (first_of (b - a) w)).start → y ≡ (moved a (first_of (b - a) w)).end
+        → AreSo v (text_touches scope term l r w)
     unfolding text_touches moved first_of untouched
     so_text zero h k e f = so_none (e ∙ (let q : a + (b - a) ≡ b = omega arith in q)) (f ∙ (let q : a + 0 ≡ a = omega arith in q))
     so_text (suc w) h k e f = so_width (suc w) (e ∙ starts_at (suc w) a b (suc_is w)) (f ∙ ends_at (suc w) a b (suc_is w)) (omega arith)
@@ -171,12 +172,14 @@ module _ (v : Valuation) (scope : Scope) (env : Environment) (fits : Fits v scop
     untouched_so : a ≤ b → (n m : ℕ) → x ≡ a + n → y ≡ a + m → (n ≡ b - a) × (m ≡ 0) → AreSo v (touches_none scope term l r)
     untouched_so h n m e f z = let p : n ≡ b - a = z.0 in let q : m ≡ 0 = z.1 in so_none (omega arith) (omega arith)
 
-    so_rule : (must : Bool) → a ≤ b → (n m : ℕ) → n ≤ b - a → m ≤ b - a → x ≡ a + n → y ≡ a + m → (touch : Bool) → nat_lt n m ≡ touch → (must ≡ true → touch ≡ true)
+    so_rule : (must : Bool) → a ≤ b → (n m : ℕ) → n ≤ b - a → m ≤ b - a → x ≡ a + n → y ≡ a + m → (touch : Bool) → nat_lt n m ≡ touch
+        → (must ≡ true → touch ≡ true)
         → (touch ≡ false → (n ≡ b - a) × (m ≡ 0)) → AreSo v (rule_touches scope term l r must)
     unfolding rule_touches
     so_rule true h n m p q e f true k must none = touching_so h n m p q e f (less_of n m k)
     so_rule true h n m p q e f false k must none = absurd (no (must refl))
-    so_rule false h n m p q e f true k must none = so_first v (touches_some scope term l r) (touches_none scope term l r) (touching_so h n m p q e f (less_of n m k))
+    so_rule false h n m p q e f true k must none =
+        so_first v (touches_some scope term l r) (touches_none scope term l r) (touching_so h n m p q e f (less_of n m k))
     so_rule false h n m p q e f false k must none = so_second v (touches_some scope term l r) (touches_none scope term l r) (untouched_so h n m e f (none refl))
 
   -- the attributes of a number
@@ -191,62 +194,79 @@ module _ (v : Valuation) (scope : Scope) (env : Environment) (fits : Fits v scop
   attr_there Bytes name high low n e = cc
 
   so_most : (most : Option ℕ) (term : ℕ) (d : Done) (from to : ℕ) (prim : Primitive) (high low : ℕ) (name : List ℕ) → greatest prim name ≡ most
-      → done_at env.done term ≡ Some d → d.kid ≡ Number from to prim high low → AreRanged prim high low → AreSo v (ranges (variable (named scope.side term name) []) most)
-  so_most None term d from to prim high low name g e f ranged = so_ranges v (variable (named scope.side term name) []) None (v (named scope.side term name)) (stands_key v (named scope.side term name) [] _ refl refl) tt
+      → done_at env.done term ≡ Some d → d.kid ≡ Number from to prim high low → AreRanged prim high low
+      → AreSo v (ranges (variable (named scope.side term name) []) most)
+  so_most None term d from to prim high low name g e f ranged =
+      so_ranges v (variable (named scope.side term name) []) None (v (named scope.side term name)) (stands_key v (named scope.side term name) [] _ refl refl) tt
   so_most (Some n) term d from to prim high low name g e f ranged =
       let z = attr_there prim name high low n g in
       let within : IsRanged (Some n) z.0 = subst (λ o. IsRanged o z.0) g (ranged name z.0 z.1) in
       so_ranges v (variable (named scope.side term name) []) (Some n) z.0
-      (stands_key v (named scope.side term name) [] z.0 refl (fits.numbers term d from to prim high low name z.0 e f z.1 (in_range n z.0 (most_of prim name n g) within))) within
+      (stands_key v (named scope.side term name) [] z.0 refl
+      (fits.numbers term d from to prim high low name z.0 e f z.1 (in_range n z.0 (most_of prim name n g) within))) within
 
-  so_attr : (term : ℕ) (d : Done) (from to : ℕ) (prim : Primitive) (high low : ℕ) (name : List ℕ) → done_at env.done term ≡ Some d → d.kid ≡ Number from to prim high low → AreRanged prim high low
+  so_attr : (term : ℕ) (d : Done) (from to : ℕ) (prim : Primitive) (high low : ℕ) (name : List ℕ) → done_at env.done term ≡ Some d
+      → d.kid ≡ Number from to prim high low → AreRanged prim high low
       → AreSo v (attr_ranges scope term prim name)
   unfolding attr_ranges
   so_attr term d from to prim high low name e f ranged = so_most (greatest prim name) term d from to prim high low name refl e f ranged
 
-  so_numbers : (term : ℕ) (d : Done) (from to : ℕ) (prim : Primitive) (high low : ℕ) → done_at env.done term ≡ Some d → d.kid ≡ Number from to prim high low → AreRanged prim high low
+  so_numbers : (term : ℕ) (d : Done) (from to : ℕ) (prim : Primitive) (high low : ℕ) → done_at env.done term ≡ Some d → d.kid ≡ Number from to prim high low
+      → AreRanged prim high low
       → AreSo v (number_ranges scope term prim)
   unfolding number_ranges
   so_numbers term d from to prim high low e f ranged =
       so_append v (attr_ranges scope term prim (codes "hi")) _ (so_attr term d from to prim high low (codes "hi") e f ranged)
-      (so_append v (attr_ranges scope term prim (codes "lo")) (attr_ranges scope term prim (codes "val")) (so_attr term d from to prim high low (codes "lo") e f ranged)
+      (so_append v (attr_ranges scope term prim (codes "lo")) (attr_ranges scope term prim (codes "val"))
+      (so_attr term d from to prim high low (codes "lo") e f ranged)
       (so_attr term d from to prim high low (codes "val") e f ranged))
 
   -- the ends of a result are the values of its fields
-  read_is : (term : ℕ) (d : Done) (z : Option ℤ) → done_at env.done term ≡ Some d → seen env.names (sym_of d.kid) Start (done_at env.done term) ≡ field_of env.names Start d.kid
+  read_is : (term : ℕ) (d : Done) (z : Option ℤ) → done_at env.done term ≡ Some d
+      → seen env.names (sym_of d.kid) Start (done_at env.done term) ≡ field_of env.names Start d.kid
   read_is term d z e =
-      ap (seen env.names (sym_of d.kid) Start) e ∙ ap (λ t. if t then field_of env.names Start d.kid else None) (or_true (d.is_switch && is_text (sym_of d.kid)) _ (same_is (sym_of d.kid)))
+      ap (seen env.names (sym_of d.kid) Start) e
+      ∙ ap (λ t. if t then field_of env.names Start d.kid else None) (or_true (d.is_switch && is_text (sym_of d.kid)) _ (same_is (sym_of d.kid)))
 
   read_end : (term : ℕ) (d : Done) → done_at env.done term ≡ Some d → seen env.names (sym_of d.kid) End (done_at env.done term) ≡ field_of env.names End d.kid
   read_end term d e =
-      ap (seen env.names (sym_of d.kid) End) e ∙ ap (λ t. if t then field_of env.names End d.kid else None) (or_true (d.is_switch && is_text (sym_of d.kid)) _ (same_is (sym_of d.kid)))
+      ap (seen env.names (sym_of d.kid) End) e ∙ ap (λ t. if t then field_of env.names End d.kid else None)
+      (or_true (d.is_switch && is_text (sym_of d.kid)) _ (same_is (sym_of d.kid)))
 
-  begins_at : (term : ℕ) (d : Done) (x : ℕ) → done_at env.done term ≡ Some d → field_of env.names Start d.kid ≡ Some (pos x) → x ≤ env.eoi → Stands v (start_of scope term) (pos x)
+  begins_at : (term : ℕ) (d : Done) (x : ℕ) → done_at env.done term ≡ Some d → field_of env.names Start d.kid ≡ Some (pos x) → x ≤ env.eoi
+      → Stands v (start_of scope term) (pos x)
   begins_at term d x e f h =
-      stands_key v (start scope.side term) [] (pos x) refl (fits.results term (sym_of d.kid) Start (pos x) (read_is term d None e ∙ f) (is_number x (let q : env.eoi ≤ 2 ^ 30 = size in omega arith)))
+      stands_key v (start scope.side term) [] (pos x) refl
+      (fits.results term (sym_of d.kid) Start (pos x) (read_is term d None e ∙ f) (is_number x (let q : env.eoi ≤ 2 ^ 30 = size in omega arith)))
 
-  ends_at_place : (term : ℕ) (d : Done) (x : ℕ) → done_at env.done term ≡ Some d → field_of env.names End d.kid ≡ Some (pos x) → x ≤ env.eoi → Stands v (end_of scope term) (pos x)
+  ends_at_place : (term : ℕ) (d : Done) (x : ℕ) → done_at env.done term ≡ Some d → field_of env.names End d.kid ≡ Some (pos x) → x ≤ env.eoi
+      → Stands v (end_of scope term) (pos x)
   ends_at_place term d x e f h =
-      stands_key v (end scope.side term) [] (pos x) refl (fits.results term (sym_of d.kid) End (pos x) (read_end term d e ∙ f) (is_number x (let q : env.eoi ≤ 2 ^ 30 = size in omega arith)))
+      stands_key v (end scope.side term) [] (pos x) refl
+      (fits.results term (sym_of d.kid) End (pos x) (read_end term d e ∙ f) (is_number x (let q : env.eoi ≤ 2 ^ 30 = size in omega arith)))
 
   module _ (term : ℕ) (l r : Form) (a b : ℕ) (s : Stands v l (pos a)) (t : Stands v r (pos b)) (valid : a ≤ b) (inside : b ≤ env.eoi) where
-    text_so : (d : Done) (from to : ℕ) (bytes token : List ℕ) → done_at env.done term ≡ Some d → d.kid ≡ Token from to token → from ≡ a → to ≡ b → token ≡ bytes → length bytes ≤ b - a
+    text_so : (d : Done) (from to : ℕ) (bytes token : List ℕ) → done_at env.done term ≡ Some d → d.kid ≡ Token from to token → from ≡ a → to ≡ b
+        → token ≡ bytes → length bytes ≤ b - a
         → AreSo v (text_touches scope term l r (length bytes))
     text_so d from to bytes token e f p q same h =
         let ends : Ends = moved a (first_of (b - a) (length bytes)) in
-        let is : ends_of d.kid ≡ ends = ap ends_of f ∙ ap (λ n. moved n (first_of (to - n) (length token))) p ∙ ap (λ n. moved a (first_of (n - a) (length token))) q ∙ ap (λ bs. moved a (first_of (b - a) (length bs))) same in
+        let is : ends_of d.kid ≡ ends = ap ends_of f ∙ ap (λ n. moved n (first_of (to - n) (length token))) p
+        ∙ ap (λ n. moved a (first_of (n - a) (length token))) q ∙ ap (λ bs. moved a (first_of (b - a) (length bs))) same in
         let in_part : (ends.start ≤ b) × (ends.end ≤ b) = first_within (length bytes) a b valid h in
         so_text term l r a b ends.start ends.end s t
         (begins_at term d ends.start e (ap (field_of env.names Start) f ∙ ap (λ (k : Ends). Some (pos k.start)) (sym (ap ends_of f) ∙ is)) (omega arith))
         (ends_at_place term d ends.end e (ap (field_of env.names End) f ∙ ap (λ (k : Ends). Some (pos k.end)) (sym (ap ends_of f) ∙ is)) (omega arith))
         (length bytes) valid h refl refl
 
-    number_so : (d : Done) (from to : ℕ) (p prim : Primitive) (high low : ℕ) → done_at env.done term ≡ Some d → d.kid ≡ Number from to p high low → from ≡ a → to ≡ b → p ≡ prim
+    number_so : (d : Done) (from to : ℕ) (p prim : Primitive) (high low : ℕ) → done_at env.done term ≡ Some d → d.kid ≡ Number from to p high low → from ≡ a
+        → to ≡ b → p ≡ prim
         → width prim ≤ b - a → nat_eq (width prim) 0 ≡ false → AreRanged prim high low → AreSo v (number_touches scope term l r prim)
     unfolding number_touches
     number_so d from to p prim high low e f g q same h some ranged =
         let ends : Ends = moved a (first_of (b - a) (width prim)) in
-        let is : ends_of d.kid ≡ ends = ap ends_of f ∙ ap (λ n. moved n (first_of (to - n) (width p))) g ∙ ap (λ n. moved a (first_of (n - a) (width p))) q ∙ ap (λ m. moved a (first_of (b - a) (width m))) same in
+        let is : ends_of d.kid ≡ ends = ap ends_of f ∙ ap (λ n. moved n (first_of (to - n) (width p))) g ∙ ap (λ n. moved a (first_of (n - a) (width p))) q
+        ∙ ap (λ m. moved a (first_of (b - a) (width m))) same in
         let in_part : (ends.start ≤ b) × (ends.end ≤ b) = first_within (width prim) a b valid h in
         so_append v (touches_first scope term l r (width prim)) (number_ranges scope term prim)
         (so_width term l r a b ends.start ends.end s t
@@ -255,13 +275,15 @@ module _ (v : Valuation) (scope : Scope) (env : Environment) (fits : Fits v scop
         (width prim) (starts_at (width prim) a b some) (ends_at (width prim) a b some) (omega arith))
         (so_numbers term d from to prim high low e (f ∙ ap (λ m. Number from to m high low) same) ranged)
 
-    raw_so : (d : Done) (from to : ℕ) (bytes : List ℕ) → done_at env.done term ≡ Some d → d.kid ≡ Raw from to bytes → from ≡ a → to ≡ b → AreSo v (touches_all scope term l r)
+    raw_so : (d : Done) (from to : ℕ) (bytes : List ℕ) → done_at env.done term ≡ Some d → d.kid ≡ Raw from to bytes → from ≡ a → to ≡ b
+        → AreSo v (touches_all scope term l r)
     raw_so d from to bytes e f g q =
         so_all term l r a b a b s t
         (begins_at term d a e (ap (field_of env.names Start) f ∙ ap (λ n. Some (pos n)) g) (omega arith))
         (ends_at_place term d b e (ap (field_of env.names End) f ∙ ap (λ n. Some (pos n)) q) (omega arith)) refl refl
 
-    tree_so : (d : Done) (from to callee : ℕ) (tree : Tree) → done_at env.done term ≡ Some d → d.kid ≡ Sub from to tree → from ≡ a → IsTreeOf scope.marks callee (b - a) tree
+    tree_so : (d : Done) (from to callee : ℕ) (tree : Tree) → done_at env.done term ≡ Some d → d.kid ≡ Sub from to tree → from ≡ a
+        → IsTreeOf scope.marks callee (b - a) tree
         → AreSo v (rule_touches scope term l r (is_marked scope.marks callee))
     tree_so d from to callee tree e f g is =
         let n : ℕ = (tree_ends tree).start in
@@ -273,7 +295,8 @@ module _ (v : Valuation) (scope : Scope) (env : Environment) (fits : Fits v scop
         (ends_at_place term d (a + m) e (ap (field_of env.names End) f ∙ ap (λ k. Some (pos k)) (sub_end from to tree ∙ ap (λ k. k + m) g)) (omega arith))
         (is_marked scope.marks callee) valid n m p q refl refl (nat_lt n m) refl is.must is.none
 
-    result_so : (sym : Sym) (d : Done) (k : Kid) → done_at env.done term ≡ Some d → d.kid ≡ k → IsResult scope.marks sym a b k → AreSo v (touches scope term sym l r)
+    result_so : (sym : Sym) (d : Done) (k : Kid) → done_at env.done term ≡ Some d → d.kid ≡ k → IsResult scope.marks sym a b k
+        → AreSo v (touches scope term sym l r)
     unfolding touches primitive_touches
     result_so (Text bytes) d (Token from to token) e f h = text_so d from to bytes token e f h.0 h.1 h.2 h.3
     result_so (Prim U8) d (Number from to p high low) e f h = number_so d from to p U8 high low e f h.0 h.1 h.2 h.3 refl h.4
@@ -287,7 +310,8 @@ module _ (v : Valuation) (scope : Scope) (env : Environment) (fits : Fits v scop
     result_so (Rule callee) d (Sub from to tree) e f h = tree_so d from to callee tree e f h.0 h.2
     result_so _ d _ e f h = absurd h
 
-pub so_slot : (v : Valuation) (scope : Scope) (env : Environment) → Fits v scope env → env.eoi ≤ 2 ^ 30 → (term : ℕ) (slot : CoreSlot) → SlotRan scope.marks env term slot → AreSo v (slot_members scope term slot)
+pub so_slot : (v : Valuation) (scope : Scope) (env : Environment) → Fits v scope env → env.eoi ≤ 2 ^ 30 → (term : ℕ) (slot : CoreSlot)
+    → SlotRan scope.marks env term slot → AreSo v (slot_members scope term slot)
 unfolding on_interval
 so_slot v scope env fits size term slot ran =
     let l : ℕ = ran.valid.l in
@@ -296,4 +320,5 @@ so_slot v scope env fits size term slot ran =
     let right : Stands v (form scope slot.to) (pos r) = (known v scope env fits slot.to (pos r) ran.valid.is_right).form in
     so_append v (is_valid scope (form scope slot.from) (form scope slot.to)) (touches scope term slot.sym (form scope slot.from) (form scope slot.to))
     (so_valid v scope env fits size (form scope slot.from) (form scope slot.to) l r left right ran.valid.order ran.valid.inside)
-    (result_so v scope env fits size term (form scope slot.from) (form scope slot.to) l r left right ran.valid.order ran.valid.inside slot.sym ran.done ran.done.kid ran.there refl ran.result)
+    (result_so v scope env fits size term (form scope slot.from)
+    (form scope slot.to) l r left right ran.valid.order ran.valid.inside slot.sym ran.done ran.done.kid ran.there refl ran.result)

@@ -10,7 +10,15 @@ sum_parts a b = omega (arith, ints)
 
 pub times_plus : (a b v : ℤ) → (a +ℤ b) *ℤ v ≡ (a *ℤ v) +ℤ (b *ℤ v)
 times_plus a b v =
-    same_in _ _ (omega (arith, ints, product_is (a +ℤ b) v, product_is a v, product_is b v, ap (λ n. n * up v) (sum_parts a b), ap (λ n. n * down v) (sum_parts a b)))
+    same_in _ _ (omega (
+      arith,
+      ints,
+      product_is (a +ℤ b) v,
+      product_is a v,
+      product_is b v,
+      ap (λ n. n * up v) (sum_parts a b),
+      ap (λ n. n * down v) (sum_parts a b),
+    ))
 
 times_times : (w a v : ℤ) → (w *ℤ a) *ℤ v ≡ w *ℤ (a *ℤ v)
 times_times w a v =

@@ -13,7 +13,8 @@ pub record Grows (has_ended : ℕ → Bool) (env later : Environment) : Type 0 w
   pub own : (a : ℕ) (z : ℤ) → value_at env.own a ≡ Some z → value_at later.own a ≡ Some z
   pub outer : (a : ℕ) (z : ℤ) → value_at env.outer a ≡ Some z → value_at later.outer a ≡ Some z
   pub turn : (z : ℤ) → env.item ≡ Some z → later.item ≡ Some z
-  pub results : (term : ℕ) (sym : Sym) (f : CoreField) (z : ℤ) → seen env.names sym f (done_at env.done term) ≡ Some z → seen later.names sym f (done_at later.done term) ≡ Some z
+  pub results : (term : ℕ) (sym : Sym) (f : CoreField) (z : ℤ) → seen env.names sym f (done_at env.done term) ≡ Some z
+      → seen later.names sym f (done_at later.done term) ≡ Some z
   pub items : (term : ℕ) (f : CoreField) (i z : ℤ) → field_of_item env.names f (core.item_at (items_so_far (done_at env.done term)) i) ≡ Some z
       → field_of_item later.names f (core.item_at (items_so_far (done_at later.done term)) i) ≡ Some z
   pub ended : (term : ℕ) → has_ended term ≡ true → greatest_end (items_so_far (done_at later.done term)) ≡ greatest_end (items_so_far (done_at env.done term))

@@ -76,11 +76,14 @@ pub record Fits (v : Valuation) (scope : Scope) (env : Environment) : Type 0 whe
   pub own : (a : ℕ) (z : ℤ) → value_at env.own a ≡ Some z → limited z ≡ Val z → v (attribute scope.side a) ≡ z
   pub outer : (a : ℕ) (z : ℤ) → value_at env.outer a ≡ Some z → limited z ≡ Val z → v (attribute holder_side a) ≡ z
   pub turn : (z : ℤ) → env.item ≡ Some z → limited z ≡ Val z → v (loop scope.side) ≡ z
-  pub results : (term : ℕ) (sym : Sym) (f : CoreField) (z : ℤ) → seen env.names sym f (done_at env.done term) ≡ Some z → limited z ≡ Val z → v (field scope.names scope.side term f) ≡ z
-  pub numbers : (term : ℕ) (d : Done) (from to : ℕ) (prim : Primitive) (high low : ℕ) (name : List ℕ) (z : ℤ) → done_at env.done term ≡ Some d → d.kid ≡ Number from to prim high low
+  pub results : (term : ℕ) (sym : Sym) (f : CoreField) (z : ℤ) → seen env.names sym f (done_at env.done term) ≡ Some z → limited z ≡ Val z
+      → v (field scope.names scope.side term f) ≡ z
+  pub numbers : (term : ℕ) (d : Done) (from to : ℕ) (prim : Primitive) (high low : ℕ) (name : List ℕ) (z : ℤ) → done_at env.done term ≡ Some d
+      → d.kid ≡ Number from to prim high low
       → number_attr prim name high low ≡ Some z → limited z ≡ Val z → v (named scope.side term name) ≡ z
   pub opaques : (e : CoreExpr) (z : ℤ) → eval e env ≡ Val z → v (value scope.side (spelled e)) ≡ z
-  pub items : (term : ℕ) (f : CoreField) (i z : ℤ) → field_of_item env.names f (core.item_at (items_so_far (done_at env.done term)) i) ≡ Some z → IsItemField scope env.eoi (item_at scope term) f z
+  pub items : (term : ℕ) (f : CoreField) (i z : ℤ) → field_of_item env.names f (core.item_at (items_so_far (done_at env.done term)) i) ≡ Some z
+      → IsItemField scope env.eoi (item_at scope term) f z
   pub ends : (term : ℕ) → IsBehind v env.eoi (touching scope term) (greatest_end (items_so_far (done_at env.done term)))
 
 -- the attributes of a number are from 0 to their greatest values

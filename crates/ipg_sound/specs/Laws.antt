@@ -1,5 +1,5 @@
 -- Laws of conditions: facts that hold give a solution, and solutions of parts one of their joint.
-use Rattle.std.specs.Prelude.{◌≡◌, ◌^◌, ◌<◌, ◌≤◌, Some, List, [], ◌∷◌, length, ℤ, pos, negsuc, ◌≤ℤ◌, IsTrue, true, ℕ, Bool}
+use Rattle.std.specs.Prelude.{◌≡◌, map, slice_get, ◌^◌, ◌<◌, ◌≤◌, Some, List, [], ◌∷◌, length, ℤ, pos, negsuc, ◌≤ℤ◌, IsTrue, true, ℕ, Bool}
 use Rattle.ipg_lin.specs.Form.{Assignment}
 use Rattle.ipg_lin.specs.Formula.{holds_at, width, LiesIn}
 use Rattle.ipg_lin.specs.declared.formula.Formula.{Formula}
@@ -22,11 +22,15 @@ use Rattle.ipg_core.specs.Mention.{mentions}
 use Rattle.ipg_sound.specs.Grows.{Grows, IsSettled}
 use Rattle.ipg_core.specs.Grammar.{Grammar}
 use Rattle.ipg_core.specs.Environment.{Values}
+use Rattle.ipg_core.specs.Meaning.{den}
+use Rattle.ipg_core.specs.MustTouch.{Marks, AreLimit}
+use Rattle.ipg_core.specs.Grown.{IsInput, Grown}
+use Rattle.ipg_facts.specs.Numbers.{keep}
 use Rattle.ipg_graph.specs.declared.edge.Edge.{Edge}
 use Rattle.ipg_core.specs.Good.{Good}
 use Rattle.ipg_graph.specs.Graph.{IsInside}
 use Rattle.ipg_edges.specs.Edges.{edges_of}
-use Rattle.ipg_sound.specs.Reached.{Reached, CallsAt, frame_of}
+use Rattle.ipg_sound.specs.Reached.{Reached, ReachedOn, CallsAt, frame_of}
 use Rattle.ipg_sound.specs.Ran.{TermRan, AllRan, CallsWhole}
 
 -- values in the box that make the formula hold
@@ -75,7 +79,7 @@ EdgesAreFew = (g : Grammar) → Good g → length (edges_of g) < 2 ^ 32
 -- where an edge is reached, its term makes a call on the whole part
 abbrev pub EdgesCall : Type 0
 EdgesCall = (g : Grammar) (e : Edge) (s : List ℕ) (outer : Values) (height : ℕ) → (reached : Reached g e s outer height)
-    → CallsAt (frame_of g e s outer) reached.state e.term e.branch reached.term
+    → CallsAt (den g height) (frame_of g e s outer) reached.state e.term e.branch reached.term
 
 -- a value stays where its environment goes on
 abbrev pub ValuesStay : Type 0
@@ -85,6 +89,12 @@ ValuesStay = (has_ended : ℕ → Bool) (env later : Environment) → Grows has_
 -- no two expressions are spelled alike
 abbrev pub SpellingsDiffer : Type 0
 SpellingsDiffer = (scope : Scope) (e f : CoreExpr) → (read scope e).words ≡ (read scope f).words → e ≡ f
+
+-- where an edge is reached, its conditions have a solution, in which the part's length is that of the caller's part
+abbrev pub ReachedEdgesSolve : Type 0
+ReachedEdgesSolve = (g : Grammar) (marks : Marks) (e : Edge) (s : List ℕ) (outer : Values) (height : ℕ)
+    → Good g → AreLimit g marks → IsInput s → Grown g e.caller s outer → Reached g e s outer height
+    → (values : Assignment) × Solves values (keep g marks e) × (values 0 ≡ pos (length s))
 
 -- a part has bounds for each variable of its formula, and for variable 0
 pub record IsPart (part : Formula × Boxed) : Type 0 where
@@ -100,3 +110,22 @@ AllSolved eoi (part ∷ parts) = (IsPart part × ((own : Assignment) × Solves o
 abbrev pub PartsSolveJoint : Type 0
 PartsSolveJoint = (parts : List (Formula × Boxed)) (eoi : ℤ) → AllSolved eoi parts
     → (values : Assignment) × Solves values (joint parts) × (values 0 ≡ eoi)
+
+-- parts whose variable 0 has these bounds
+abbrev pub ArePartsWith : ℤ × ℤ → List (Formula × Boxed) → Type 0
+ArePartsWith bounds [] = Unit {0}
+ArePartsWith bounds (part ∷ parts) = (IsPart part × (slice_get part.1.bounds 0 ≡ Some bounds)) × ArePartsWith bounds parts
+
+-- a solution of the joint of such parts gives one of each, with its value of variable 0
+abbrev pub JointSolvesParts : Type 0
+JointSolvesParts = (parts : List (Formula × Boxed)) (bounds : ℤ × ℤ) → ArePartsWith bounds parts
+    → (values : Assignment) → Solves values (joint parts) → AllSolved (values 0) parts
+
+-- conditions of edges are such parts: their variable 0 is a length, from 0 to 2^30
+abbrev pub ConditionsAreParts : Type 0
+ConditionsAreParts = (g : Grammar) (marks : Marks) (edges : List Edge) → ArePartsWith (pos 0, pos 1073741824) (map (keep g marks) edges)
+
+-- where edges are reached on parts of one length, their conditions have a solution together
+abbrev pub ReachedCyclesSolve : Type 0
+ReachedCyclesSolve = (g : Grammar) (marks : Marks) (edges : List Edge) (n : ℕ) → Good g → AreLimit g marks → AllByRecursion (ReachedOn g n) edges
+    → (values : Assignment) × Solves values (joint (map (keep g marks) edges)) × (values 0 ≡ pos n)

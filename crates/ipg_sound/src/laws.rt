@@ -1,6 +1,8 @@
 //! Laws of the conditions, each the contract of a function that does nothing.
 
-ghost use Rattle.ipg_sound.specs.Laws.{EdgesAreFew, EdgesAreInside, EdgesCall, FactsSolve, MembersAreKnown, OwnMembersAreKnown, PartsSolveJoint, SpellingsDiffer, TermsAreKnown, ValuesAreKnown, ValuesStay};
+ghost use Rattle.ipg_sound.specs.Laws.{ConditionsAreParts, EdgesAreFew, EdgesAreInside, EdgesCall, FactsSolve, JointSolvesParts, MembersAreKnown, OwnMembersAreKnown, PartsSolveJoint, ReachedCyclesSolve, ReachedEdgesSolve, SpellingsDiffer, TermsAreKnown, ValuesAreKnown, ValuesStay};
+
+use ipg_core::laws::{lies_within, touching_touches};
 
 /// Facts that hold where variables have values by their keys make their formula over numbers hold, in its box.
 pub fn facts_solve()
@@ -10,6 +12,17 @@ pub fn facts_solve()
 /// Solutions of the parts with one value of variable 0 give one of their joint.
 pub fn parts_solve_joint()
     ensures { PartsSolveJoint }
+{}
+
+/// A solution of the joint gives one of each part, with its value of variable 0, where the parts have one pair of bounds
+/// for that.
+pub fn joint_solves_parts()
+    ensures { JointSolvesParts }
+{}
+
+/// The conditions of edges are such parts: their variable 0 is a length from 0 to 2^30.
+pub fn conditions_are_parts()
+    ensures { ConditionsAreParts }
 {}
 
 /// Where variables have the values of what they stand for, what an expression is to the conditions holds of its value:
@@ -58,3 +71,21 @@ pub fn edges_are_inside()
 pub fn edges_are_few()
     ensures { EdgesAreFew }
 {}
+
+/// Where an edge is reached in a run that fits a good grammar, its conditions have a solution in their box, in which the
+/// length of the part is that of the caller's part.
+pub fn reached_edges_solve()
+    ensures { ReachedEdgesSolve }
+{
+    lies_within();
+    touching_touches();
+}
+
+/// Where edges are reached on parts of one length, the joint of their conditions has a solution, in which that length is
+/// the part's. So edges whose joint has none are never reached together.
+pub fn reached_cycles_solve()
+    ensures { ReachedCyclesSolve }
+{
+    lies_within();
+    touching_touches();
+}
