@@ -49,7 +49,7 @@ module _ {A : Type 0} (p : A → Bool) where
   any_at (y ∷ xs) zero x h e = ap (λ b. b || list_any p xs) (ap p (let same : y ≡ x = cc in same) ∙ e)
   any_at (y ∷ xs) (suc k) x h e = or_right (p y) (list_any p xs) (any_at xs k x h e)
 
-  first_found : (n : ℕ) (xs : List A) (v : ℕ) → first_from p n xs ≡ Some v → (k : ℕ) × (v ≡ n + k) × Found p xs k
+  pub first_found : (n : ℕ) (xs : List A) (v : ℕ) → first_from p n xs ≡ Some v → (k : ℕ) × (v ≡ n + k) × Found p xs k
   first_found n [] v h = absurd (cc)
   first_found n (x ∷ xs) v h = by (p x) refl h (first_found (n + 1) xs v)
     where
@@ -59,7 +59,8 @@ module _ {A : Type 0} (p : A → Bool) where
       by true e k f = (0, (let same : n ≡ v = cc in omega (arith, same)), record { item = x; is = refl; passes = e })
       by false e k f = let w = f k in (suc w.0, omega (arith, w.1), record { item = w.2.item; is = w.2.is; passes = w.2.passes })
 
-  last_found : (n : ℕ) (found : Option ℕ) (xs : List A) (v : ℕ) → last_from p n found xs ≡ Some v → (found ≡ Some v) ⊎ ((k : ℕ) × (v ≡ n + k) × Found p xs k)
+  pub last_found : (n : ℕ) (found : Option ℕ) (xs : List A) (v : ℕ) → last_from p n found xs ≡ Some v
+      → (found ≡ Some v) ⊎ ((k : ℕ) × (v ≡ n + k) × Found p xs k)
   last_found n found [] v h = inl h
   last_found n found (x ∷ xs) v h = by (p x) refl (last_found (n + 1) (cond (p x) (Some n) found) xs v h)
     where
@@ -77,7 +78,7 @@ module _ {A : Type 0} (p : A → Bool) where
           here q = cc
       by false e (inl k) = inl (sym (ap (λ c. cond c (Some n) found) e) ∙ k)
 
-  get_take : (u : ℕ) (xs : List A) (k : ℕ) (x : A) → slice_get (take u xs) k ≡ Some x → slice_get xs k ≡ Some x
+  pub get_take : (u : ℕ) (xs : List A) (k : ℕ) (x : A) → slice_get (take u xs) k ≡ Some x → slice_get xs k ≡ Some x
   get_take zero xs k x h = absurd (cc)
   get_take (suc u) [] k x h = absurd (cc)
   get_take (suc u) (y ∷ xs) zero x h = h
@@ -89,7 +90,7 @@ module _ {A : Type 0} (p : A → Bool) where
   take_get (suc u) (y ∷ xs) zero x lt h = h
   take_get (suc u) (y ∷ xs) (suc k) x lt h = take_get u xs k x (omega arith) h
 
-  get_drop : (m : ℕ) (xs : List A) (k : ℕ) (x : A) → slice_get (drop m xs) k ≡ Some x → slice_get xs (m + k) ≡ Some x
+  pub get_drop : (m : ℕ) (xs : List A) (k : ℕ) (x : A) → slice_get (drop m xs) k ≡ Some x → slice_get xs (m + k) ≡ Some x
   get_drop zero xs k x h = ap (slice_get xs) (let e : 0 + k ≡ k = omega arith in e) ∙ h
   get_drop (suc m) [] k x h = absurd (cc)
   get_drop (suc m) (y ∷ xs) k x h = ap (slice_get (y ∷ xs)) (let e : suc m + k ≡ suc (m + k) = omega arith in e) ∙ get_drop m xs k x h

@@ -83,7 +83,7 @@ items_term scope name (term.Test at cond) h = absurd (true≢false (sym h))
 
 -- ---- rules that are called
 
-same_pair : (a b : ℕ × ℕ) → same_place a b ≡ true → a ≡ b
+pub same_pair : (a b : ℕ × ℕ) → same_place a b ≡ true → a ≡ b
 same_pair a b h =
     let e = and_parts (nat_eq a.0 b.0) (nat_eq a.1 b.1) h in
     let p : a.0 ≡ b.0 = eqb-true a.0 b.0 e.0 in

@@ -17,5 +17,10 @@ pub mod Found
 pub mod GoodTerms
 pub mod GoodNames
 pub mod Sizes
+pub mod Stands
 pub mod Told
+pub mod Causes
+pub mod Alone
+pub mod Meanings
+pub mod Refusals
 pub mod Spots

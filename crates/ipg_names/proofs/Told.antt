@@ -1,5 +1,5 @@
 -- The first of a list of faults, and where the faults of a text stand.
-use Rattle.std.proofs.Common.{◌≡◌, ◌↔◌, ℕ, zero, suc, ◌+◌, Bool, true, false, ◌||◌, ◌&&◌, ◌⊎◌, inl, inr, nat_lt, nat_eq, List, [], ◌∷◌, ◌++◌, take, map, Option, Some, None, is_some, slice_get, refl, sym, ap, subst, ◌∙◌, cond, bytes_eq, arith, true≢false, append_assoc, append-nil}
+use Rattle.std.proofs.Common.{◌≡◌, ◌↔◌, ℕ, zero, suc, ◌+◌, Bool, true, false, ◌||◌, ◌&&◌, ◌⊎◌, inl, inr, nat_lt, nat_eq, List, [], ◌∷◌, ◌++◌, take, map, Option, Some, None, is_some, slice_get, refl, sym, ap, subst, ◌∙◌, cond, bytes_eq, arith, append_assoc, append-nil}
 use Rattle.std.specs.List.{AllByRecursion, list_any}
 use Rattle.std.proofs.lemmas.Bool.Decides.{nat_tests}
 use Rattle.ipg_ast.specs.declared.grammar.Grammar.{Grammar}
@@ -9,13 +9,14 @@ use Rattle.ipg_names.specs.declared.fault.NameFault.TheVariants.{DuplicateRule}
 use Rattle.ipg_names.specs.Roster.{Entry, name_of, head_at, alts_of, roster_of}
 use Rattle.ipg_names.specs.Primitives.{primitive_of}
 use Rattle.ipg_names.specs.Names.{attr_names}
-use Rattle.ipg_names.specs.Scope.{is_named}
+use Rattle.ipg_names.specs.Scope.{Scope}
 use Rattle.ipg_names.specs.Resolved.{alt_scopes}
 use Rattle.ipg_names.specs.Fault.{number_of, place_of, is_before, earlier, first_of}
 use Rattle.ipg_names.specs.Faults.{when, head_faults, term_faults, terms_faults, alt_faults, alts_faults, rules_faults, faults_of}
-use Rattle.ipg_names.specs.Told.{Stands, IsFirst, IsHeadFault, IsTermFault}
+use Rattle.ipg_names.specs.Told.{Stands, IsFirst}
+use Rattle.ipg_names.specs.Refusals.{TermOf}
 use Rattle.ipg_names.proofs.Firsts.{not_before}
-use Rattle.ipg_names.proofs.Lists.{any_map}
+use Rattle.ipg_names.proofs.Stands.{left, right, either, when_is, is_when}
 use Rattle.ipg_names.proofs.GoodNames.{first_none}
 
 -- ---- the first
@@ -65,24 +66,6 @@ first_told faults = ((first_none faults, λ e. ap first_of e), first_is faults)
 
 -- ---- where faults stand
 
-left : {A : Type 0} (xs ys : List A) (x : A) → Stands xs x → Stands (xs ++ ys) x
-left [] ys x h = absurd h
-left (z ∷ xs) ys x (inl e) = inl e
-left (z ∷ xs) ys x (inr h) = inr (left xs ys x h)
-
-right : {A : Type 0} (xs ys : List A) (x : A) → Stands ys x → Stands (xs ++ ys) x
-right [] ys x h = h
-right (z ∷ xs) ys x h = inr (right xs ys x h)
-
-either : {A : Type 0} (xs ys : List A) (x : A) → Stands (xs ++ ys) x → Stands xs x ⊎ Stands ys x
-either [] ys x h = inr h
-either (z ∷ xs) ys x (inl e) = inl (inl e)
-either (z ∷ xs) ys x (inr h) = more (either xs ys x h)
-  where
-    more : Stands xs x ⊎ Stands ys x → Stands (z ∷ xs) x ⊎ Stands ys x
-    more (inl k) = inl (inr k)
-    more (inr k) = inr k
-
 -- faults of an item of a list
 pub record At {A : Type 0} (faults_at : ℕ → A → List NameFault) (n : ℕ) (xs : List A) (f : NameFault) : Type 0 where
   pub number : ℕ
@@ -120,7 +103,7 @@ module _ {A : Type 0} (faults_from : ℕ → List A → List NameFault) (faults_
 
 -- ---- heads
 
-abbrev clash : List (List ℕ) → Entry → Bool
+abbrev pub clash : List (List ℕ) → Entry → Bool
 clash before entry = list_any (bytes_eq (name_of entry)) before || is_some (primitive_of (name_of entry))
 
 pub record Head (before : List (List ℕ)) (es : List Entry) (f : NameFault) : Type 0 where
@@ -130,16 +113,7 @@ pub record Head (before : List (List ℕ)) (es : List Entry) (f : NameFault) : T
   pub twice : clash (before ++ map name_of (take number es)) entry ≡ true
   pub fault_is : f ≡ DuplicateRule (head_at entry)
 
-when_is : (b : Bool) (fault f : NameFault) → Stands (when b fault) f → (b ≡ true) × (f ≡ fault)
-when_is true fault f (inl e) = (refl, sym e)
-when_is true fault f (inr h) = absurd h
-when_is false fault f h = absurd h
-
-is_when : (b : Bool) (fault f : NameFault) → b ≡ true → f ≡ fault → Stands (when b fault) f
-is_when true fault f h e = inl (sym e)
-is_when false fault f h e = absurd (true≢false (sym h))
-
-heads_which : (before : List (List ℕ)) (es : List Entry) (f : NameFault) → Stands (head_faults before es) f → Head before es f
+pub heads_which : (before : List (List ℕ)) (es : List Entry) (f : NameFault) → Stands (head_faults before es) f → Head before es f
 heads_which before [] f h = absurd h
 heads_which before (e ∷ es) f h =
     by (either (when (clash before e) (DuplicateRule (head_at e))) (head_faults (before ++ name_of e ∷ []) es) f h) (heads_which
@@ -161,7 +135,7 @@ heads_which before (e ∷ es) f h =
           fault_is = w.fault_is;
         }
 
-heads_there : (before : List (List ℕ)) (es : List Entry) (f : NameFault) (k : ℕ) (entry : Entry) → slice_get es k ≡ Some entry
+pub heads_there : (before : List (List ℕ)) (es : List Entry) (f : NameFault) (k : ℕ) (entry : Entry) → slice_get es k ≡ Some entry
     → clash (before ++ map name_of (take k es)) entry ≡ true → f ≡ DuplicateRule (head_at entry) → Stands (head_faults before es) f
 heads_there before [] f k entry is twice e = absurd (cc)
 heads_there before (x ∷ es) f zero entry is twice e =
@@ -176,6 +150,14 @@ heads_there before (x ∷ es) f (suc k) entry is twice e =
 
 -- ---- all faults of a text
 
+abbrev pub scope_at : {g : Grammar} → TermOf g → Scope
+scope_at {g} here = alt_scopes (roster_of g) (attr_names g) here.entry (here.rule, here.place) here.alt here.number
+
+-- a fault of the names in a term, in the scope of that term
+pub record TermFault (g : Grammar) (fault : NameFault) : Type 0 where
+  pub here : TermOf g
+  pub stands : Stands (term_faults (scope_at here) here.term) fault
+
 module _ (g : Grammar) (f : NameFault) where
   abbrev roster : List Entry
   roster = roster_of g
@@ -183,58 +165,55 @@ module _ (g : Grammar) (f : NameFault) where
   abbrev names : List (List ℕ)
   names = attr_names g
 
-  known : (entry : Entry) (k : ℕ) → (list_any (is_named (name_of entry)) (take k roster) || is_some (primitive_of (name_of entry))) ≡ clash (map name_of
-      (take k roster)) entry
-  known entry k = ap (λ b. b || is_some (primitive_of (name_of entry))) (sym (any_map (bytes_eq (name_of entry)) name_of (take k roster)))
+  in_zero : (P : ℕ → Type 0) (n : ℕ) → P (0 + n) → P n
+  in_zero P n h = subst P (let e : 0 + n ≡ n = omega arith in e) h
 
-  of_head : Head [] roster f → IsHeadFault g f
-  of_head w = record { rule = w.number; entry = w.entry; is_rule = w.is_entry; twice = known w.entry w.number ∙ w.twice; fault_is = w.fault_is }
+  out_zero : (P : ℕ → Type 0) (n : ℕ) → P n → P (0 + n)
+  out_zero P n h = subst P (let e : n ≡ 0 + n = omega arith in e) h
 
-  from_zero : (n : ℕ) → 0 + n ≡ n
-  from_zero n = omega arith
-
-  of_term : Stands (rules_faults roster names 0 roster) f → IsTermFault g f
+  of_term : Stands (rules_faults roster names 0 roster) f → TermFault g f
   of_term h =
       let r = which (rules_faults roster names) (λ n e. alts_faults roster names e n 0 (alts_of e)) (λ n x xs. refl) (λ n. refl) 0 roster f h in
-      let in_rule = subst (λ n. Stands (alts_faults roster names r.item n 0 (alts_of r.item)) f) (from_zero r.number) r.stands in
+      let in_rule = in_zero (λ n. Stands (alts_faults roster names r.item n 0 (alts_of r.item)) f) r.number r.stands in
       let a = which (alts_faults roster names r.item r.number) (λ n x. alt_faults roster names r.item (r.number, n) x) (λ n x xs. refl) (λ n. refl) 0
       (alts_of r.item) f in_rule in
-      let in_alt = subst (λ n. Stands (alt_faults roster names r.item (r.number, n) a.item) f) (from_zero a.number) a.stands in
+      let in_alt = in_zero (λ n. Stands (alt_faults roster names r.item (r.number, n) a.item) f) a.number a.stands in
       let scopes = alt_scopes roster names r.item (r.number, a.number) a.item in
       let t = which (terms_faults scopes) (λ n x. term_faults (scopes n) x) (λ n x xs. refl) (λ n. refl) 0 (out-Alt a.item).terms f in_alt in
       record {
-        rule = r.number;
-        entry = r.item;
-        is_rule = r.is_item;
-        place = a.number;
-        alt = a.item;
-        is_alt = a.is_item;
-        number = t.number;
-        term = t.item;
-        is_term = t.is_item;
-        fault_in = subst (λ n. Stands (term_faults (scopes n) t.item) f) (from_zero t.number) t.stands;
+        here = record {
+          rule = r.number;
+          entry = r.item;
+          is_rule = r.is_item;
+          place = a.number;
+          alt = a.item;
+          is_alt = a.is_item;
+          number = t.number;
+          term = t.item;
+          is_term = t.is_item;
+        };
+        stands = in_zero (λ n. Stands (term_faults (scopes n) t.item) f) t.number t.stands;
       }
 
-  term_there : IsTermFault g f → Stands (rules_faults roster names 0 roster) f
-  term_there w =
+  term_there : TermFault g f → Stands (rules_faults roster names 0 roster) f
+  term_there fault =
+      let w = fault.here in
       let scopes = alt_scopes roster names w.entry (w.rule, w.place) w.alt in
       let in_alt = there (terms_faults scopes) (λ n x. term_faults (scopes n) x) (λ n x xs. refl) (λ n. refl) 0
       (out-Alt w.alt).terms f w.number w.term w.is_term
-      (subst (λ n. Stands (term_faults (scopes n) w.term) f) (sym (from_zero w.number)) w.fault_in) in
+      (out_zero (λ n. Stands (term_faults (scopes n) w.term) f) w.number fault.stands) in
       let in_rule = there (alts_faults roster names w.entry w.rule) (λ n x. alt_faults roster names w.entry (w.rule, n) x) (λ n x xs. refl) (λ n. refl) 0
       (alts_of w.entry) f w.place w.alt w.is_alt
-      (subst (λ n. Stands (alt_faults roster names w.entry (w.rule, n) w.alt) f) (sym (from_zero w.place)) in_alt) in
+      (out_zero (λ n. Stands (alt_faults roster names w.entry (w.rule, n) w.alt) f) w.place in_alt) in
       there (rules_faults roster names) (λ n e. alts_faults roster names e n 0 (alts_of e)) (λ n x xs. refl) (λ n. refl) 0 roster f w.rule w.entry w.is_rule
-      (subst (λ n. Stands (alts_faults roster names w.entry n 0 (alts_of w.entry)) f) (sym (from_zero w.rule)) in_rule)
+      (out_zero (λ n. Stands (alts_faults roster names w.entry n 0 (alts_of w.entry)) f) w.rule in_rule)
 
-  found : Stands (head_faults [] roster) f ⊎ Stands (rules_faults roster names 0 roster) f → IsHeadFault g f ⊎ IsTermFault g f
-  found (inl h) = inl (of_head (heads_which [] roster f h))
+  found : Stands (head_faults [] roster) f ⊎ Stands (rules_faults roster names 0 roster) f → Head [] roster f ⊎ TermFault g f
+  found (inl h) = inl (heads_which [] roster f h)
   found (inr h) = inr (of_term h)
 
-  standing : IsHeadFault g f ⊎ IsTermFault g f → Stands (faults_of g) f
-  standing (inl w) = left (head_faults [] roster) (rules_faults roster names 0 roster) f (heads_there [] roster f w.rule w.entry w.is_rule (sym
-      (known w.entry w.rule) ∙ w.twice) w.fault_is)
-  standing (inr w) = right (head_faults [] roster) (rules_faults roster names 0 roster) f (term_there w)
+  pub told_where : Stands (faults_of g) f → Head [] roster f ⊎ TermFault g f
+  told_where h = found (either (head_faults [] roster) (rules_faults roster names 0 roster) f h)
 
-  pub faults_stand : Stands (faults_of g) f ↔ (IsHeadFault g f ⊎ IsTermFault g f)
-  faults_stand = (λ h. found (either (head_faults [] roster) (rules_faults roster names 0 roster) f h), standing)
+  pub term_told : TermFault g f → Stands (faults_of g) f
+  term_told w = right (head_faults [] roster) (rules_faults roster names 0 roster) f (term_there w)

@@ -14,8 +14,10 @@ pub mod Resolved
 pub mod Faults
 -- what a resolved grammar keeps
 pub mod Bare
--- the laws that public functions promise
+-- the laws that public functions promise: which fault is told, where names stand, what each refusal says of its place
 pub mod Told
+pub mod Uses
+pub mod Refusals
 pub mod Laws
 -- what functions inside the crate promise each other
 pub mod Marks
@@ -23,3 +25,4 @@ pub mod View
 pub mod Fields
 pub mod Lookup
 pub mod Site
+pub mod Judged

@@ -1,6 +1,6 @@
 //! Laws of names, each the contract of a function that does nothing.
 
-ghost use Rattle.ipg_names.specs.Laws.{FormedIsReadable, FirstIsTold, FaultsStand};
+ghost use Rattle.ipg_names.specs.Laws.{FormedIsReadable, FirstIsTold, HeadsStand, FaultsStand, FirstIsRefused};
 
 /// A well formed grammar of at most 2^20 tokens, and so each that is read, meets the conditions of `resolve`.
 pub fn formed_is_readable()
@@ -12,7 +12,17 @@ pub fn first_is_told()
     ensures { FirstIsTold }
 {}
 
-/// The faults of a text are those of its heads and those of its terms.
+/// G6 stands exactly at the heads whose name is taken.
+pub fn heads_stand()
+    ensures { HeadsStand }
+{}
+
+/// Where no head's name is taken, the faults of a text are exactly those that hold of their places.
 pub fn faults_stand()
     ensures { FaultsStand }
+{}
+
+/// The first fault that holds of a place is told, and none exactly where none holds anywhere.
+pub fn first_is_refused()
+    ensures { FirstIsRefused }
 {}

@@ -3,6 +3,7 @@ ghost use Rattle.std.specs.Prelude.{◌≡◌, None, map, option_map, IfOk};
 ghost use Rattle.ipg_core.specs.declared.grammar.CoreExpr.TheVariants as core;
 ghost use Rattle.ipg_names.specs.Resolved as spec;
 ghost use Rattle.ipg_names.specs.Site.{spot_scope, callee_sym};
+ghost use Rattle.ipg_names.specs.Judged.{repeat_named};
 
 use crate::faults::item_spot;
 use crate::named::{NamedPlace, NamedSlot, NamedTerm};
@@ -233,7 +234,7 @@ fn named_repeat(
     own: &Spot<'_, '_, '_>,
     ends: (&Expr, &Expr),
 ) -> Result<NamedTerm, AllocError>
-    ensures { IfOk result (λ made. made ≡ spec.repeat_in (spot_scope spot.now) bounds.entry.0.now bounds.entry.1.now sym (spot_scope own.now) ends.entry.0.now ends.entry.1.now) }
+    ensures { IfOk result (λ made. made ≡ repeat_named spot.now bounds.entry sym own.now ends.entry) }
 {
     let first = expr(alloc, spot, bounds.0)?;
     let last = expr(alloc, spot, bounds.1)?;

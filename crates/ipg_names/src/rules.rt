@@ -9,8 +9,8 @@ ghost use Rattle.ipg_names.specs.Resolved as spec;
 ghost use Rattle.ipg_names.specs.Marks.{IsShort, IsMarked};
 ghost use Rattle.ipg_names.specs.View.{entry_view, entries_view, HasShortTerms, IsFit};
 ghost use Rattle.ipg_names.specs.Lookup.{shown};
-ghost use Rattle.ipg_names.specs.Roster.{alts_of};
 ghost use Rattle.ipg_names.specs.Site.{site_scope, scopes_at, roster_in, names_under, AreTables, AreMarks, IsOuter};
+ghost use Rattle.ipg_names.specs.Judged.{alt_told, alts_named, alts_told, rules_told};
 
 use crate::fault::{NameFault, earlier};
 use crate::faults::term_fault;
@@ -123,7 +123,7 @@ fn judged_alt<'a>(
     requires outer { IsOuter entry.now.outer.now outer.now }
     requires short { HasShortTerms alt.now }
     ensures made { IfOk result (λ judged. judged.made ≡ spec.alt_in (roster_in tables.now) (names_under tables.now) (entry_view entry.now) at alt.now) }
-    ensures fault { IfOk result (λ judged. judged.fault ≡ first_of (faults.alt_faults (roster_in tables.now) (names_under tables.now) (entry_view entry.now) at alt.now)) }
+    ensures fault { IfOk result (λ judged. judged.fault ≡ alt_told tables.now entry.now at alt.now) }
 {
     let judged = judged_terms(alloc, tables, entry, at, outer, alt.terms.as_slice())?;
     Ok(Judged {
@@ -140,8 +140,8 @@ fn judged_alts<'a>(
 ) -> Result<Judged<List<NamedAlt>>, AllocError>
     requires tables { AreTables tables.now }
     requires fit { IsFit (entry_view entry.now) }
-    ensures made { IfOk result (λ judged. judged.made ≡ spec.alts_from (roster_in tables.now) (names_under tables.now) (entry_view entry.now) rule 0 (alts_of (entry_view entry.now))) }
-    ensures fault { IfOk result (λ judged. judged.fault ≡ first_of (faults.alts_faults (roster_in tables.now) (names_under tables.now) (entry_view entry.now) rule 0 (alts_of (entry_view entry.now)))) }
+    ensures made { IfOk result (λ judged. judged.made ≡ alts_named tables.now rule entry.now) }
+    ensures fault { IfOk result (λ judged. judged.fault ≡ alts_told tables.now rule entry.now) }
 {
     let alts = entry.rule.alts.as_slice();
     let outer = places(alloc, Family::Sets, entry.outer)?;
@@ -167,7 +167,7 @@ fn judged_rule<'a>(
     requires tables { AreTables tables.now }
     requires fit { IsFit (entry_view entry.now) }
     ensures made { IfOk result (λ judged. judged.made ≡ spec.rule_in (roster_in tables.now) (names_under tables.now) rule (entry_view entry.now)) }
-    ensures fault { IfOk result (λ judged. judged.fault ≡ first_of (faults.alts_faults (roster_in tables.now) (names_under tables.now) (entry_view entry.now) rule 0 (alts_of (entry_view entry.now)))) }
+    ensures fault { IfOk result (λ judged. judged.fault ≡ alts_told tables.now rule entry.now) }
 {
     let name = copy(alloc, entry.rule.name.name.as_slice())?;
     let alts = judged_alts(alloc, tables, rule, entry)?;
@@ -190,7 +190,7 @@ pub fn judged_rules<'a>(
     requires few { length tables.now.roster.now < 2 ^ 32 }
     requires fit { AllByRecursion IsFit (roster_in tables.now) }
     ensures made { IfOk result (λ judged. judged.made ≡ spec.rules_from (roster_in tables.now) (names_under tables.now) 0 (roster_in tables.now)) }
-    ensures fault { IfOk result (λ judged. judged.fault ≡ first_of (faults.rules_faults (roster_in tables.now) (names_under tables.now) 0 (roster_in tables.now))) }
+    ensures fault { IfOk result (λ judged. judged.fault ≡ rules_told tables.now) }
 {
     let roster = tables.roster;
     let mut made = Vec::with_capacity(alloc, roster.len())?;

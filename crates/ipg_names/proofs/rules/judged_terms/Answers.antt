@@ -19,17 +19,20 @@ loop-u-preserved c =
     let terms = c.args.terms.now in
     let term = c.index-terms-u.result in
     let scopes = scopes_at c.args.tables.now c.args.entry.now c.args.at terms in
-    let here = scope_here c.args.tables.now c.args.entry.now c.args.at terms _ refl c.home_of.ensures c.requires.tables c.loop-u.invariant.marks c.requires.outer in
+    let marks = c.loop-u.invariant.marks in
+    let here = scope_here c.args.tables.now c.args.entry.now c.args.at terms _ refl c.home_of.ensures c.requires.tables marks c.requires.outer in
     let first : First c.in_ok-judged.judged.fault (term_faults (scopes u) term) = record {
       is = c.in_ok-judged.ensures.fault
           ∙ ap (λ s. first_of (term_faults s term)) here;
     } in
-    let marks = c.loop-u.invariant.marks in
+    let old = c.loop-u.marks in
+    let new = c.pass.new.marks in
+    let passed = c.in_ok-pass.ensures in
     record {
       marks = record {
-        calls = pass_turn Calls c.loop-u.marks.calls c.pass.new.marks.calls terms u term c.index-terms-u.is c.loop-u-test.true c.in_ok-pass.ensures.calls marks.calls;
-        items = pass_turn Items c.loop-u.marks.items c.pass.new.marks.items terms u term c.index-terms-u.is c.loop-u-test.true c.in_ok-pass.ensures.items marks.items;
-        sets = pass_turn Sets c.loop-u.marks.sets c.pass.new.marks.sets terms u term c.index-terms-u.is c.loop-u-test.true c.in_ok-pass.ensures.sets marks.sets;
+        calls = pass_turn Calls old.calls new.calls terms u term c.index-terms-u.is c.loop-u-test.true passed.calls marks.calls;
+        items = pass_turn Items old.items new.items terms u term c.index-terms-u.is c.loop-u-test.true passed.items marks.items;
+        sets = pass_turn Sets old.sets new.sets terms u term c.index-terms-u.is c.loop-u-test.true passed.sets marks.sets;
       };
       made = rw (c.in_ok-push.ensures.items, c.in_ok-judged.ensures.made, here)
           (made_turn (terms_from scopes) (λ n x. term_in (scopes n) x) (λ n x xs. refl)
