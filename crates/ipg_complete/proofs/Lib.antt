@@ -1,0 +1,5 @@
+mod Lists
+mod Mentions
+mod Terms
+mod Turns
+mod Keeping

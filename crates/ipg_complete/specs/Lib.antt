@@ -1,2 +1,6 @@
 -- what a completed grammar is
 pub mod Unordered
+-- what completion writes
+pub mod Completion
+-- inside
+pub mod Lefts

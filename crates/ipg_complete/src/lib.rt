@@ -2,3 +2,8 @@
 #![tactic(auto)]
 
 pub mod completed;
+mod completing;
+mod left;
+mod whole;
+
+pub use whole::complete;
