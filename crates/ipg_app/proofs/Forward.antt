@@ -58,7 +58,8 @@ syms_go r a u b (s ∷ syms) h =
     let parts = both (call r a u b s) (numbered (b + 1) (call r a u) syms) h in
     (sym_goes r a u b s parts.0, syms_go r a u (b + 1) syms parts.1)
 
-cases_each : (P : Sym → Type 0) (other : Sym) (cases : List (CoreExpr × CoreSlot)) → AllByRecursion P (flat_map (λ c. c.1.sym ∷ []) cases ++ other ∷ []) → AllByRecursion (λ c. P c.1.sym) cases × P other
+cases_each : (P : Sym → Type 0) (other : Sym) (cases : List (CoreExpr × CoreSlot))
+    → AllByRecursion P (flat_map (λ c. c.1.sym ∷ []) cases ++ other ∷ []) → AllByRecursion (λ c. P c.1.sym) cases × P other
 cases_each P other [] h = (tt, h.0)
 cases_each P other (c ∷ cases) h = let rest = cases_each P other cases h.1 in ((h.0, rest.0), rest.1)
 
@@ -97,9 +98,9 @@ pub is_forward : (g : Grammar) → Good g → GoOn (edges_of g) → IsForward g
 is_forward g good h r rule is_rule =
     let of_rule = of_place (λ r rule. alts_edges r rule.alts) g.rules r rule h is_rule in
     all_of _ rule.alts (λ a alt is_alt.
-      let of_alt = of_place (λ a alt. terms_edges r a alt.terms) rule.alts a alt of_rule is_alt in
-      all_of _ alt.terms (λ u term is_term.
-        let of_term = of_place (λ u term. syms_edges r a u (term_syms term)) alt.terms u term of_alt is_term in
-        let goes = each_of (Goes r) term (syms_go r a u 0 (term_syms term) of_term) in
-        let good_term = (good.well_formed.alts (r, a) rule alt (record { is_rule = is_rule; is_alt = is_alt })).terms u term is_term in
-        each_both (Goes r) (IsCallable g (r, a) rule.holder) (IsLater g r) term (later g (r, a) rule.holder) goes good_term.syms))
+    let of_alt = of_place (λ a alt. terms_edges r a alt.terms) rule.alts a alt of_rule is_alt in
+    all_of _ alt.terms (λ u term is_term.
+    let of_term = of_place (λ u term. syms_edges r a u (term_syms term)) alt.terms u term of_alt is_term in
+    let goes = each_of (Goes r) term (syms_go r a u 0 (term_syms term) of_term) in
+    let good_term = (good.well_formed.alts (r, a) rule alt (record { is_rule = is_rule; is_alt = is_alt })).terms u term is_term in
+    each_both (Goes r) (IsCallable g (r, a) rule.holder) (IsLater g r) term (later g (r, a) rule.holder) goes good_term.syms))

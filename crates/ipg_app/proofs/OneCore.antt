@@ -1,5 +1,6 @@
 -- A text has one core grammar, or is refused in one way.
-use Rattle.std.proofs.Common.{◌≡◌, ℕ, zero, suc, Bool, true, false, List, [], ◌∷◌, length, Option, Some, Result, Ok, Err, refl, sym, ap, ◌∙◌, subst, true≢false, slice_get}
+use Rattle.std.proofs.Common.{◌≡◌, ℕ, zero, suc, Bool, true, false, List, [], ◌∷◌, length, Some, Result, Ok, Err, refl, sym, ap, ◌∙◌, subst}
+use Rattle.std.proofs.Common.{true≢false, slice_get}
 use Rattle.ipg_core.specs.declared.grammar.CoreRule.{CoreRule}
 use Rattle.ipg_core.specs.Grammar.{Grammar}
 use Rattle.ipg_core.specs.MustTouch.{Marks, is_marked, AreLimit}
@@ -40,7 +41,7 @@ same_marks (x ∷ xs) (y ∷ ys) e to from =
 touches_once : (g : Grammar) (one other : Answer) → Touches g one → Touches g other → one ≡ other
 touches_once g one other h k =
     let marks = same_marks h.marks k.marks (h.limit.size ∙ sym k.limit.size) (λ r m. (k.limit.exact r).1 ((h.limit.exact r).0 m))
-        (λ r m. (h.limit.exact r).1 ((k.limit.exact r).0 m)) in
+    (λ r m. (h.limit.exact r).1 ((k.limit.exact r).0 m)) in
     h.is ∙ ap (λ m. unless_loose g (loose m g.rules)) marks ∙ sym k.is
 
 -- ---- the order is one, or gets stuck at one term

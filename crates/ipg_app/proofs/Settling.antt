@@ -18,33 +18,47 @@ abbrev next : List ℕ → Answer → Order
 next name answer = have answer (λ core. have (only_forward core) (λ forward. parse_input forward name))
 
 module _ (told : List ℕ → Told) (before after : List ℕ → ℕ) where
+  abbrev Settled : Order → Said → Type 0
+  Settled = Settles told before after
+
   -- what a name holds leads on
-  pub goes_on : (name : List ℕ) (next : List ℕ → Order) (said : Said) (bytes : List ℕ) → MayHold (told name) bytes → Settles told before after (next bytes) said → Settles told before after (reads name next) said
+  pub goes_on : (name : List ℕ) (next : List ℕ → Order) (said : Said) (bytes : List ℕ) → MayHold (told name) bytes → Settled (next bytes) said
+      → Settled (reads name next) said
   goes_on name next said bytes held (inl a) = inl (inr (bytes, held, a))
   goes_on name next said bytes held (inr f) = inr (record { name = f.name; turn = inr (bytes, held, f.turn); rose = f.rose; is = f.is })
 
   -- a step settles what is said
-  pub settles_by : {A : Type 0} (r : Result A Said) (next : A → Order) (said x : Said) → r ≡ Err x → said ≡ x → Settles told before after (have r next) said
+  pub settles_by : {A : Type 0} (r : Result A Said) (next : A → Order) (said x : Said) → r ≡ Err x → said ≡ x → Settled (have r next) said
   settles_by (Ok a) next said x e f = absurd (cc)
   settles_by (Err y) next said x e f = inl (let same : said ≡ y = cc in same)
 
   -- what is more often so leads on too
-  wider : {A : Type 0} (P Q : A → Type 0) (next : A → Order) (said : Said) → ((a : A) → P a → Q a) → Settles told before after (finds P next) said → Settles told before after (finds Q next) said
+  wider : {A : Type 0} (P Q : A → Type 0) (next : A → Order) (said : Said) → ((a : A) → P a → Q a) → Settled (finds P next) said
+      → Settled (finds Q next) said
   wider P Q next said more (inl (a, p, h)) = inl (a, more a p, h)
-  wider P Q next said more (inr f) = inr (record { name = f.name; turn = (f.turn.0, more f.turn.0 f.turn.1, f.turn.2); rose = f.rose; is = f.is })
+  wider P Q next said more (inr f) = inr (record {
+    name = f.name;
+    turn = (f.turn.0, more f.turn.0 f.turn.1, f.turn.2);
+    rose = f.rose;
+    is = f.is;
+  })
 
   -- the grammar found leads on to what its text leads on to
-  pub core_on : (grammar name : List ℕ) (said : Said) (g : written.Grammar) → Found (told grammar) g → Settles told before after (parse_by g name) said → Settles told before after (parse grammar name) said
+  pub core_on : (grammar name : List ℕ) (said : Said) (g : written.Grammar) → Found (told grammar) g → Settled (parse_by g name) said
+      → Settled (parse grammar name) said
   core_on grammar name said g found h =
-      let more : (answer : Answer) → CoreFrom g answer → CoreOf found.text answer = λ answer p. subst (λ r. On r CoreFrom answer) (sym found.reads) p in
-      goes_on grammar (λ text. finds (CoreOf text) (next name)) said found.text found.held (wider (CoreFrom g) (CoreOf found.text) (next name) said more h)
+      let text = found.text in
+      let more : (answer : Answer) → CoreFrom g answer → CoreOf text answer = λ answer p. subst (λ r. On r CoreFrom answer) (sym found.reads) p in
+      let wide = wider (CoreFrom g) (CoreOf text) (next name) said more h in
+      goes_on grammar (λ t. finds (CoreOf t) (next name)) said text found.held wide
 
   -- what a text that is no grammar settles
-  pub refused_on : (name : List ℕ) (next : Grammar → Order) (said : Said) → Settles told before after (grammar_under name (λ g. silence)) said → Settles told before after (core_under name next) said
+  pub refused_on : (name : List ℕ) (next : Grammar → Order) (said : Said) → Settled (grammar_under name (λ g. silence)) said
+      → Settled (core_under name next) said
   refused_on name next said (inl (inl a)) = inl (inl a)
   refused_on name next said (inl (inr (bytes, held, a))) = by (grammar_in bytes) refl a
     where
-      by : (r : Result written.Grammar Said) → grammar_in bytes ≡ r → Answers told (have r (λ g. silence)) said → Settles told before after (core_under name next) said
+      by : (r : Result written.Grammar Said) → grammar_in bytes ≡ r → Answers told (have r (λ g. silence)) said → Settled (core_under name next) said
       by (Ok g) e a = absurd a
       by (Err x) e a = inl (inr (bytes, held, (Err x, subst (λ r. On r CoreFrom (Err x)) (sym e) refl, a)))
   refused_on name next said (inr f) = by f.turn
@@ -53,7 +67,7 @@ module _ (told : List ℕ → Told) (before after : List ℕ → ℕ) where
       none (Ok g) n t = t
       none (Err x) n t = t
 
-      by : Turn told (grammar_under name (λ g. silence)) f.name → Settles told before after (core_under name next) said
+      by : Turn told (grammar_under name (λ g. silence)) f.name → Settled (core_under name next) said
       by (inl e) = inr (record { name = f.name; turn = inl e; rose = f.rose; is = f.is })
       by (inr (bytes, held, t)) = absurd (none (grammar_in bytes) f.name t)
 
@@ -75,7 +89,8 @@ module _ (told then : List ℕ → Told) (same : (n : List ℕ) → then n ≡ t
       let P : Told → Type 0 = λ x. MayHold x t.0 in
       inr (t.0, subst P (same read) t.1, turn_then (next t.0) name t.2)
 
-  pub settles_then : (before between after : List ℕ → ℕ) (order : Order) (said : Said) → ((n : List ℕ) → before n ≤ between n) → Settles then between after order said → Settles told before after order said
+  pub settles_then : (before between after : List ℕ → ℕ) (order : Order) (said : Said) → ((n : List ℕ) → before n ≤ between n)
+      → Settles then between after order said → Settles told before after order said
   settles_then before between after order said counts (inl a) = inl (answers_then order said a)
   settles_then before between after order said counts (inr f) =
       inr (record { name = f.name; turn = turn_then order f.name f.turn; rose = later _ _ _ (counts f.name) f.rose; is = f.is })

@@ -101,7 +101,7 @@ fn parse_by<F: Files>(
 /// The grammar as it is used, or what is said of one that can't be.
 fn checked_in(alloc: Global, grammar: &Grammar) -> Result<Result<Checked, Settled>, AllocError>
     requires { IsReadable grammar.now }
-    ensures { IfOk result (λ made. MatchResult made (λ checked. IsUsed grammar.now (Ok checked)) (λ settled. IsUsed grammar.now (Err (said_of settled)))) }
+    ensures { IfOk result (λ made. MatchResult made (λ c. IsUsed grammar.now (Ok c)) (λ settled. IsUsed grammar.now (Err (said_of settled)))) }
 {
     match core_of(alloc, grammar)? {
         Ok(core) => checked(alloc, core),

@@ -43,7 +43,8 @@ module _ (provides : ℕ → ℕ → Type 0) (n : ℕ) where
 
 -- ---- grammars that differ in no more than orders
 
-across : (g h : Grammar) → without_orders g ≡ without_orders h → (at : ℕ × ℕ) (terms : List CoreTerm) (u v : ℕ) → Provides g at terms u v → Provides h at terms u v
+across : (g h : Grammar) → without_orders g ≡ without_orders h → (at : ℕ × ℕ) (terms : List CoreTerm) (u v : ℕ)
+    → Provides g at terms u v → Provides h at terms u v
 across g h same at terms u v p = provides_from h at terms u v (subst (λ x. Provides x at terms u v) same (provides_to g at terms u v p))
 
 same_lists : {X Y : Type 0} (f : X → Y) (xs ys : List X) → map f xs ≡ map f ys
@@ -72,14 +73,14 @@ module _ (g h : Grammar) (good_g : Good g) (good_h : Good h) (same : without_ord
       let terms : p.terms ≡ q.terms = ap (λ (x : CoreAlt). x.terms) e in
       let here = subst (λ ts. InOrder (Provides g at ts) (length ts) [] p.order) terms (good_g.ordered at one p in_g) in
       let there = order_to (Provides h at q.terms) (Provides g at q.terms) (length q.terms) (λ u v lt p. across h g (sym same) at q.terms u v p)
-          (λ u v lt p. across g h same at q.terms u v p) [] q.order (good_h.ordered at other q in_h) in
+      (λ u v lt p. across g h same at q.terms u v p) [] q.order (good_h.ordered at other q in_h) in
       ap (λ ts. alt_with ts p.order) terms ∙ ap (λ o. alt_with q.terms o) (same_order (Provides g at q.terms) (length q.terms) [] p.order q.order here there)
 
   rule_same : (r : ℕ) (x y : CoreRule) → slice_get g.rules r ≡ Some x → slice_get h.rules r ≡ Some y → rule_alone x ≡ rule_alone y → x ≡ y
   unfolding rule_with
   rule_same r x y in_g in_h e =
       let alts = same_lists alt_alone x.alts y.alts (ap (λ (z : CoreRule). z.alts) e)
-          (λ a p q is_p is_q same_p. alt_same (r, a) x y p q (record { is_rule = in_g; is_alt = is_p }) (record { is_rule = in_h; is_alt = is_q }) same_p) in
+      (λ a p q is_p is_q same_p. alt_same (r, a) x y p q (record { is_rule = in_g; is_alt = is_p }) (record { is_rule = in_h; is_alt = is_q }) same_p) in
       ap (λ n. rule_with n x.holder x.alts) (ap (λ (z : CoreRule). z.name) e)
       ∙ ap (λ o. rule_with y.name o x.alts) (ap (λ (z : CoreRule). z.holder) e)
       ∙ ap (λ xs. rule_with y.name y.holder xs) alts
@@ -101,7 +102,7 @@ good_is_not_stuck g at u good s =
     let terms : w.alt_there.terms ≡ s.alt.terms = sym (ap (λ (a : CoreAlt). a.terms) w.same_alt) in
     let known = subst (λ ts. InOrder (Provides g at ts) (length ts) [] w.alt_there.order) terms (good.ordered at w.rule_there w.alt_there w.there) in
     let moved = order_to (Provides g at s.alt.terms) (Provides (without_orders g) at s.alt.terms) (length s.alt.terms)
-        (λ x y lt p. provides_to g at s.alt.terms x y p) (λ x y lt p. provides_from g at s.alt.terms x y p) [] w.alt_there.order known in
+    (λ x y lt p. provides_to g at s.alt.terms x y p) (λ x y lt p. provides_from g at s.alt.terms x y p) [] w.alt_there.order known in
     stuck_has_none (without_orders g) at s.alt.terms u s.stuck (w.alt_there.order, moved)
 
 -- one alternative is before the other, or they are one

@@ -56,6 +56,7 @@ grammar_short keeps text g r =
     omega (arith, ap length same, every_length ts, tokens_short text ts r.reads.falls)
 
 -- what holds of each grammar that is read
-pub if_ok : {E : Type 0} (r : Result Grammar E) (P Q : Grammar → Type 0) (R : E → Type 0) → MatchResult r P R → ((g : Grammar) → P g → Q g) → IfOk r Q
+pub if_ok : {E : Type 0} (r : Result Grammar E) (P Q : Grammar → Type 0) (R : E → Type 0) → MatchResult r P R → ((g : Grammar) → P g → Q g)
+    → IfOk r Q
 if_ok (Ok g) P Q R h f = f g h
 if_ok (Err e) P Q R h f = tt

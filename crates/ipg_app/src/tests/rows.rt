@@ -131,7 +131,11 @@ pub const WHOLE: [(&[u8], &[u8], Reply<'static>); 8] = [
         b"\xff\xff\xff\xff\xff\xff\xff\xff",
         RANGE,
     ),
-    (b"S -> ?(9223372036854775807 + EOI) Bytes / Bytes ;", b"a", RANGE),
+    (
+        b"S -> ?(9223372036854775807 + EOI) Bytes / Bytes ;",
+        b"a",
+        RANGE,
+    ),
     (b"S -> ?(1 / EOI) Bytes ;", b"", NO_PARSE),
 ];
 
@@ -184,10 +188,7 @@ pub const REFUSED: [(&[u8], Reply<'static>); 18] = [
     (b"S -> \"ab\"[0, 2] ; A -> A[0, EOI] ;", LATER),
     (b"S -> U8 for i = 0 to 1 do S[0, 0] ;", LATER),
     (b"S -> switch { case (0) S else U8 } ;", LATER),
-    (
-        b"S -> U8 ; A -> L where { L -> A ; } ;",
-        LATER,
-    ),
+    (b"S -> U8 ; A -> L where { L -> A ; } ;", LATER),
 ];
 
 /// Texts and their canonical texts.

@@ -10,5 +10,5 @@ returns-clause-readable c =
     let text = c.args.text.now in
     if_ok c.read.result (λ g. read_of text ≡ Ok g) IsReadable (λ fault. (fault ≡ Memory) ⊎ (read_of text ≡ Err fault)) c.read.ensures
     (λ g e.
-      let reads = (c.reads_exactly.ensures text g).0 e in
-      c.formed_is_readable.ensures g (c.reads_formed.ensures text g reads) (grammar_short c.keeps_tokens.ensures text g reads))
+    let reads = (c.reads_exactly.ensures text g).0 e in
+    c.formed_is_readable.ensures g (c.reads_formed.ensures text g reads) (grammar_short c.keeps_tokens.ensures text g reads))

@@ -17,7 +17,8 @@ returns-in-Ok g c =
     let between = g.F.Files.faults c.grammar_under.new.files in
     let order = parse_by c.in-Ok.grammar c.args.input.now in
     let found : Found (told c.args.grammar.now) c.in-Ok.grammar = rw c.in-Ok.is at c.in_ok-grammar.ensures.found in
-    IfOk-weaker c.parse_by.result (λ s. Settles then between after order (said_of s)) (λ s. Settles told before after (parse c.args.grammar.now c.args.input.now) (said_of s))
+    let whole = parse c.args.grammar.now c.args.input.now in
+    IfOk-weaker c.parse_by.result (λ s. Settles then between after order (said_of s)) (λ s. Settles told before after whole (said_of s))
     (λ s h. core_on told before after c.args.grammar.now c.args.input.now (said_of s) c.in-Ok.grammar found
     (settles_then told then c.grammar_under.ensures.told before between after order (said_of s) c.grammar_under.ensures.counts h))
     c.parse_by.ensures
