@@ -10,9 +10,9 @@ folder=$(mktemp -d) || exit 1
 trap 'rm -rf "$folder"' EXIT
 cc -shared -fPIC -O1 -o "$folder/refuse.so" .ci/refuse.c || exit 1
 cat >"$folder/g" <<'END'
-S -> A[1, EOI] B[0, 1] / A[0, EOI - 1] ; # two alternatives
-A -> "b"[0, 1] / "c"[0, 1] ;
-B -> "\x61"[0, 0x1] ;
+S -> A[1, EOI] B[0, 1] {n = A.end} for i = 0 to n do U8[i, n] / A[0, EOI - 1] ; # two alternatives
+A -> "b" / L {k = 1} where { L -> "c" ?(k) ; } ;
+B -> switch { case (EOI == 1) "\x61" else Bytes } ;
 END
 printf 'ac' >"$folder/input"
 

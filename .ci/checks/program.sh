@@ -22,6 +22,7 @@ expect() {
 
 : >"$folder/empty"
 echo 'S -> Bytes ;' >"$folder/bytes.ipg"
+echo 'S -> T ;' >"$folder/name.ipg"
 echo 'S -> S[0, EOI] ;' >"$folder/loop.ipg"
 truncate -s $((2 ** 30 + 1)) "$folder/long"
 : >"$folder/closed"
@@ -30,7 +31,9 @@ chmod 000 "$folder/closed"
 expect 0 "$tree" parse "$grammar" "$input"
 expect 0 "$tree" parse "$grammar" /dev/stdin < <(cat "$input")
 expect 1 $'no parse\n' parse "$grammar" "$folder/empty"
-expect 2 $'refused Form\n' parse "$folder/bytes.ipg" "$input"
+expect 0 $'0 S 0 2 start=0 end=2\n1 Bytes 0 2 6162\n' parse "$folder/bytes.ipg" "$input"
+expect 2 $'refused G7 UnknownRule 5\n' parse "$folder/name.ipg" "$input"
+expect 0 $'S -> T ;\n' fmt "$folder/name.ipg"
 expect 2 $'refused Later\n' parse "$folder/loop.ipg" "$input"
 expect 2 $'refused G4 Syntax 0\n' parse "$folder/empty" "$input"
 expect 2 $'refused G4 Syntax 0\n' fmt "$folder/empty"

@@ -1,9 +1,11 @@
--- what the program says, and of a text that is no grammar
+-- what the program says, and of a text that has no core grammar
 pub mod Code
 pub mod Said
 pub mod Refusal
--- transitional steps
-pub mod Form
+-- the core grammar of a text
+pub mod CoreOf
+pub mod Laws
+-- a transitional step
 pub mod Later
 -- in which order it answers, and what it does outside
 pub mod Order
@@ -13,4 +15,3 @@ pub mod Run
 pub mod Lines
 pub mod Asked
 pub mod Found
-pub mod Thin

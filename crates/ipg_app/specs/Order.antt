@@ -6,6 +6,8 @@ use Rattle.ipg_app.specs.Said.{Said, read_fault}
 pub data Order : Type 1 where
   -- what is said is one of these
   says : (Said → Type 0) → Order
+  -- a value that is so leads on
+  finds : {A : Type 0} → (A → Type 0) → (A → Order) → Order
   -- a name is read, and what it holds leads on
   reads : (name : List ℕ) → (List ℕ → Order) → Order
 
@@ -25,17 +27,23 @@ abbrev pub have : {A : Type 0} → Result A Said → Step A
 have (Ok a) next = next a
 have (Err said) next = only said
 
+-- goes on with a value that is so
+abbrev pub found : {A : Type 0} → (A → Type 0) → Step A
+found P next = finds P next
+
 abbrev pub contents : List ℕ → Step (List ℕ)
 contents name next = reads name next
 
 -- what is said where each reading of a name gives bytes that it may hold; an absent one is said to be at fault
 abbrev pub Answers : (List ℕ → Told) → Order → Said → Type 0
 Answers told (says P) said = P said
+Answers told (finds P next) said = (a : _) × P a × Answers told (next a) said
 Answers told (reads name next) said =
     ((told name ≡ absent) × (said ≡ read_fault)) ⊎ ((bytes : List ℕ) × MayHold (told name) bytes × Answers told (next bytes) said)
 
--- the turn of a name comes, by what the names read before it may hold
+-- the turn of a name comes, by what is found and what the names read before it may hold
 abbrev pub Turn : (List ℕ → Told) → Order → List ℕ → Type 0
 Turn told (says P) n = ⊥
+Turn told (finds P next) n = (a : _) × P a × Turn told (next a) n
 Turn told (reads name next) n =
     (n ≡ name) ⊎ ((bytes : List ℕ) × MayHold (told name) bytes × Turn told (next bytes) n)

@@ -1,36 +1,32 @@
 -- The reply: for the program's words, the order in which it answers.
 use Rattle.std.specs.Prelude.{◌≡◌, ℕ, ◌^◌, List, [], ◌∷◌, length, nat_le, bytes_eq, codes, Result, Ok, Err, Option, None, Some, if◌then◌else◌}
 use Rattle.ipg_ast.specs.declared.grammar.Grammar as written
-use Rattle.ipg_tokens.specs.declared.fault.ReadFault.{ReadFault}
 use Rattle.ipg_tokens.specs.Shaped.{canonical_text}
-use Rattle.ipg_syntax.specs.Reading.{read_of}
 use Rattle.ipg_core.specs.Grammar.{Grammar}
 use Rattle.ipg_core.specs.Tree.{Tree}
 use Rattle.ipg_core.specs.Run.{Stop, NoTree, OutOfRange, Deep}
 use Rattle.ipg_core.specs.Meaning.{Means}
 use Rattle.ipg_core.specs.Lines.{lines}
-use Rattle.ipg_thin.specs.CoreGrammar.{core_of}
 use Rattle.ipg_app.specs.Said.{Said, done, usage, no_parse, range, too_large}
-use Rattle.ipg_app.specs.Refusal.{fault_said}
-use Rattle.ipg_app.specs.Form.{only_thin}
+use Rattle.ipg_app.specs.CoreOf.{grammar_in, CoreOf}
 use Rattle.ipg_app.specs.Later.{only_forward}
-use Rattle.ipg_app.specs.Order.{Order, Step, says, only, have, contents, ◌>>=◌}
+use Rattle.ipg_app.specs.Order.{Order, Step, says, only, found, have, contents, ◌>>=◌}
 
 -- ---- steps
 
-abbrev pub or_fault : Result written.Grammar ReadFault → Result written.Grammar Said
-or_fault (Ok g) = Ok g
-or_fault (Err fault) = Err (fault_said fault)
-
 -- G1 to G5
-abbrev pub grammar_in : List ℕ → Result written.Grammar Said
-grammar_in text = or_fault (read_of text)
-
--- a grammar under a name
 abbrev pub grammar_under : List ℕ → Step written.Grammar
 grammar_under name next = do
   text ← contents name
   g ← have (grammar_in text)
+  next g
+
+-- G1 to G12, then G14
+abbrev pub core_under : List ℕ → Step Grammar
+core_under name next = do
+  text ← contents name
+  answer ← found (CoreOf text)
+  g ← have answer
   next g
 
 abbrev pub max_input : ℕ
@@ -60,16 +56,11 @@ parse_input g name = do
   input ← have (input_in bytes)
   says (Parses g input)
 
-abbrev pub parse_by : written.Grammar → List ℕ → Order
-parse_by g name = do
-  thin ← have (only_thin g)
-  forward ← have (only_forward thin)
-  parse_input (core_of forward) name
-
 abbrev pub parse : List ℕ → List ℕ → Order
 parse grammar name = do
-  g ← grammar_under grammar
-  parse_by g name
+  g ← core_under grammar
+  forward ← have (only_forward g)
+  parse_input forward name
 
 abbrev pub fmt : List ℕ → Order
 fmt grammar = do

@@ -2,8 +2,11 @@
 #![tactic(auto)]
 
 mod asking;
+mod core_of;
 mod formatting;
 mod grammar;
+mod later;
+mod laws;
 mod parse;
 mod refusal;
 mod run;
@@ -12,7 +15,6 @@ mod settle;
 mod status;
 #[cfg(test)]
 mod tests;
-mod thin;
 mod writing;
 
 use ipg_outside::{DiskFiles, StdSink};

@@ -1,24 +1,25 @@
 //! What is to be said, settled before anything is written.
-ghost use Rattle.std.specs.Prelude.{◌≡◌, ◌≤◌, ℕ, List, map, IfOk, MatchResult};
+ghost use Rattle.std.specs.Prelude.{◌≡◌, ◌≤◌, ℕ, List, map, Ok, Err, IfOk, MatchResult};
 ghost use Rattle.std.specs.String.{string_bytes};
-ghost use Rattle.ipg_ast.specs.Shape.{IsFormed};
-ghost use Rattle.ipg_app.specs.Reply.{grammar_under, parse_input, parse_by, parse, fmt, order_of};
+ghost use Rattle.ipg_names.specs.Readable.{IsReadable};
+ghost use Rattle.ipg_app.specs.Reply.{grammar_under, parse_input, parse, fmt, order_of};
 ghost use Rattle.ipg_app.specs.Run.{Settles};
-ghost use Rattle.ipg_app.specs.Found.{Found, silence};
+ghost use Rattle.ipg_app.specs.Found.{Found, IsUsed, silence, parse_by};
 ghost use Rattle.ipg_app.specs.Lines.{said_of};
 
 use crate::asking::{Asked, request};
+use crate::core_of::core_of;
 use crate::formatting::format;
 use crate::grammar::grammar_in;
+use crate::later::checked;
 use crate::parse::parse;
 use crate::refusal::refusal;
 use crate::said::{Settled, line};
 use crate::status::Status;
-use crate::thin::core_in;
 use ipg_ast::Grammar;
 use ipg_core::accepted::Checked;
 use ipg_outside::{FileFault, Files};
-use ipg_read::ReadFault;
+use ipg_tokens::ReadFault;
 use std::alloc::{AllocError, Global};
 
 const MAX_TEXT: u64 = 1 << 20;
@@ -70,7 +71,7 @@ fn grammar_under<F: Files>(
     files: &mut F,
 ) -> Result<Result<Grammar, Settled>, AllocError>
     ensures found { IfOk result (λ read. MatchResult read (Found (F.told files.old name.now)) (λ settled. Settles (F.told files.old) (F.faults files.old) (F.faults files.new) (grammar_under name.now (λ g. silence)) (said_of settled))) }
-    ensures formed { IfOk result (λ read. IfOk read IsFormed) }
+    ensures readable { IfOk result (λ read. IfOk read IsReadable) }
     ensures told { (n : List ℕ) → F.told files.new n ≡ F.told files.old n }
     ensures counts { (n : List ℕ) → F.faults files.old n ≤ F.faults files.new n }
 {
@@ -88,12 +89,23 @@ fn parse_by<F: Files>(
     input: &str,
     files: &mut F,
 ) -> Result<Settled, AllocError>
-    requires { IsFormed grammar.now }
+    requires { IsReadable grammar.now }
     ensures { IfOk result (λ settled. Settles (F.told files.old) (F.faults files.old) (F.faults files.new) (parse_by grammar.now input.now) (said_of settled)) }
 {
-    match core_in(alloc, grammar)? {
-        Ok(core) => parse_input(alloc, &core, input, files),
+    match checked_in(alloc, grammar)? {
+        Ok(checked) => parse_input(alloc, &checked, input, files),
         Err(settled) => Ok(settled),
+    }
+}
+
+/// The grammar as it is used, or what is said of one that can't be.
+fn checked_in(alloc: Global, grammar: &Grammar) -> Result<Result<Checked, Settled>, AllocError>
+    requires { IsReadable grammar.now }
+    ensures { IfOk result (λ made. MatchResult made (λ c. IsUsed grammar.now (Ok c)) (λ settled. IsUsed grammar.now (Err (said_of settled)))) }
+{
+    match core_of(alloc, grammar)? {
+        Ok(core) => checked(alloc, core),
+        Err(settled) => Ok(Err(settled)),
     }
 }
 

@@ -5,8 +5,8 @@ use crate::run::run;
 use crate::status::Status;
 use ipg_outside::{MemFiles, MemSink};
 use rows::{
-    FORM, FORMATTED, LATER, LONG_PLACES, NO_PARSE, PARSED, PLACES, READ_FAULT, REFUSED, ROW,
-    ROW_TEXT, ROW_TREE, Reply, TREE, USAGE, WRONG_WORDS,
+    CIRCULAR, FORMATTED, LATER, LONG_PLACES, NO_PARSE, PARSED, PLACES, READ_FAULT, REFUSED, ROW,
+    ROW_TEXT, ROW_TREE, Reply, TREE, UNKNOWN, USAGE, WHOLE, WRONG_WORDS,
 };
 use std::alloc::{AllocError, Global};
 
@@ -88,7 +88,7 @@ fn long(
 
 /// Calls, ends of all kinds, biased choice, nesting, comments and escapes.
 #[test]
-fn parses_by_thin_grammars(rt: HostRuntime) -> anyhow::Result<()> {
+fn parses_strings_and_calls(rt: HostRuntime) -> anyhow::Result<()> {
     for (grammar, input, want) in PARSED {
         let (status, out) = answer(rt.alloc(), &parse_of(grammar, input))?;
         assert_eq!(rt; (status, out.bytes()), want, "{grammar:?} on {input:?}");
@@ -96,11 +96,25 @@ fn parses_by_thin_grammars(rt: HostRuntime) -> anyhow::Result<()> {
     Ok(())
 }
 
-/// What is no thin grammar, and what doesn't go on to later rules.
+/// The rest of the language.
 #[test]
-fn refuses_form_and_later(rt: HostRuntime) -> anyhow::Result<()> {
+fn parses_by_whole_grammars(rt: HostRuntime) -> anyhow::Result<()> {
+    for (grammar, input, want) in WHOLE {
+        let (status, out) = answer(rt.alloc(), &parse_of(grammar, input))?;
+        assert_eq!(rt; (status, out.bytes()), want, "{grammar:?} on {input:?}");
+    }
+    Ok(())
+}
+
+/// G6 to G12, and what doesn't go on to later rules, before the input is read.
+#[test]
+fn refuses_names_orders_and_calls(rt: HostRuntime) -> anyhow::Result<()> {
     for (grammar, want) in REFUSED {
-        let (status, out) = answer(rt.alloc(), &parse_of(grammar, b"ab"))?;
+        let no_input = Try {
+            input: None,
+            ..parse_of(grammar, b"")
+        };
+        let (status, out) = answer(rt.alloc(), &no_input)?;
         assert_eq!(rt; (status, out.bytes()), want, "{grammar:?}");
     }
     Ok(())
@@ -196,12 +210,14 @@ fn answers_absent_files(rt: HostRuntime) -> anyhow::Result<()> {
 fn answers_failing_reads(rt: HostRuntime) -> anyhow::Result<()> {
     let row = parse_of(ROW, b"ab");
     let syntax: Reply<'_> = (Status::Refused, b"refused G4 Syntax 1\n");
-    let cases: [(Try<'_>, &[u64], Reply<'_>); 8] = [
+    let ring = b"S -> A[B.end,EOI] B[A.end,EOI] ; A -> U8 ; B -> U8 ;";
+    let cases: [(Try<'_>, &[u64], Reply<'_>); 9] = [
         (row, &[0], READ_FAULT),
         (row, &[1], READ_FAULT),
         (row, &[2], TREE),
         (parse_of(b"S", b"ab"), &[1], syntax),
-        (parse_of(b"S -> Bytes ;", b"ab"), &[1], FORM),
+        (parse_of(b"S -> T ;", b"ab"), &[1], UNKNOWN),
+        (parse_of(ring, b"ab"), &[1], CIRCULAR),
         (parse_of(b"S -> S[0, 1] ;", b"ab"), &[1], LATER),
         (fmt_of(ROW), &[0], READ_FAULT),
         (fmt_of(ROW), &[1], (Status::Done, ROW_TEXT)),

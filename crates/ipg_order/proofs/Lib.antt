@@ -10,3 +10,4 @@ pub mod Alternatives
 pub mod Alone
 pub mod Outcome
 pub mod Stuck
+pub mod Once

@@ -4,13 +4,13 @@ use Rattle.ipg_core.specs.Order.{IsNext, InOrder}
 use Rattle.ipg_order.specs.Stuck.{EndsAt}
 use Rattle.ipg_order.specs.Laws.{StuckHasNone}
 
-same_next : (provides : ℕ → ℕ → Type 0) (n : ℕ) (taken : List ℕ) (u v : ℕ) → IsNext provides n taken u → IsNext provides n taken v → u ≡ v
+pub same_next : (provides : ℕ → ℕ → Type 0) (n : ℕ) (taken : List ℕ) (u v : ℕ) → IsNext provides n taken u → IsNext provides n taken v → u ≡ v
 same_next provides n taken u v a b =
     let before : u < v → ⊥ = λ lt. b.least u lt a.fresh a.provided in
     let behind : v < u → ⊥ = λ lt. a.least v lt b.fresh b.provided in
     omega arith
 
-no_order : (provides : ℕ → ℕ → Type 0) (n : ℕ) (taken order other : List ℕ) (u : ℕ) → EndsAt provides n taken order u → InOrder provides n taken other → ⊥
+pub no_order : (provides : ℕ → ℕ → Type 0) (n : ℕ) (taken order other : List ℕ) (u : ℕ) → EndsAt provides n taken order u → InOrder provides n taken other → ⊥
 no_order provides n taken [] [] u a b = absurd (true≢false (sym (b u a.below) ∙ a.fresh))
 no_order provides n taken [] (v ∷ other) u a b = a.none_next v b.0
 no_order provides n taken (w ∷ order) [] u a b = absurd (true≢false (sym (b w a.0.below) ∙ a.0.fresh))

@@ -1,4 +1,5 @@
 -- A text has no more tokens than bytes, and what it reads as no more tokens than it.
+use Rattle.std.specs.Prelude.{IfOk, MatchResult}
 use Rattle.std.proofs.Common.{◌≡◌, ℕ, zero, suc, ◌+◌, ◌-◌, ◌^◌, ◌<◌, ◌≤◌, Bool, true, false, List, [], ◌∷◌, length, Result, Ok, Err, refl, sym, ap, ◌∙◌, cond, nat_lt, arith}
 use Rattle.std.proofs.lemmas.Bool.Decides.{nat_tests}
 use Rattle.ipg_ast.specs.declared.grammar.Grammar.{Grammar}
@@ -53,3 +54,9 @@ grammar_short keeps text g r =
     let ts = r.reads.tokens in
     let same = keeps text g ts (record { tree = r.tree; reads = r.reads; is = r.is }) r.reads.falls in
     omega (arith, ap length same, every_length ts, tokens_short text ts r.reads.falls)
+
+-- what holds of each grammar that is read
+pub if_ok : {E : Type 0} (r : Result Grammar E) (P Q : Grammar → Type 0) (R : E → Type 0) → MatchResult r P R → ((g : Grammar) → P g → Q g)
+    → IfOk r Q
+if_ok (Ok g) P Q R h f = f g h
+if_ok (Err e) P Q R h f = tt

@@ -1,29 +1,28 @@
-//! Texts whose names are resolved.
+//! Texts as grammars whose names can be resolved.
 #![tactic(auto)]
 
-ghost use Rattle.std.specs.Prelude.{IfSome};
+ghost use Rattle.std.specs.Prelude.{◌≡◌, ◌⊎◌, Ok, Err, IfOk, MatchResult};
+ghost use Rattle.ipg_syntax.specs.Reading.{read_of};
 ghost use Rattle.ipg_names.specs.Readable.{IsReadable};
 
 use ipg_ast::Grammar;
 use ipg_canon::laws::{keeps_tokens, reads_formed};
 use ipg_names::laws::formed_is_readable;
-use ipg_read::read;
+use ipg_read::{ReadFault, read};
 use ipg_syntax::laws::reads_exactly;
 use std::alloc::Global;
 
 #[cfg(test)]
 mod tests;
 
-/// What a text reads as; it meets the conditions of `resolve`.
-pub fn grammar_in(alloc: Global, text: &[u8]) -> Option<Grammar>
-    ensures { IfSome result IsReadable }
+/// What a text reads as, which meets the conditions of `resolve`; or the first fault of the text, G1 to G5.
+pub fn grammar_in(alloc: Global, text: &[u8]) -> Result<Grammar, ReadFault>
+    ensures read { MatchResult result (λ g. read_of text.now ≡ Ok g) (λ fault. (fault ≡ ReadFault.Memory) ⊎ (read_of text.now ≡ Err fault)) }
+    ensures readable { IfOk result IsReadable }
 {
     reads_exactly();
     reads_formed();
     keeps_tokens();
     formed_is_readable();
-    match read(alloc, text) {
-        Ok(grammar) => Some(grammar),
-        Err(_) => None,
-    }
+    read(alloc, text)
 }

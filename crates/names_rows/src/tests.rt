@@ -200,8 +200,8 @@ fn told(answer: &Result<Named, NameFault>) -> (u32, u32) {
 /// The number and the place of the refusal of a text's names; (0, 0) where there is none, (1, 0) where the text is no grammar.
 fn refusal(alloc: Global, text: &[u8]) -> (u32, u32) {
     match grammar_in(alloc, text) {
-        Some(g) => told(&resolve(alloc, &g)),
-        None => (1, 0),
+        Ok(g) => told(&resolve(alloc, &g)),
+        Err(_) => (1, 0),
     }
 }
 
@@ -309,11 +309,11 @@ fn meant(named: &Named, rule: usize, term: usize) -> Meaning {
 
 fn meant_in(alloc: Global, row: &Reference) -> Meaning {
     match grammar_in(alloc, row.text) {
-        Some(g) => match resolve(alloc, &g) {
+        Ok(g) => match resolve(alloc, &g) {
             Ok(named) => meant(&named, row.rule, row.term),
             Err(_) => Meaning::Other,
         },
-        None => Meaning::Other,
+        Err(_) => Meaning::Other,
     }
 }
 

@@ -14,7 +14,11 @@ pub const TREE: Reply<'static> = (Status::Done, ROW_TREE);
 
 pub const NO_PARSE: Reply<'static> = (Status::NoParse, b"no parse\n");
 
-pub const FORM: Reply<'static> = (Status::Refused, b"refused Form\n");
+pub const UNKNOWN: Reply<'static> = (Status::Refused, b"refused G7 UnknownRule 5\n");
+
+pub const CIRCULAR: Reply<'static> = (Status::Refused, b"refused G12 Circular S 0 0\n");
+
+pub const RANGE: Reply<'static> = (Status::Range, b"range\n");
 
 pub const LATER: Reply<'static> = (Status::Refused, b"refused Later\n");
 
@@ -80,33 +84,111 @@ pub const PARSED: [(&[u8], &[u8], Reply<'static>); 18] = [
     (b"S -> A[0, EOI] ; A -> \"x\"[0, 1] ;", b"ab", NO_PARSE),
 ];
 
-/// What is no thin grammar, and what doesn't go on to later rules.
-pub const REFUSED: [(&[u8], Reply<'static>); 22] = [
-    (b"S -> Bytes ;", FORM),
-    (b"S -> \"ab\" ;", FORM),
-    (b"S -> \"ab\"[2] ;", FORM),
-    (b"S -> ?(1) ;", FORM),
-    (b"S -> \"ab\"[0, 2] {a = 1} ;", FORM),
-    (b"S -> \"ab\"[0, (2)] ;", FORM),
-    (b"S -> \"ab\"[0, 2 - EOI] ;", FORM),
-    (b"S -> \"ab\"[0, 1 + 1 + 0] ;", FORM),
-    (b"S -> \"ab\"[0, 2 * 1] ;", FORM),
-    (b"S -> \"ab\"[0, 1073741825] ;", FORM),
-    (b"S -> \"ab\"[0, EOI - 1073741825] ;", FORM),
-    (b"S -> \"\"[0, 0] ; S -> \"\"[0, 0] ;", FORM),
-    (b"U8 -> \"ab\"[0, 2] ;", FORM),
-    (b"S -> L[0, 2] where { L -> \"ab\"[0, 2] ; } ;", FORM),
+/// Numbers, names, switches, arrays and local rules, and intervals that aren't written.
+pub const WHOLE: [(&[u8], &[u8], Reply<'static>); 8] = [
     (
-        b"S -> A[B.end, EOI] B[A.end, EOI] ; A -> U8 ; B -> U8 ;",
-        FORM,
+        b"S -> \"a\" U8 Bytes[1] Bytes ;",
+        b"abcde",
+        (
+            Status::Done,
+            b"0 S 0 5 start=0 end=5\n1 tok 0 1 61\n1 U8 1 2 val=98\n1 Bytes 2 3 63\n1 Bytes 3 5 6465\n",
+        ),
     ),
-    (b"S -> S[0, EOI] ; T -> U8 ;", FORM),
+    (
+        b"S -> U8 switch { case (U8.val == 1) A[1] else Bytes } ; A -> Bytes ;",
+        b"\x01ab",
+        (
+            Status::Done,
+            b"0 S 0 3 start=0 end=2\n1 U8 0 1 val=1\n1 A 1 2 start=1 end=2\n2 Bytes 1 2 61\n",
+        ),
+    ),
+    (
+        b"S -> \"a\" for i = 0 to 0 do U8[1, 2] \"b\" ;",
+        b"ab",
+        (
+            Status::Done,
+            b"0 S 0 2 start=0 end=2\n1 tok 0 1 61\n1 for U8 0\n1 tok 1 2 62\n",
+        ),
+    ),
+    (
+        b"S -> B[H.n, EOI] H[0, 1] ; B -> Bytes ; H -> U8 {n = U8.val} ;",
+        b"\x02ab",
+        (
+            Status::Done,
+            b"0 S 0 3 start=0 end=3\n1 B 2 3 start=2 end=3\n2 Bytes 2 3 62\n1 H 0 1 start=0 end=1 n=2\n2 U8 0 1 val=2\n",
+        ),
+    ),
+    (
+        b"S -> T[0, 1] ; T -> {k = EOI} L[0, 1] where { L -> U8 {v = U8.val + k} ; } ;",
+        b"\x05",
+        (
+            Status::Done,
+            b"0 S 0 1 start=0 end=1\n1 T 0 1 start=0 end=1 k=1\n2 L 0 1 start=0 end=1 v=6\n3 U8 0 1 val=5\n",
+        ),
+    ),
+    (
+        b"S -> U64LE[0,8] {n = U64LE.hi * 4294967296 + U64LE.lo} / Bytes ;",
+        b"\xff\xff\xff\xff\xff\xff\xff\xff",
+        RANGE,
+    ),
+    (
+        b"S -> ?(9223372036854775807 + EOI) Bytes / Bytes ;",
+        b"a",
+        RANGE,
+    ),
+    (b"S -> ?(1 / EOI) Bytes ;", b"", NO_PARSE),
+];
+
+/// Faults of names, terms without an order, and calls that don't go on to later rules, in their order.
+pub const REFUSED: [(&[u8], Reply<'static>); 18] = [
+    (
+        b"S -> \"\" ; S -> \"\" ;",
+        (Status::Refused, b"refused G6 DuplicateRule 10\n"),
+    ),
+    (b"S -> T ;", UNKNOWN),
+    (
+        b"S -> {a = 1} {a = 2} ;",
+        (Status::Refused, b"refused G8 DuplicateAttr 14\n"),
+    ),
+    (
+        b"S -> ?(a) ;",
+        (Status::Refused, b"refused G9 UnknownAttr 7\n"),
+    ),
+    (
+        b"S -> A ?(A.n) ; A -> U8 {n = 1} / \"\" ;",
+        (Status::Refused, b"refused G10 PartAttr 11\n"),
+    ),
+    (
+        b"S -> ?(U8.val) ;",
+        (Status::Refused, b"refused G11 NoOccurrence 7\n"),
+    ),
+    (
+        b"S -> A[B.end,EOI] B[A.end,EOI] ; A -> U8 ; B -> U8 ;",
+        CIRCULAR,
+    ),
+    (
+        b"S -> U8 / L where { L -> U8 ; Ring -> \"\" / U8 {a = b} {b = a} ; } ;",
+        (Status::Refused, b"refused G12 Circular Ring 1 1\n"),
+    ),
+    (
+        b"S -> ?(a) T T ; S -> S ;",
+        (Status::Refused, b"refused G6 DuplicateRule 16\n"),
+    ),
+    (b"S -> T ?(a) ?(U8.val) S ;", UNKNOWN),
+    (
+        b"S -> A[B.end,EOI] B[A.end,EOI] S ?(A.n) ; A -> U8 ; B -> U8 ;",
+        (Status::Refused, b"refused G9 UnknownAttr 37\n"),
+    ),
+    (
+        b"S -> A[B.end,EOI] B[A.end,EOI] S ; A -> U8 ; B -> U8 ;",
+        CIRCULAR,
+    ),
     (b"S -> S[0, EOI] ;", LATER),
-    (b"S -> T[0, 0] ;", LATER),
-    (b"S -> Bytes[0, EOI] ;", LATER),
     (b"S -> A[0, EOI] ; A -> S[0, EOI] ;", LATER),
-    (b"S -> \"ab\"[0, 2] / T[0, 0] ;", LATER),
     (b"S -> \"ab\"[0, 2] ; A -> A[0, EOI] ;", LATER),
+    (b"S -> U8 for i = 0 to 1 do S[0, 0] ;", LATER),
+    (b"S -> switch { case (0) S else U8 } ;", LATER),
+    (b"S -> U8 ; A -> L where { L -> A ; } ;", LATER),
 ];
 
 /// Texts and their canonical texts.

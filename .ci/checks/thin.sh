@@ -1,9 +1,0 @@
-#!/usr/bin/env bash
-# Compares the program with a small evaluator on random thin grammars.
-set -u
-cd "$(dirname "$0")/../.." || exit 1
-command -v python3 >/dev/null || {
-  echo "thin: skipped, for want of python3"
-  exit 0
-}
-exec python3 .ci/thin.py ./ipg

@@ -1,0 +1,39 @@
+-- The stages of a core grammar, one after another.
+use Rattle.std.proofs.Common.{◌≡◌, ℕ, zero, suc, List, [], ◌∷◌, map, Some, Result, Ok, Err, refl, ap, ◌∙◌, slice_get}
+use Rattle.std.specs.Prelude.{IfOk, MatchResult}
+use Rattle.ipg_complete.specs.declared.completed.CompletedRule.{CompletedRule}
+use Rattle.ipg_complete.specs.Unordered.{Unordered, rule_of, core_of}
+use Rattle.ipg_core.specs.declared.grammar.CoreRule.{CoreRule}
+use Rattle.ipg_core.specs.Grammar.{Grammar, name_at}
+use Rattle.ipg_order.specs.Answer.{IsFirstStuck}
+use Rattle.ipg_app.specs.Said.{Said}
+use Rattle.ipg_app.specs.Refusal.{circular}
+use Rattle.ipg_app.specs.CoreOf.{Answer, Circles, Orders, Touches, OrdersAndTouches}
+
+-- more is known of a value, or of what is said
+pub if_match : {A S E : Type 0} (r : Result (Result A S) E) (P R : A → Type 0) (Q T : S → Type 0) → ((a : A) → P a → R a) → ((s : S) → Q s → T s)
+    → IfOk r (λ made. MatchResult made P Q) → IfOk r (λ made. MatchResult made R T)
+if_match (Ok (Ok a)) P R Q T f g h = f a h
+if_match (Ok (Err s)) P R Q T f g h = g s h
+if_match (Err e) P R Q T f g h = tt
+
+pub from_ordered : (c : Unordered) (g : Grammar) (answer : Answer) → Orders c (Ok g) → Touches g answer → OrdersAndTouches c answer
+from_ordered c g answer h k = record { ordered = Ok g; orders = h; touches = k }
+
+pub from_unordered : (c : Unordered) (said : Said) → Circles c said → OrdersAndTouches c (Err said)
+from_unordered c said h = record { ordered = Err said; orders = h; touches = refl }
+
+-- the name of a rule, with orders and without
+head_of : (rules : List CompletedRule) (r : ℕ) (rule : CoreRule) → slice_get (map rule_of rules) r ≡ Some rule → name_at (map (λ x. x.name) rules) r ≡ rule.name
+head_of [] r rule e = absurd (cc)
+head_of (x ∷ rules) zero rule e = ap (λ (y : CoreRule). y.name) (let same : rule_of x ≡ rule = cc in same)
+head_of (x ∷ rules) (suc r) rule e = head_of rules r rule e
+
+pub circles : (c : Unordered) (r a u : ℕ) (heads : List (List ℕ)) (said : Said) → heads ≡ map (λ x. x.name) c.rules → IsFirstStuck (core_of c) (r, a) u
+    → said ≡ circular (name_at heads r) a u → Circles c said
+circles c r a u heads said same first e = record {
+  at = (r, a);
+  term = u;
+  first = first;
+  is = e ∙ ap (λ name. circular name a u) (ap (λ names. name_at names r) same ∙ head_of c.rules r first.rule first.is_alt.is_rule);
+}

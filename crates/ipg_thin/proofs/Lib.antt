@@ -1,4 +1,0 @@
-pub mod Loops
-pub mod Places
-pub mod GoodCore
-pub mod NoRange
