@@ -3,8 +3,7 @@ use Rattle.std.proofs.Common.{◌≡◌, ℕ, zero, suc, ◌+◌, refl, sym, ap,
 use Rattle.std.specs.Prelude.{slice_get, unwrap_or, Contains}
 use Rattle.std.specs.List.{AllByRecursion}
 use Rattle.std.proofs.lemmas.Option.{slice_get_within, unwrap_or-slice_get}
-use Rattle.ipg_core.specs.declared.grammar.Sym.{Sym}
-use Rattle.ipg_core.specs.declared.grammar.Sym.TheVariants.{Text, Prim, Rule}
+use Rattle.ipg_core.specs.declared.grammar.Sym.TheVariants.{Prim, Rule}
 use Rattle.ipg_core.specs.declared.grammar.CoreTerm.{CoreTerm}
 use Rattle.ipg_core.specs.declared.grammar.CoreAlt.{CoreAlt}
 use Rattle.ipg_core.specs.declared.grammar.CoreRule.{CoreRule}
@@ -15,8 +14,7 @@ use Rattle.ipg_core.specs.Meaning.{Call, Frame, State, term_on, terms_on, start,
 use Rattle.ipg_core.specs.Mention.{term_syms}
 use Rattle.ipg_core.specs.Good.{AltAt}
 use Rattle.ipg_graph.specs.declared.edge.Edge.{Edge}
-use Rattle.ipg_edges.specs.Edges.{numbered, call, syms_edges, terms_edges, alts_edges, edges_of}
-use Rattle.ipg_sound.specs.Reached.{Reached, IsCallOf, frame_of}
+use Rattle.ipg_edges.specs.Edges.{numbered, edges_of}
 use Rattle.ipg_ends.specs.Laws.{IsEdgeCall, CallsAreEdges}
 use Rattle.ipg_ends.proofs.Named.{Asks, IsNamed, asks_finish, asks_stop, asks_bind, asks_else, term_named}
 
@@ -40,7 +38,8 @@ stands_right [] ys x h = h
 stands_right (y ∷ xs) ys x h = let t = stands_right xs ys x h in record { number = suc t.number; at = t.at }
 
 -- what f gives of an item stands among what it gives of all
-in_numbered : {A B : Type 0} (f : ℕ → A → List B) (n k : ℕ) (xs : List A) (x : A) (y : B) → slice_get xs k ≡ Some x → Stands (f (n + k) x) y → Stands (numbered n f xs) y
+in_numbered : {A B : Type 0} (f : ℕ → A → List B) (n k : ℕ) (xs : List A) (x : A) (y : B) → slice_get xs k ≡ Some x → Stands (f (n + k) x) y
+    → Stands (numbered n f xs) y
 in_numbered f n k [] x y e h = absurd (cc)
 in_numbered f n zero (w ∷ xs) x y e h =
     let same : x ≡ w = cc in
@@ -56,7 +55,7 @@ all_of : {X : Type 0} (Q : X → Type 0) (xs : List X) → ((x : X) → Contains
 all_of Q [] h = tt
 all_of Q (x ∷ xs) h = (h x (contains_got (x ∷ xs) 0 x refl), all_of Q xs (λ y m. h y (suc m.0, (let lt = m.1 in omega (arith, lt)), m.2)))
 
-contained : {X : Type 0} (Q : X → Type 0) (xs : List X) (x : X) → AllByRecursion Q xs → Contains xs x → Q x
+pub contained : {X : Type 0} (Q : X → Type 0) (xs : List X) (x : X) → AllByRecursion Q xs → Contains xs x → Q x
 contained Q [] x h (k, lt, e) = absurd (omega (arith, lt))
 contained Q (y ∷ ys) x h (zero, lt, e) = subst Q e h.0
 contained Q (y ∷ ys) x h (suc k, lt, e) = contained Q ys x h.1 (k, omega (arith, lt), e)
@@ -75,7 +74,8 @@ module _ (g : Grammar) (h r a : ℕ) (s : List ℕ) (outer : Values) (rule : Cor
   abbrev edge_at : ℕ → ℕ → ℕ → Edge
   edge_at u b callee = record { caller = r; alt = a; term = u; branch = b; callee = callee }
 
-  edge_stands : (u b callee : ℕ) (term : CoreTerm) → slice_get alt.terms u ≡ Some term → slice_get (term_syms term) b ≡ Some (Rule callee) → Stands (edges_of g) (edge_at u b callee)
+  edge_stands : (u b callee : ℕ) (term : CoreTerm) → slice_get alt.terms u ≡ Some term → slice_get (term_syms term) b ≡ Some (Rule callee)
+      → Stands (edges_of g) (edge_at u b callee)
   edge_stands u b callee term e k =
       in_all _ r g.rules rule _ is.is_rule
       (in_all _ a rule.alts alt _ is.is_alt
@@ -84,7 +84,8 @@ module _ (g : Grammar) (h r a : ℕ) (s : List ℕ) (outer : Values) (rule : Cor
 
   module _ (before behind : List ℕ) (u : ℕ) (state : State) (splits : alt.order ≡ before ++ u ∷ behind)
       (came : (terms_on (den g h) (frame g h r a s outer) alt.terms before (start (length alt.terms))).answer ≡ Ok state) where
-    one_call : (term : CoreTerm) → slice_get alt.terms u ≡ Some term → (asked : Asked) → Contains (term_on (den g h) (frame g h r a s outer) state u (Some term)).asked asked
+    one_call : (term : CoreTerm) → slice_get alt.terms u ≡ Some term → (asked : Asked)
+        → Contains (term_on (den g h) (frame g h r a s outer) state u (Some term)).asked asked
         → IsEdgeCall g h r s outer asked
     one_call term e asked m =
         let named = contained (IsNamed a u (term_syms term)) _ asked (term_named (den g h) (frame g h r a s outer) state u term).each m in
@@ -127,7 +128,8 @@ record Passed {A B : Type 0} (run : Run A) (go : A → Run B) (b : B) : Type 0 w
   first : run.answer ≡ Ok value
   rest : (go value).answer ≡ Ok b
 
-passed_go : {A B : Type 0} (answer : Result A Stop) (go : A → Run B) (b : B) → (go_on answer go).answer ≡ Ok b → (a : A) × ((answer ≡ Ok a) × ((go a).answer ≡ Ok b))
+passed_go : {A B : Type 0} (answer : Result A Stop) (go : A → Run B) (b : B) → (go_on answer go).answer ≡ Ok b
+    → (a : A) × ((answer ≡ Ok a) × ((go a).answer ≡ Ok b))
 unfolding go_on stop
 passed_go (Ok a) go b e = (a, (refl, e))
 passed_go (Err why) go b e = absurd (cc)
@@ -148,7 +150,8 @@ module _ (c : Call) (f : Frame) (terms : List CoreTerm) where
   one_more : (before : List ℕ) (u : ℕ) (from state next : State) → (terms_on c f terms before from).answer ≡ Ok state
       → (term_on c f state u (slice_get terms u)).answer ≡ Ok next → (terms_on c f terms (before ++ u ∷ []) from).answer ≡ Ok next
   unfolding terms_on
-  one_more [] u from state next h k = one_term u from next (subst (λ s. (term_on c f s u (slice_get terms u)).answer ≡ Ok next) (sym (same_state from state h)) k)
+  one_more [] u from state next h k =
+      one_term u from next (subst (λ s. (term_on c f s u (slice_get terms u)).answer ≡ Ok next) (sym (same_state from state h)) k)
   one_more (v ∷ before) u from state next h k =
       let p = passed (term_on c f from v (slice_get terms v)) _ state h in
       bind_ok (term_on c f from v (slice_get terms v)) _ p.value p.first ∙ one_more before u p.value state next p.rest k
@@ -183,13 +186,17 @@ alts_call g h r a s outer rule [] is = asks_stop NoTree
 alts_call g h r a s outer rule (alt ∷ alts) is =
     asks_else _ _
     (alt_calls g h r a s outer rule alt (subst (λ k. AltAt g rule alt (r, k)) (let e : a + 0 ≡ a = omega arith in e) (is 0 alt refl)))
-    (alts_call g h r (a + 1) s outer rule alts (λ k other e. subst (λ n. AltAt g rule other (r, n)) (let t : a + suc k ≡ (a + 1) + k = omega arith in t) (is (suc k) other e)))
+    (alts_call g h r (a + 1) s outer rule alts (λ k other e.
+    let t : a + suc k ≡ (a + 1) + k = omega arith in
+    subst (λ n. AltAt g rule other (r, n)) t (is (suc k) other e)))
 
 rule_calls : (g : Grammar) (h r : ℕ) (s : List ℕ) (outer : Values) (rule : Option CoreRule) → rule_at g r ≡ rule
     → Here g h r 0 s outer (rule_run (den g h) (frame g h r 0 s outer) rule)
 rule_calls g h r s outer None e = asks_stop NoTree
 rule_calls g h r s outer (Some rule) e =
-    alts_call g h r 0 s outer rule rule.alts (λ k alt q. record { is_rule = e; is_alt = subst (λ n. slice_get rule.alts n ≡ Some alt) (let t : k ≡ 0 + k = omega arith in t) q })
+    alts_call g h r 0 s outer rule rule.alts (λ k alt q.
+    let t : k ≡ 0 + k = omega arith in
+    record { is_rule = e; is_alt = subst (λ n. slice_get rule.alts n ≡ Some alt) t q })
 
 pub calls_are_edges : CallsAreEdges
 unfolding rule_on

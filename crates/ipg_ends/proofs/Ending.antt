@@ -1,26 +1,27 @@
 -- Where no simple cycle of edges is reached on parts of one length, the height falls with the part's length and the path of edges at it.
-use Rattle.std.proofs.Common.{◌≡◌, ℕ, zero, suc, ◌+◌, ◌-◌, ◌*◌, ◌<◌, ◌≤◌, ◌⊎◌, List, [], ◌∷◌, ◌++◌, length, take, drop, Bool, true, false, Option, Some, None, Ok, Err, refl, sym, ap, ◌∙◌, subst, inl, inr, arith, append-nil, length-append}
+use Rattle.std.proofs.Common.{◌≡◌, ℕ, zero, suc, ◌+◌, ◌-◌, ◌*◌, ◌^◌, ◌<◌, ◌≤◌, List, [], ◌∷◌, ◌++◌, length, take, drop, Bool, true, false, Some, refl, sym, ap, ◌∙◌, subst, inl, inr, arith, length-append}
 use Rattle.std.specs.Prelude.{slice_get, slice_index_or, option_to_list, Contains}
-use Rattle.std.specs.List.{AllByRecursion, All, flat_map}
+use Rattle.std.specs.List.{AllByRecursion}
 use Rattle.std.proofs.lemmas.Bool.{cases_lt}
 use Rattle.std.proofs.lemmas.List.Elements.{recursion_from_All}
-use Rattle.std.proofs.lemmas.List.{length-take, length-drop}
+use Rattle.std.proofs.lemmas.List.{length-take-le, length-drop}
+use Rattle.std.proofs.Math.Seq.{take-length}
+use Rattle.std.proofs.Math.Nat.{mul-le-mul_right}
 use Rattle.ipg_core.specs.Grammar.{Grammar}
 use Rattle.ipg_core.specs.Part.{part}
 use Rattle.ipg_core.specs.Environment.{Values}
 use Rattle.ipg_core.specs.Run.{Asked}
-use Rattle.ipg_core.specs.Meaning.{rule_on, den}
+use Rattle.ipg_core.specs.Meaning.{den}
 use Rattle.ipg_core.specs.Good.{Good}
 use Rattle.ipg_core.specs.Grown.{Grown}
-use Rattle.ipg_core.specs.Total.{Fits, Total, height_for}
+use Rattle.ipg_core.specs.Total.{Fits, height_for}
 use Rattle.ipg_core.specs.Laws.{AskedFits, AsksWhatFits}
 use Rattle.ipg_graph.specs.declared.edge.Edge.{Edge}
-use Rattle.ipg_graph.specs.Graph.{Graph, caller, callee, IsLive, IsInside, IsWhole, ends}
-use Rattle.ipg_graph.specs.Cycle.{IsSimpleCycle}
+use Rattle.ipg_graph.specs.Graph.{Graph, IsLive, IsInside, IsWhole}
 use Rattle.ipg_edges.specs.Edges.{edges_of}
-use Rattle.ipg_sound.specs.Reached.{Reached, ReachedOn}
+use Rattle.ipg_sound.specs.Reached.{ReachedOn}
 use Rattle.ipg_sound.specs.Laws.{EdgesAreFew, EdgesAreInside}
-use Rattle.ipg_ends.specs.Walks.{Leads, IsWalk, HoldsCycle}
+use Rattle.ipg_ends.specs.Walks.{IsWalk}
 use Rattle.ipg_ends.specs.Along.{edges_at, live_edges, DeadAreNeverReached, CyclesAreNeverReached}
 use Rattle.ipg_ends.specs.Laws.{IsEdgeCall, EndsWithoutCycles}
 use Rattle.ipg_ends.proofs.Settled.{Settled, all_join}
@@ -38,14 +39,12 @@ data Size (s : List ℕ) (from to : ℕ) : Type 0 where
 
 part_length : (s : List ℕ) (from to : ℕ) → from ≤ to → to ≤ length s → length (part s from to) ≡ to - from
 part_length s from to valid inside =
-    let a = length-take (to - from) (drop from s) in let b = length-drop from s in ?
-
-take_length : (s : List ℕ) → take (length s) s ≡ s
-take_length [] = refl
-take_length (b ∷ s) = ap (λ t. b ∷ t) (take_length s)
+    let rest = length-drop from s in length-take-le (to - from) (drop from s) (omega (arith, valid, inside, rest))
 
 whole_part : (s : List ℕ) (from to : ℕ) → from ≡ 0 → to ≡ length s → part s from to ≡ s
-whole_part s from to first last = ap (λ n. part s n to) first ∙ ap (λ n. take (n - 0) s) last ∙ ap (λ n. take n s) (let e : length s - 0 ≡ length s = omega arith in e) ∙ take_length s
+whole_part s from to first last =
+    let all : to - 0 ≡ length s = omega (arith, last) in
+    ap (λ n. part s n to) first ∙ ap (λ n. take n s) all ∙ take-length s
 
 size_of : (s : List ℕ) (from to : ℕ) → from ≤ to → to ≤ length s → Size s from to
 size_of s from to valid inside = elim (cases_lt (to - from) (length s)) [
@@ -59,7 +58,7 @@ size_of s from to valid inside = elim (cases_lt (to - from) (length s)) [
 -- ---- heights
 
 fewer : (m n rules : ℕ) → m < n → m * rules + rules ≤ n * rules
-fewer m n rules lt = ?
+fewer m n rules lt = let le = mul-le-mul_right {m = m + 1} {n = n} rules (omega (arith, lt)) in omega (arith, le)
 
 -- ---- paths
 
@@ -141,12 +140,15 @@ module _ (g : Grammar) (dead : List Bool) (good : Good g) (never : DeadAreNeverR
   module _ (h : ℕ) (before : SettlesAt h) (r : ℕ) (s : List ℕ) (outer : Values) (fits : Fits g r s outer) (p : Path g dead (length s) r)
       (enough : length s * length g.rules + length g.rules ≤ suc h + length p.walk) where
     on_shorter : (callee : ℕ) (t : List ℕ) (out : Values) → Fits g callee t out → length t < length s → Settled (den g h callee t out)
+    unfolding no_path
     on_shorter callee t out fit lt =
         before callee t out fit (no_path g dead (length t) callee fit.rule)
         (let a = fewer (length t) (length s) (length g.rules) lt in let b = short (length s) r p in
         let e : length t * length g.rules + length g.rules ≤ h + 0 = omega (arith, a, b, enough) in e)
 
-    on_whole : (callee : ℕ) (out : Values) → Fits g callee s out → (number : ℕ) (i : IsReached g (length s) number) → i.edge.caller ≡ r → i.edge.callee ≡ callee → Settled (den g h callee s out)
+    on_whole : (callee : ℕ) (out : Values) → Fits g callee s out → (number : ℕ) (i : IsReached g (length s) number) → i.edge.caller ≡ r
+        → i.edge.callee ≡ callee → Settled (den g h callee s out)
+    unfolding longer
     on_whole callee out fit number i from to =
         before callee s out fit (longer (length s) r callee p number i from to)
         (let a = length-append p.walk (number ∷ []) in
@@ -158,16 +160,24 @@ module _ (g : Grammar) (dead : List Bool) (good : Good g) (never : DeadAreNeverR
         sized : Size s asked.from asked.to → Settles (den g h) s asked
         sized (shorter lt) = on_shorter asked.callee _ asked.outer fit.fits lt
         sized (all first last same) =
-            let reached = is.reached first last in
             let i : IsReached g (length s) is.number = record {
               edge = is.edge;
               at = is.at;
-              on = record { part = s; input = fits.input; size = refl; outer = outer; grown = subst (λ k. Grown g k s outer) (sym is.caller) fits.grown; height = h; reached = reached };
+              on = record {
+                part = s;
+                input = fits.input;
+                size = refl;
+                outer = outer;
+                grown = subst (λ k. Grown g k s outer) (sym is.caller) fits.grown;
+                height = h;
+                reached = is.reached first last;
+              };
             } in
             subst (λ t. Settled (den g h asked.callee t asked.outer)) (sym same)
             (on_whole asked.callee asked.outer (subst (λ t. Fits g asked.callee t asked.outer) same fit.fits) is.number i is.caller is.callee)
 
-    each_call : (log : List Asked) → AllByRecursion (AskedFits g s) log → AllByRecursion (IsEdgeCall g h r s outer) log → AllByRecursion (Settles (den g h) s) log
+    each_call : (log : List Asked) → AllByRecursion (AskedFits g s) log → AllByRecursion (IsEdgeCall g h r s outer) log
+        → AllByRecursion (Settles (den g h) s) log
     each_call [] fit is = tt
     each_call (asked ∷ log) fit is = (one_call asked fit.0 is.0, each_call log fit.1 is.1)
 
@@ -179,5 +189,7 @@ module _ (g : Grammar) (dead : List Bool) (good : Good g) (never : DeadAreNeverR
       (each_call h (settles asks h) r s outer fits p enough _ (asks g h r s outer good fits) (calls_are_edges g h r s outer))
 
 pub ends_without_cycles : AsksWhatFits → EdgesAreFew → EdgesAreInside → EndsWithoutCycles
+unfolding no_path
 ends_without_cycles asks few inside g dead good never no_cycle r s outer fits =
-    (settles g dead good never no_cycle (few g good) (inside g good) asks (height_for g s) r s outer fits (no_path g dead (length s) r fits.rule) ?).not_deep
+    let path = no_path g dead (length s) r fits.rule in
+    (settles g dead good never no_cycle (few g good) (inside g good) asks (height_for g s) r s outer fits path (omega arith)).not_deep

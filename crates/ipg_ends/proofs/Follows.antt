@@ -1,7 +1,6 @@
 -- A run settles where its calls do and only there, and is what its calls make of it.
-use Rattle.std.proofs.Common.{◌≡◌, ℕ, zero, suc, ◌+◌, ℤ, ◌+ℤ◌, ◌-ℤ◌, pos, refl, ap, List, [], ◌∷◌, ◌++◌, Option, Some, None, Result, Bool, length}
+use Rattle.std.proofs.Common.{◌≡◌, ℕ, zero, suc, ◌+◌, ℤ, ◌+ℤ◌, ◌-ℤ◌, pos, ap, List, [], ◌∷◌, ◌++◌, Option, Some, None, Result, length}
 use Rattle.std.specs.Prelude.{slice_get}
-use Rattle.std.specs.List.{AllByRecursion}
 use Rattle.ipg_core.specs.declared.grammar.Sym.{Sym}
 use Rattle.ipg_core.specs.declared.grammar.Sym.TheVariants.{Text, Prim, Rule}
 use Rattle.ipg_core.specs.declared.grammar.Primitive.{Primitive}
@@ -17,7 +16,7 @@ use Rattle.ipg_core.specs.Part.{part, interval}
 use Rattle.ipg_core.specs.Tree.{Tree, Kid}
 use Rattle.ipg_core.specs.Environment.{Values}
 use Rattle.ipg_core.specs.Eval.{is_zero, eval}
-use Rattle.ipg_core.specs.Run.{Stop, Asked, Run, some_of}
+use Rattle.ipg_core.specs.Run.{Stop, Asked, Run}
 use Rattle.ipg_core.specs.Meaning.{Call, Frame, State, Place, environment, value_in, outer_for, ask, token_on, number_on, primitive_on, symbol_on, slot_on, items_on, times, item_end, item_on, many_on, turns, repetition_on, pick_on, term_on, terms_on, start, alt_on, alts_on, rule_run, rule_on}
 use Rattle.ipg_ends.proofs.Settled.{Settled, Follows, follows_finish, follows_none, follows_value, follows_some, follows_chosen, follows_bind, follows_else, follows_kept}
 
@@ -62,7 +61,8 @@ module _ (call other : Call) (f : Frame) where
   symbol_follows : (p : Place) (own : Values) (from to : ℕ) (sym : Sym) → On (symbol_on call f p own from to sym) (symbol_on other f p own from to sym)
   symbol_follows p own from to (Text token) = token_follows from to _ token
   symbol_follows p own from to (Prim prim) = primitive_follows from to _ prim
-  symbol_follows p own from to (Rule callee) = follows_bind _ _ _ _ (ask_follows p callee from to (outer_for f own (holder_of (rule_at f.grammar callee)))) (λ tree. follows_finish _)
+  symbol_follows p own from to (Rule callee) =
+      follows_bind _ _ _ _ (ask_follows p callee from to (outer_for f own (holder_of (rule_at f.grammar callee)))) (λ tree. follows_finish _)
 
   slot_follows : (p : Place) (state : State) (item : Option ℤ) (slot : CoreSlot) → On (slot_on call f p state item slot) (slot_on other f p state item slot)
   unfolding slot_on
@@ -72,13 +72,15 @@ module _ (call other : Call) (f : Frame) where
       follows_bind _ _ _ _ (follows_some (interval (length f.bytes) from to)) (λ ends.
       symbol_follows p state.own ends.0 ends.1 slot.sym)))
 
-  items_follow : (term : ℕ) (state : State) (slot : CoreSlot) (n : ℕ) (i : ℤ) (items : List Kid) → On (items_on call f term state slot n i items) (items_on other f term state slot n i items)
+  items_follow : (term : ℕ) (state : State) (slot : CoreSlot) (n : ℕ) (i : ℤ) (items : List Kid)
+      → On (items_on call f term state slot n i items) (items_on other f term state slot n i items)
   unfolding items_on
   items_follow term state slot zero i items = follows_finish items
   items_follow term state slot (suc n) i items =
       follows_bind _ _ _ _ (slot_follows _ _ (Some i) slot) (λ item. items_follow term state slot n (i +ℤ pos 1) (items ++ item ∷ []))
 
-  pick_follows : (p : Place) (state : State) (cases : List (CoreExpr × CoreSlot)) (other_case : CoreSlot) → On (pick_on call f p state cases other_case) (pick_on other f p state cases other_case)
+  pick_follows : (p : Place) (state : State) (cases : List (CoreExpr × CoreSlot)) (other_case : CoreSlot)
+      → On (pick_on call f p state cases other_case) (pick_on other f p state cases other_case)
   unfolding pick_on
   pick_follows p state [] other_case = slot_follows p state None other_case
   pick_follows p state (c ∷ cases) other_case =
@@ -89,7 +91,8 @@ module _ (call other : Call) (f : Frame) where
   unfolding item_on
   item_follows p own from to sym = follows_bind _ _ _ _ (follows_some (item_end from to sym)) (λ end. symbol_follows p own from end sym)
 
-  many_follows : (p : Place) (own : Values) (sym : Sym) (n from to : ℕ) (items : List Kid) → On (many_on call f p own sym n from to items) (many_on other f p own sym n from to items)
+  many_follows : (p : Place) (own : Values) (sym : Sym) (n from to : ℕ) (items : List Kid)
+      → On (many_on call f p own sym n from to items) (many_on other f p own sym n from to items)
   unfolding many_on
   many_follows p own sym zero from to items = follows_finish items
   many_follows p own sym (suc n) from to items =

@@ -7,3 +7,4 @@ pub mod Edges
 pub mod Live
 pub mod Ending
 pub mod Nesting
+pub mod Solving

@@ -1,9 +1,9 @@
 -- The edges of a good grammar that aren't dead, as a graph.
-use Rattle.std.proofs.Common.{◌≡◌, ℕ, zero, suc, ◌<◌, ◌^◌, List, [], ◌∷◌, Bool, true, false, length, get_or, refl, sym, ap, ◌∙◌, subst, Some, None}
+use Rattle.std.proofs.Common.{◌≡◌, ℕ, zero, suc, ◌<◌, ◌^◌, List, [], ◌∷◌, Bool, true, false, length, get_or, refl, sym, ap, ◌∙◌, subst, Some}
 use Rattle.std.specs.Prelude.{slice_get, slice_index_or}
 use Rattle.std.specs.List.{AllByRecursion}
 use Rattle.ipg_graph.specs.declared.edge.Edge.{Edge}
-use Rattle.ipg_graph.specs.Graph.{Graph, ends, graph_of, IsInside, IsWhole}
+use Rattle.ipg_graph.specs.Graph.{ends, graph_of, IsInside, IsWhole}
 
 length-ends : (rules : ℕ) (end : Edge → ℕ) (edges : List Edge) (dead : List Bool) → length (ends rules end edges dead) ≡ length edges
 length-ends rules end [] dead = refl
@@ -20,7 +20,8 @@ both-ends rules f h inside (e ∷ edges) (true ∷ dead) zero all lt = lt
 both-ends rules f h inside (e ∷ edges) (false ∷ dead) zero all lt = inside e all.0
 both-ends rules f h inside (e ∷ edges) (d ∷ dead) (suc i) all lt = both-ends rules f h inside edges dead i all.1 lt
 
-pub whole : (rules : ℕ) (edges : List Edge) (dead : List Bool) → length edges < 2 ^ 32 → AllByRecursion (IsInside rules) edges → IsWhole (graph_of rules edges dead)
+pub whole : (rules : ℕ) (edges : List Edge) (dead : List Bool) → length edges < 2 ^ 32 → AllByRecursion (IsInside rules) edges
+    → IsWhole (graph_of rules edges dead)
 whole rules edges dead few all = record {
   few = rw length-ends few;
   same = length-ends rules (λ e. e.callee) edges dead ∙ sym (length-ends rules (λ e. e.caller) edges dead);
@@ -29,7 +30,8 @@ whole rules edges dead few all = record {
 }
 
 -- an end of an edge that isn't dead
-pub end_of : (rules : ℕ) (end : Edge → ℕ) (edges : List Edge) (dead : List Bool) (i : ℕ) (e : Edge) → slice_get edges i ≡ Some e → slice_index_or dead i false ≡ false
+pub end_of : (rules : ℕ) (end : Edge → ℕ) (edges : List Edge) (dead : List Bool) (i : ℕ) (e : Edge) → slice_get edges i ≡ Some e
+    → slice_index_or dead i false ≡ false
     → get_or (ends rules end edges dead) i rules ≡ end e
 end_of rules end [] dead i e at d = absurd (cc)
 end_of rules end (f ∷ edges) [] zero e at d = let same : f ≡ e = cc in ap end same

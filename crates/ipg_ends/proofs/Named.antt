@@ -1,5 +1,5 @@
 -- A call that a term asks is of one of its symbols, by the number of its branch.
-use Rattle.std.proofs.Common.{◌≡◌, ℕ, zero, suc, ◌+◌, refl, sym, ap, ◌∙◌, subst, arith, List, [], ◌∷◌, ◌++◌, Option, Some, None, Result, Ok, Err, Bool, true, false, if◌then◌else◌, length, ℤ, pos, ◌+ℤ◌, ◌-ℤ◌}
+use Rattle.std.proofs.Common.{◌≡◌, ℕ, zero, suc, ◌+◌, refl, subst, arith, List, [], ◌∷◌, ◌++◌, Option, Some, None, Result, Ok, Err, Bool, true, false, if◌then◌else◌, length, ℤ, pos, ◌+ℤ◌, ◌-ℤ◌}
 use Rattle.std.specs.Prelude.{slice_get, flat_map}
 use Rattle.std.specs.List.{AllByRecursion}
 use Rattle.ipg_num.specs.declared.op.Answer.{Answer}
@@ -12,14 +12,13 @@ use Rattle.ipg_core.specs.declared.grammar.CoreExpr.{CoreExpr}
 use Rattle.ipg_core.specs.declared.grammar.CoreSlot.{CoreSlot}
 use Rattle.ipg_core.specs.declared.grammar.CoreTerm.{CoreTerm}
 use Rattle.ipg_core.specs.declared.grammar.CoreTerm.TheVariants.{Slot, Set, Test, Repeat, Many, Pick}
-use Rattle.ipg_core.specs.Grammar.{holder_of, rule_at}
-use Rattle.ipg_core.specs.Part.{part, interval}
+use Rattle.ipg_core.specs.Part.{interval}
 use Rattle.ipg_core.specs.Tree.{Kid}
 use Rattle.ipg_core.specs.Touch.{touches, ends_of}
 use Rattle.ipg_core.specs.Environment.{Values}
 use Rattle.ipg_core.specs.Eval.{is_zero, eval}
 use Rattle.ipg_core.specs.Run.{Stop, NoTree, OutOfRange, Deep, Asked, Run, finish, stop, after, go_on, ◌>>=◌, or_next, or_else, value_of, some_of}
-use Rattle.ipg_core.specs.Meaning.{kept, Call, Frame, State, Place, environment, value_in, outer_for, ask, token_on, number_on, primitive_on, symbol_on, slot_on, items_on, times, item_end, item_on, many_on, turns, repetition_on, pick_on, term_on}
+use Rattle.ipg_core.specs.Meaning.{kept, Call, Frame, State, Place, environment, value_in, ask, token_on, number_on, primitive_on, symbol_on, slot_on, items_on, times, item_end, item_on, many_on, turns, repetition_on, pick_on, term_on}
 use Rattle.ipg_core.specs.Mention.{term_syms}
 use Rattle.ipg_ends.proofs.Settled.{all_join}
 
@@ -74,7 +73,8 @@ module _ {Q : Asked → Type 0} where
   unfolding or_else
   asks_else run next h k = asks_after run.asked _ h.each (asks_next run.answer next k)
 
-  asks_keep : (answer : Result Kid Stop) (items : List Kid) (go : ℕ → List Kid → Run (List Kid)) → ((end : ℕ) (more : List Kid) → Asks Q (go end more)) → Asks Q (kept answer items go)
+  asks_keep : (answer : Result Kid Stop) (items : List Kid) (go : ℕ → List Kid → Run (List Kid)) → ((end : ℕ) (more : List Kid) → Asks Q (go end more))
+      → Asks Q (kept answer items go)
   unfolding kept
   asks_keep (Ok item) items go k = asks_chosen (touches (ends_of item)) _ _ (k _ _) (asks_finish items)
   asks_keep (Err NoTree) items go k = asks_finish items
@@ -165,7 +165,8 @@ module _ (call : Call) (f : Frame) (u : ℕ) (syms : List Sym) where
   abbrev AreLeft : ℕ → List (CoreExpr × CoreSlot) → CoreSlot → Type 0
   AreLeft b cases other = (k : ℕ) (one : Sym) → slice_get (flat_map (λ c. c.1.sym ∷ []) cases ++ other.sym ∷ []) k ≡ Some one → Has (b + k) one
 
-  pick_named : (b : ℕ) (state : State) (cases : List (CoreExpr × CoreSlot)) (other : CoreSlot) → AreLeft b cases other → Named (pick_on call f (at b) state cases other)
+  pick_named : (b : ℕ) (state : State) (cases : List (CoreExpr × CoreSlot)) (other : CoreSlot) → AreLeft b cases other
+      → Named (pick_on call f (at b) state cases other)
   unfolding pick_on
   pick_named b state [] other h = slot_named b state None other (subst (λ n. Has n other.sym) (let s : b + 0 ≡ b = omega arith in s) (h 0 other.sym refl))
   pick_named b state (c ∷ cases) other h =
@@ -174,7 +175,8 @@ module _ (call : Call) (f : Frame) (u : ℕ) (syms : List Sym) where
       (pick_named (b + 1) state cases other (λ k one e. subst (λ n. Has n one) (let s : b + suc k ≡ (b + 1) + k = omega arith in s) (h (suc k) one e)))
       (slot_named b state None c.1 (subst (λ n. Has n c.1.sym) (let s : b + 0 ≡ b = omega arith in s) (h 0 c.1.sym refl))))
 
-pub term_named : (call : Call) (f : Frame) (state : State) (u : ℕ) (term : CoreTerm) → Asks (IsNamed f.alt u (term_syms term)) (term_on call f state u (Some term))
+pub term_named : (call : Call) (f : Frame) (state : State) (u : ℕ) (term : CoreTerm)
+    → Asks (IsNamed f.alt u (term_syms term)) (term_on call f state u (Some term))
 term_named call f state u (Slot slot) = asks_bind _ _ (slot_named call f u _ 0 state None slot refl) (λ kid _. asks_finish _)
 term_named call f state u (Set attr e) = asks_bind _ _ (value_named call f u _ state None e) (λ z _. asks_finish _)
 term_named call f state u (Test e) = asks_bind _ _ (value_named call f u _ state None e) (λ z _. asks_chosen (is_zero z) _ _ (asks_stop NoTree) (asks_finish _))
@@ -185,5 +187,7 @@ term_named call f state u (Repeat first last item from to) =
 term_named call f state u (Many item from to) =
     asks_bind _ _ (repetition_named call f u _ state (record { sym = item; from = from; to = to }) refl) (λ items _. asks_finish _)
 term_named call f state u (Pick cases other) =
-    asks_bind _ _ (pick_named call f u _ 0 state cases other (λ k one e. subst (λ n. slice_get (term_syms (Pick cases other)) n ≡ Some one) (let s : k ≡ 0 + k = omega arith in s) e))
+    asks_bind _ _ (pick_named call f u _ 0 state cases other (λ k one e.
+    let s : k ≡ 0 + k = omega arith in
+    subst (λ n. slice_get (term_syms (Pick cases other)) n ≡ Some one) s e))
     (λ kid _. asks_finish _)

@@ -1,6 +1,5 @@
 -- Calls nest no deeper than a height at which the answer is settled.
-use Rattle.std.proofs.Common.{◌≡◌, ◌≢◌, ℕ, zero, suc, ◌+◌, ◌<◌, ◌≤◌, List, [], ◌∷◌, max, length, None, Some, Err, refl, sym, ap, ◌∙◌, subst, inl, inr, arith}
-use Rattle.std.specs.Prelude.{slice_get}
+use Rattle.std.proofs.Common.{◌≡◌, ℕ, zero, suc, ◌≤◌, List, [], ◌∷◌, None, refl, sym, ap, ◌∙◌, subst, inl, inr, arith}
 use Rattle.std.specs.List.{AllByRecursion}
 use Rattle.std.proofs.Math.Nat.{max-le}
 use Rattle.std.proofs.lemmas.Bool.{cases_lt}
@@ -8,11 +7,11 @@ use Rattle.std.proofs.lemmas.Option.{slice_get_within}
 use Rattle.ipg_core.specs.Grammar.{Grammar, holder_of, rule_at}
 use Rattle.ipg_core.specs.Part.{part}
 use Rattle.ipg_core.specs.Environment.{Values}
-use Rattle.ipg_core.specs.Run.{Asked, Run, Deep}
+use Rattle.ipg_core.specs.Run.{Asked, Run}
 use Rattle.ipg_core.specs.Meaning.{rule_on, den}
 use Rattle.ipg_core.specs.Good.{Good}
 use Rattle.ipg_core.specs.Grown.{IsInput, GrownUnder}
-use Rattle.ipg_core.specs.Total.{Fits, Total, height_for}
+use Rattle.ipg_core.specs.Total.{Fits, height_for}
 use Rattle.ipg_core.specs.Laws.{HeightsAgree}
 use Rattle.ipg_ends.specs.Nest.{greatest_by, nest}
 use Rattle.ipg_ends.specs.Laws.{NestsWithinHeight, InputsNestWithinHeight}
@@ -23,23 +22,25 @@ greatest_within : (f : Asked → ℕ) (n : ℕ) (log : List Asked) → AllByRecu
 greatest_within f n [] h = omega arith
 greatest_within f n (asked ∷ log) h = max-le h.0 (greatest_within f n log h.1)
 
+all_so : (Q : Asked → Type 0) → ((asked : Asked) → Q asked) → (log : List Asked) → AllByRecursion Q log
+all_so Q h [] = tt
+all_so Q h (asked ∷ log) = (h asked, all_so Q h log)
+
 -- no deeper than the height at hand
 within_height : (g : Grammar) (h r : ℕ) (s : List ℕ) (outer : Values) → nest g h r s outer ≤ h
 unfolding nest
 within_height g zero r s outer = omega arith
 within_height g (suc h) r s outer =
-    let b = greatest_within (λ asked. nest g h asked.callee (part s asked.from asked.to) asked.outer) h (rule_on (den g h) g r s outer).asked (each _) in
+    let each = all_so _ (λ asked. within_height g h asked.callee (part s asked.from asked.to) asked.outer) _ in
+    let b = greatest_within _ h (rule_on (den g h) g r s outer).asked each in
     omega (arith, b)
-  where
-    each : (log : List Asked) → AllByRecursion (λ asked. nest g h asked.callee (part s asked.from asked.to) asked.outer ≤ h) log
-    each [] = tt
-    each (asked ∷ log) = (within_height g h asked.callee (part s asked.from asked.to) asked.outer, each log)
 
 module _ (heights : HeightsAgree) (g : Grammar) where
   abbrev NestsAt : ℕ → Type 0
   NestsAt low = (h r : ℕ) (s : List ℕ) (outer : Values) → Settled (den g low r s outer) → nest g h r s outer ≤ low
 
-  agree : (low high : ℕ) (s : List ℕ) (log : List Asked) → low ≤ high → AllByRecursion (Settles (den g low) s) log → AllByRecursion (Agrees (den g low) (den g high) s) log
+  agree : (low high : ℕ) (s : List ℕ) (log : List Asked) → low ≤ high → AllByRecursion (Settles (den g low) s) log
+      → AllByRecursion (Agrees (den g low) (den g high) s) log
   agree low high s [] le h = tt
   agree low high s (asked ∷ log) le h =
       let one : Settles (den g low) s asked = h.0 in
@@ -50,7 +51,8 @@ module _ (heights : HeightsAgree) (g : Grammar) where
   each_nests low high nests s [] h = tt
   each_nests low high nests s (asked ∷ log) h = (nests high asked.callee (part s asked.from asked.to) asked.outer h.0, each_nests low high nests s log h.1)
 
-  higher : (low high : ℕ) → low ≤ high → NestsAt low → (r : ℕ) (s : List ℕ) (outer : Values) → Settled (den g (suc low) r s outer) → nest g (suc high) r s outer ≤ suc low
+  higher : (low high : ℕ) → low ≤ high → NestsAt low → (r : ℕ) (s : List ℕ) (outer : Values) → Settled (den g (suc low) r s outer)
+      → nest g (suc high) r s outer ≤ suc low
   unfolding nest den
   higher low high le nests r s outer settled =
       let follows = on_follows (den g low) (den g high) g r s outer in
@@ -58,7 +60,7 @@ module _ (heights : HeightsAgree) (g : Grammar) where
       let same = follows.same (agree low high s (rule_on (den g low) g r s outer).asked le each) in
       let logs : (rule_on (den g high) g r s outer).asked ≡ (rule_on (den g low) g r s outer).asked = ap (λ (run : Run _). run.asked) same in
       let bound = greatest_within (λ asked. nest g high asked.callee (part s asked.from asked.to) asked.outer) low (rule_on (den g high) g r s outer).asked
-          (subst (AllByRecursion (λ asked. nest g high asked.callee (part s asked.from asked.to) asked.outer ≤ low)) (sym logs) (each_nests low high nests s _ each)) in
+      (subst (AllByRecursion _) (sym logs) (each_nests low high nests s _ each)) in
       omega (arith, bound)
 
   nests : (low : ℕ) → NestsAt low

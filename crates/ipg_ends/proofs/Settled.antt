@@ -40,6 +40,13 @@ pub record Follows {A : Type 0} (Q S : Asked → Type 0) (run again : Run A) : T
   -- where each call answers the same the runs are the same
   pub same : AllByRecursion S run.asked → again ≡ run
 
+-- what comes behind an answer: it settles only behind one that is settled
+record Behind {A B : Type 0} (Q S : Asked → Type 0) (answer : Result A Stop) (rest other : Result A Stop → Run B) : Type 0 where
+  settles : Settled answer → AllByRecursion Q (rest answer).asked → Settled (rest answer).answer
+  first : Settled (rest answer).answer → Settled answer
+  each : Settled (rest answer).answer → AllByRecursion Q (rest answer).asked
+  same : AllByRecursion S (rest answer).asked → other answer ≡ rest answer
+
 module _ {Q S : Asked → Type 0} where
   pub follows_finish : {A : Type 0} (a : A) → Follows Q S (finish a) (finish a)
   unfolding finish
@@ -62,18 +69,13 @@ module _ {Q S : Asked → Type 0} where
   follows_some (Some a) = follows_finish a
   follows_some None = follows_none
 
-  pub follows_chosen : {A : Type 0} (b : Bool) (x x' y y' : Run A) → Follows Q S x x' → Follows Q S y y' → Follows Q S (if b then x else y) (if b then x' else y')
+  pub follows_chosen : {A : Type 0} (b : Bool) (x x' y y' : Run A) → Follows Q S x x' → Follows Q S y y'
+      → Follows Q S (if b then x else y) (if b then x' else y')
   follows_chosen true x x' y y' h k = h
   follows_chosen false x x' y y' h k = k
 
-  -- what comes behind an answer, of which it is known that it isn't Deep where the calls before it settle
-  record Behind {A B : Type 0} (answer : Result A Stop) (rest other : Result A Stop → Run B) : Type 0 where
-    settles : Settled answer → AllByRecursion Q (rest answer).asked → Settled (rest answer).answer
-    first : Settled (rest answer).answer → Settled answer
-    each : Settled (rest answer).answer → AllByRecursion Q (rest answer).asked
-    same : AllByRecursion S (rest answer).asked → other answer ≡ rest answer
-
-  behind_deep : {A B : Type 0} (rest other : Result A Stop → Run B) → rest (Err Deep) ≡ stop Deep → other (Err Deep) ≡ stop Deep → Behind (Err Deep) rest other
+  behind_deep : {A B : Type 0} (rest other : Result A Stop → Run B) → rest (Err Deep) ≡ stop Deep → other (Err Deep) ≡ stop Deep
+      → Behind Q S (Err Deep) rest other
   unfolding stop
   behind_deep {A} {B} rest other e f =
       let deep : (rest (Err Deep)).answer ≡ Err Deep = ap (λ (run : Run B). run.answer) e in
@@ -84,11 +86,12 @@ module _ {Q S : Asked → Type 0} where
         same = λ h. cc;
       }
 
-  behind_on : {A B : Type 0} (answer : Result A Stop) (rest other : Result A Stop → Run B) → Settled answer → Follows Q S (rest answer) (other answer) → Behind answer rest other
+  behind_on : {A B : Type 0} (answer : Result A Stop) (rest other : Result A Stop → Run B) → Settled answer → Follows Q S (rest answer) (other answer)
+      → Behind Q S answer rest other
   behind_on answer rest other s h = record { settles = λ _ k. h.settles k; first = λ _. s; each = h.each; same = h.same }
 
   -- a run, and what comes behind its answer
-  follows_after : {A B : Type 0} (run again : Run A) (rest other : Result A Stop → Run B) → Follows Q S run again → Behind run.answer rest other
+  follows_after : {A B : Type 0} (run again : Run A) (rest other : Result A Stop → Run B) → Follows Q S run again → Behind Q S run.answer rest other
       → Follows Q S (after run.asked (rest run.answer)) (after again.asked (other again.answer))
   unfolding after
   follows_after run again rest other h k = record {
@@ -97,30 +100,35 @@ module _ {Q S : Asked → Type 0} where
     same = λ all. ap (λ r. after r.asked (other r.answer)) (h.same (all_front S run.asked _ all)) ∙ ap (after run.asked) (k.same (all_back S run.asked _ all));
   }
 
-  behind_go : {A B : Type 0} (answer : Result A Stop) (go go' : A → Run B) → ((a : A) → Follows Q S (go a) (go' a)) → Behind answer (λ r. go_on r go) (λ r. go_on r go')
+  behind_go : {A B : Type 0} (answer : Result A Stop) (go go' : A → Run B) → ((a : A) → Follows Q S (go a) (go' a))
+      → Behind Q S answer (λ r. go_on r go) (λ r. go_on r go')
   unfolding go_on
   behind_go (Ok a) go go' k = behind_on (Ok a) _ _ (settled_ok a) (k a)
   behind_go (Err NoTree) go go' k = behind_on (Err NoTree) _ _ settled_no_tree follows_none
   behind_go (Err OutOfRange) go go' k = behind_on (Err OutOfRange) _ _ settled_range follows_range
   behind_go (Err Deep) go go' k = behind_deep _ _ refl refl
 
-  pub follows_bind : {A B : Type 0} (run again : Run A) (go go' : A → Run B) → Follows Q S run again → ((a : A) → Follows Q S (go a) (go' a)) → Follows Q S (run >>= go) (again >>= go')
+  pub follows_bind : {A B : Type 0} (run again : Run A) (go go' : A → Run B) → Follows Q S run again → ((a : A) → Follows Q S (go a) (go' a))
+      → Follows Q S (run >>= go) (again >>= go')
   unfolding ◌>>=◌
   follows_bind run again go go' h k = follows_after run again _ _ h (behind_go run.answer go go' k)
 
-  behind_next : {A : Type 0} (answer : Result A Stop) (next next' : Run A) → Follows Q S next next' → Behind answer (λ r. or_next r next) (λ r. or_next r next')
+  behind_next : {A : Type 0} (answer : Result A Stop) (next next' : Run A) → Follows Q S next next'
+      → Behind Q S answer (λ r. or_next r next) (λ r. or_next r next')
   unfolding or_next
   behind_next (Ok a) next next' k = behind_on (Ok a) _ _ (settled_ok a) (follows_finish a)
   behind_next (Err NoTree) next next' k = behind_on (Err NoTree) _ _ settled_no_tree k
   behind_next (Err OutOfRange) next next' k = behind_on (Err OutOfRange) _ _ settled_range follows_range
   behind_next (Err Deep) next next' k = behind_deep _ _ refl refl
 
-  pub follows_else : {A : Type 0} (run again next next' : Run A) → Follows Q S run again → Follows Q S next next' → Follows Q S (or_else run next) (or_else again next')
+  pub follows_else : {A : Type 0} (run again next next' : Run A) → Follows Q S run again → Follows Q S next next'
+      → Follows Q S (or_else run next) (or_else again next')
   unfolding or_else
   follows_else run again next next' h k = follows_after run again _ _ h (behind_next run.answer next next' k)
 
-  behind_kept : (answer : Result Kid Stop) (items : List Kid) (go go' : ℕ → List Kid → Run (List Kid)) → ((end : ℕ) (more : List Kid) → Follows Q S (go end more) (go' end more))
-      → Behind answer (λ r. kept r items go) (λ r. kept r items go')
+  behind_kept : (answer : Result Kid Stop) (items : List Kid) (go go' : ℕ → List Kid → Run (List Kid))
+      → ((end : ℕ) (more : List Kid) → Follows Q S (go end more) (go' end more))
+      → Behind Q S answer (λ r. kept r items go) (λ r. kept r items go')
   unfolding kept
   behind_kept (Ok item) items go go' k =
       behind_on (Ok item) _ _ (settled_ok item) (follows_chosen (touches (ends_of item)) _ _ _ _ (k _ _) (follows_finish items))

@@ -17,12 +17,21 @@ record Back (g : Graph) (u start : ℕ) (walk : List ℕ) : Type 0 where
   pub some : 0 < length part
   pub leads : Leads g start part u
 
+further : (g : Graph) (u start e : ℕ) (walk : List ℕ) → caller g e ≡ start → Back g u (callee g e) walk → Back g u start (e ∷ walk)
+further g u start e walk from b = record {
+  part = e ∷ b.part;
+  rest = b.rest;
+  splits = ap (λ w. e ∷ w) b.splits;
+  some = let s : 0 < suc (length b.part) = omega arith in s;
+  leads = (from, b.leads);
+}
+
 back : (g : Graph) (u v start : ℕ) (walk : List ℕ) → Leads g start walk v → Back g u start walk ⊎ AllByRecursion (λ e. u ≢ callee g e) walk
 back g u v start [] h = inr tt
 back g u v start (e ∷ walk) h = elim (cases_eq u (callee g e)) [
   | inl same ↦ inl (record { part = e ∷ []; rest = walk; splits = refl; some = (let s : 0 < 1 = omega arith in s); leads = (h.0, sym same) })
   | inr other ↦ elim (back g u v (callee g e) walk h.1) [
-    | inl b ↦ inl (record { part = e ∷ b.part; rest = b.rest; splits = ap (λ w. e ∷ w) b.splits; some = (let s : 0 < suc (length b.part) = omega arith in s); leads = (h.0, b.leads) })
+    | inl b ↦ inl (further g u start e walk h.0 b)
     | inr none ↦ inr (other, none)
   ]
 ]
@@ -39,7 +48,12 @@ record Circle (g : Graph) (walk : List ℕ) : Type 0 where
 
 later : (g : Graph) (e : ℕ) (walk : List ℕ) → Circle g walk → Circle g (e ∷ walk)
 later g e walk c = record {
-  vertex = c.vertex; part = c.part; some = c.some; leads = c.leads; live = c.live; apart = c.apart;
+  vertex = c.vertex;
+  part = c.part;
+  some = c.some;
+  leads = c.leads;
+  live = c.live;
+  apart = c.apart;
   among = all_weaker (Contains walk) (Contains (e ∷ walk)) (λ x h. Contains-append_right (e ∷ []) walk x h) c.part c.among;
 }
 
@@ -48,7 +62,10 @@ begun g u walk live apart b =
     let itself = recursion_from_All (Contains b.part) b.part (All-contains_itself b.part) in
     let among = all_weaker (Contains b.part) (Contains (b.part ++ b.rest)) (λ x h. Contains-append_left b.part b.rest x h) b.part itself in
     record {
-      vertex = u; part = b.part; some = b.some; leads = b.leads;
+      vertex = u;
+      part = b.part;
+      some = b.some;
+      leads = b.leads;
       live = all_front (IsLive g) b.part b.rest (subst (AllByRecursion (IsLive g)) b.splits live);
       apart = apart_front (map (callee g) b.part) (map (callee g) b.rest)
           (subst Apart (map-append (callee g) b.part b.rest) (subst (λ w. Apart (map (callee g) w)) b.splits apart));
@@ -80,13 +97,22 @@ least g e (f ∷ part) =
     let r = least g f part in
     elim (cases_lt (caller g r.edge) (caller g e)) [
       | inl less ↦ record {
-        before = e ∷ r.before; edge = r.edge; behind = r.behind; splits = ap (λ w. e ∷ w) r.splits;
+        before = e ∷ r.before;
+        edge = r.edge;
+        behind = r.behind;
+        splits = ap (λ w. e ∷ w) r.splits;
         least = ((let s : caller g r.edge ≤ caller g e = omega (arith, less) in s), r.least);
       }
       | inr le ↦ record {
-        before = []; edge = e; behind = f ∷ part; splits = refl;
-        least = ((let s : caller g e ≤ caller g e = omega arith in s),
-            all_weaker (λ k. caller g r.edge ≤ caller g k) (λ k. caller g e ≤ caller g k) (λ k h. let s : caller g e ≤ caller g k = omega (arith, le, h) in s) (f ∷ part) r.least);
+        before = [];
+        edge = e;
+        behind = f ∷ part;
+        splits = refl;
+        least = (
+          (let s : caller g e ≤ caller g e = omega arith in s),
+          all_weaker (λ k. caller g r.edge ≤ caller g k) (λ k. caller g e ≤ caller g k)
+              (λ k h. let s : caller g e ≤ caller g k = omega (arith, le, h) in s) (f ∷ part) r.least,
+        );
       }
     ]
 
@@ -101,7 +127,7 @@ leads_split g u v (e ∷ xs) ys h =
     let r = leads_split g (callee g e) v xs ys h.1 in
     record { between = r.between; first = (h.0, r.first); second = r.second }
 
-leads_join : (g : Graph) (u m v : ℕ) (xs ys : List ℕ) → Leads g u xs m → Leads g m ys v → Leads g u (xs ++ ys) v
+pub leads_join : (g : Graph) (u m v : ℕ) (xs ys : List ℕ) → Leads g u xs m → Leads g m ys v → Leads g u (xs ++ ys) v
 leads_join g u m v [] ys h k = subst (λ x. Leads g x ys v) (sym h) k
 leads_join g u m v (e ∷ xs) ys h k = (h.0, leads_join g (callee g e) m v xs ys h.1 k)
 
@@ -126,9 +152,9 @@ turned g walk c l =
     let via = leads_split g c.vertex c.vertex l.before (l.edge ∷ l.behind) (subst (λ w. Leads g c.vertex w c.vertex) l.splits c.leads) in
     let closed : Leads g via.between whole via.between = leads_join g via.between c.vertex via.between (l.edge ∷ l.behind) l.before via.second via.first in
     let parted : Apart (map (callee g) l.before ++ map (callee g) (l.edge ∷ l.behind)) =
-        subst Apart (map-append (callee g) l.before (l.edge ∷ l.behind)) (subst (λ w. Apart (map (callee g) w)) l.splits c.apart) in
+    subst Apart (map-append (callee g) l.before (l.edge ∷ l.behind)) (subst (λ w. Apart (map (callee g) w)) l.splits c.apart) in
     let apart : Apart (map (callee g) whole) =
-        subst Apart (sym (map-append (callee g) (l.edge ∷ l.behind) l.before)) (apart_swap (map (callee g) l.before) (map (callee g) (l.edge ∷ l.behind)) parted) in
+    subst Apart (sym (map-append (callee g) (l.edge ∷ l.behind) l.before)) (apart_swap (map (callee g) l.before) (map (callee g) (l.edge ∷ l.behind)) parted) in
     record {
       cycle = whole;
       simple = record {
@@ -150,7 +176,8 @@ some_least g [] some = absurd (let s : ⊥ = omega (arith, some) in s)
 some_least g (e ∷ part) some = least g e part
 
 callees_below : (g : Graph) → IsWhole g → (walk : List ℕ) → AllByRecursion (IsLive g) walk → AllByRecursion (λ x. x < g.rules) (map (callee g) walk)
-callees_below g whole walk live = all_map (λ x. x < g.rules) (callee g) walk (all_weaker (IsLive g) (λ e. callee g e < g.rules) (λ e is. whole.inside e is) walk live)
+callees_below g whole walk live =
+    all_map (λ x. x < g.rules) (callee g) walk (all_weaker (IsLive g) (λ e. callee g e < g.rules) (λ e is. whole.inside e is) walk live)
 
 pub long_walks_hold_cycles : LongWalksHoldCycles
 long_walks_hold_cycles g u v walk whole start is long = elim (circle_or_apart g u v walk is.live is.leads) [

@@ -6,12 +6,14 @@ use Rattle.ipg_core.specs.Environment.{Values}
 use Rattle.ipg_core.specs.Run.{Asked}
 use Rattle.ipg_core.specs.Meaning.{rule_on, den}
 use Rattle.ipg_core.specs.Good.{Good}
+use Rattle.ipg_core.specs.MustTouch.{Marks, AreLimit}
 use Rattle.ipg_core.specs.Grown.{IsInput}
 use Rattle.ipg_core.specs.Total.{Fits, Total, height_for}
 use Rattle.ipg_graph.specs.declared.edge.Edge.{Edge}
 use Rattle.ipg_edges.specs.Edges.{edges_of}
 use Rattle.ipg_sound.specs.Reached.{Reached}
 use Rattle.ipg_ends.specs.Along.{DeadAreNeverReached, CyclesAreNeverReached}
+use Rattle.ipg_ends.specs.Conditions.{DeadAreUnsolvable, CyclesAreUnsolvable}
 use Rattle.ipg_ends.specs.Nest.{nest}
 
 -- a call that the rule r makes on s is an edge's; on the whole of s, the edge is reached
@@ -29,6 +31,11 @@ CallsAreEdges = (g : Grammar) (h r : ℕ) (s : List ℕ) (outer : Values) → Al
 -- where no simple cycle of edges is reached on parts of one length, parsing ends; dead edges are never reached, and left out
 abbrev pub EndsWithoutCycles : Type 0
 EndsWithoutCycles = (g : Grammar) (dead : List Bool) → Good g → DeadAreNeverReached g dead → CyclesAreNeverReached g dead → Total g
+
+-- where the conditions of no simple cycle of edges can hold together, parsing ends; edges whose own cannot hold are left out
+abbrev pub EndsWhereNoneSolve : Type 0
+EndsWhereNoneSolve = (g : Grammar) (marks : Marks) (dead : List Bool)
+    → Good g → AreLimit g marks → DeadAreUnsolvable g marks dead → CyclesAreUnsolvable g marks dead → Total g
 
 -- in a total grammar calls of what fits nest no deeper than the height that suffices
 abbrev pub NestsWithinHeight : Type 0

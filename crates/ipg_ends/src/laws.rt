@@ -1,10 +1,10 @@
 //! Laws of how parsing ends, each the contract of a function that calls at most the laws it stands on.
 
-ghost use Rattle.ipg_ends.specs.Laws.{CallsAreEdges, EndsWithoutCycles, InputsNestWithinHeight, NestsWithinHeight};
+ghost use Rattle.ipg_ends.specs.Laws.{CallsAreEdges, EndsWhereNoneSolve, EndsWithoutCycles, InputsNestWithinHeight, NestsWithinHeight};
 ghost use Rattle.ipg_ends.specs.Walks.{LongWalksHoldCycles};
 
 use ipg_core::laws::{asks_what_fits, heights_agree};
-use ipg_sound::laws::{edges_are_few, edges_are_inside};
+use ipg_sound::laws::{edges_are_few, edges_are_inside, reached_cycles_solve, reached_edges_solve};
 
 /// A walk of as many edges as a graph has vertices holds a simple cycle.
 pub fn long_walks_hold_cycles()
@@ -24,6 +24,16 @@ pub fn ends_without_cycles()
     asks_what_fits();
     edges_are_few();
     edges_are_inside();
+}
+
+/// A good grammar is total where the conditions of no simple cycle of edges can hold together. Edges whose own conditions
+/// cannot hold may be left out.
+pub fn ends_where_none_solve()
+    ensures { EndsWhereNoneSolve }
+{
+    ends_without_cycles();
+    reached_edges_solve();
+    reached_cycles_solve();
 }
 
 /// The calls of a total grammar nest no deeper than the height that suffices: the part's length and one, times the rules.
