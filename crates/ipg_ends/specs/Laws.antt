@@ -1,9 +1,9 @@
 -- Laws of how parsing ends.
-use Rattle.std.specs.Prelude.{◌≡◌, ℕ, ◌≤◌, List, [], length, Some, Bool, slice_get}
+use Rattle.std.specs.Prelude.{◌≡◌, ◌≢◌, ℕ, ◌≤◌, List, [], length, Some, Err, Bool, slice_get}
 use Rattle.std.specs.List.{AllByRecursion}
 use Rattle.ipg_core.specs.Grammar.{Grammar}
 use Rattle.ipg_core.specs.Environment.{Values}
-use Rattle.ipg_core.specs.Run.{Asked}
+use Rattle.ipg_core.specs.Run.{Deep, Asked}
 use Rattle.ipg_core.specs.Meaning.{rule_on, den}
 use Rattle.ipg_core.specs.Good.{Good}
 use Rattle.ipg_core.specs.MustTouch.{Marks, AreLimit}
@@ -36,6 +36,16 @@ EndsWithoutCycles = (g : Grammar) (dead : List Bool) → Good g → DeadAreNever
 abbrev pub EndsWhereNoneSolve : Type 0
 EndsWhereNoneSolve = (g : Grammar) (marks : Marks) (dead : List Bool)
     → Good g → AreLimit g marks → DeadAreUnsolvable g marks dead → CyclesAreUnsolvable g marks dead → Total g
+
+-- a larger height makes the same run, with the same calls, as any whose answer isn't Deep
+abbrev pub RunsAgree : Type 0
+RunsAgree = (g : Grammar) (low high r : ℕ) (s : List ℕ) (outer : Values)
+    → low ≤ high → (rule_on (den g low) g r s outer).answer ≢ Err Deep → rule_on (den g high) g r s outer ≡ rule_on (den g low) g r s outer
+
+-- so calls nest as deep at it
+abbrev pub NestsAgree : Type 0
+NestsAgree = (g : Grammar) (low high r : ℕ) (s : List ℕ) (outer : Values)
+    → low ≤ high → den g low r s outer ≢ Err Deep → nest g high r s outer ≡ nest g low r s outer
 
 -- in a total grammar calls of what fits nest no deeper than the height that suffices
 abbrev pub NestsWithinHeight : Type 0

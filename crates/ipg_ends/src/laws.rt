@@ -1,6 +1,6 @@
 //! Laws of how parsing ends, each the contract of a function that calls at most the laws it stands on.
 
-ghost use Rattle.ipg_ends.specs.Laws.{CallsAreEdges, EndsWhereNoneSolve, EndsWithoutCycles, InputsNestWithinHeight, NestsWithinHeight};
+ghost use Rattle.ipg_ends.specs.Laws.{CallsAreEdges, EndsWhereNoneSolve, EndsWithoutCycles, InputsNestWithinHeight, NestsAgree, NestsWithinHeight, RunsAgree};
 ghost use Rattle.ipg_ends.specs.Walks.{LongWalksHoldCycles};
 
 use ipg_core::laws::{asks_what_fits, heights_agree};
@@ -36,16 +36,30 @@ pub fn ends_where_none_solve()
     reached_cycles_solve();
 }
 
+/// A larger height makes the same run, with the same calls, as any whose answer isn't Deep.
+pub fn runs_agree()
+    ensures { RunsAgree }
+{
+    heights_agree();
+}
+
+/// So calls nest as deep at a larger height.
+pub fn nests_agree()
+    ensures { NestsAgree }
+{
+    runs_agree();
+}
+
 /// The calls of a total grammar nest no deeper than the height that suffices: the part's length and one, times the rules.
 pub fn nests_within_height()
     ensures { NestsWithinHeight }
 {
-    heights_agree();
+    nests_agree();
 }
 
 /// So do the calls of the first rule on an input.
 pub fn inputs_nest_within_height()
     ensures { InputsNestWithinHeight }
 {
-    heights_agree();
+    nests_within_height();
 }
