@@ -1,11 +1,12 @@
 -- Numbers none of which occurs twice.
-use Rattle.std.proofs.Common.{◌≡◌, ◌≢◌, ℕ, ◌<◌, ◌≤◌, List, [], ◌∷◌, ◌++◌, map, length, true, false, sym, ap, ◌∙◌, subst, inl, inr, eqb, ◌||◌}
+use Rattle.std.proofs.Common.{◌≡◌, ◌≢◌, ℕ, ◌<◌, ◌≤◌, List, [], ◌∷◌, ◌++◌, length, true, false, sym, ap, ◌∙◌, subst, inl, inr, eqb, ◌||◌}
 use Rattle.std.specs.List.{AllByRecursion, IsDistinct, list_any}
 use Rattle.std.proofs.lemmas.Bool.{ne_eqb, true≢false}
 use Rattle.std.proofs.lemmas.Bool.Decides.{eqb_tells}
 use Rattle.std.proofs.lemmas.List.Elements.{All-from_recursion}
 use Rattle.std.proofs.lemmas.Map.Steps.{length-le_from_distinct_below}
 use Rattle.ipg_graph.specs.Cycle.{AreApart}
+use Rattle.ipg_ends.proofs.Lists.{all_front, all_back, all_join, all_weaker}
 
 abbrev pub Apart : List ℕ → Type 0
 Apart [] = Unit {0}
@@ -14,27 +15,6 @@ Apart (x ∷ xs) = AllByRecursion (λ y. x ≢ y) xs × Apart xs
 pub are_apart : (xs : List ℕ) → Apart xs → AreApart xs
 are_apart [] h = tt
 are_apart (x ∷ xs) h = (All-from_recursion (λ y. x ≢ y) xs h.0, are_apart xs h.1)
-
-module _ {A : Type 0} (P : A → Type 0) where
-  pub all_front : (xs ys : List A) → AllByRecursion P (xs ++ ys) → AllByRecursion P xs
-  all_front [] ys h = tt
-  all_front (x ∷ xs) ys h = (h.0, all_front xs ys h.1)
-
-  pub all_back : (xs ys : List A) → AllByRecursion P (xs ++ ys) → AllByRecursion P ys
-  all_back [] ys h = h
-  all_back (x ∷ xs) ys h = all_back xs ys h.1
-
-  pub all_join : (xs ys : List A) → AllByRecursion P xs → AllByRecursion P ys → AllByRecursion P (xs ++ ys)
-  all_join [] ys h k = k
-  all_join (x ∷ xs) ys h k = (h.0, all_join xs ys h.1 k)
-
-  pub all_map : {B : Type 0} (f : B → A) (xs : List B) → AllByRecursion (λ x. P (f x)) xs → AllByRecursion P (map f xs)
-  all_map f [] h = tt
-  all_map f (x ∷ xs) h = (h.0, all_map f xs h.1)
-
-pub all_weaker : {A : Type 0} (P Q : A → Type 0) → ((x : A) → P x → Q x) → (xs : List A) → AllByRecursion P xs → AllByRecursion Q xs
-all_weaker P Q f [] h = tt
-all_weaker P Q f (x ∷ xs) h = (f x h.0, all_weaker P Q f xs h.1)
 
 -- none of the ones is one of the others
 abbrev AreOther : List ℕ → List ℕ → Type 0

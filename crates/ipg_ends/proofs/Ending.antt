@@ -24,7 +24,8 @@ use Rattle.ipg_sound.specs.Laws.{EdgesAreFew, EdgesAreInside}
 use Rattle.ipg_ends.specs.Walks.{IsWalk}
 use Rattle.ipg_ends.specs.Along.{edges_at, live_edges, DeadAreNeverReached, CyclesAreNeverReached}
 use Rattle.ipg_ends.specs.Laws.{IsEdgeCall, EndsWithoutCycles}
-use Rattle.ipg_ends.proofs.Settled.{Settled, all_join}
+use Rattle.ipg_ends.proofs.Settled.{Settled}
+use Rattle.ipg_ends.proofs.Lists.{all_join}
 use Rattle.ipg_ends.proofs.Follows.{Settles, on_follows}
 use Rattle.ipg_ends.proofs.Walks.{long_walks_hold_cycles, leads_join}
 use Rattle.ipg_ends.proofs.Edges.{contained, calls_are_edges}

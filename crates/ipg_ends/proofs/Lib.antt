@@ -1,3 +1,4 @@
+pub mod Lists
 pub mod Apart
 pub mod Walks
 pub mod Settled

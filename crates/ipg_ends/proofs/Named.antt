@@ -20,7 +20,7 @@ use Rattle.ipg_core.specs.Eval.{is_zero, eval}
 use Rattle.ipg_core.specs.Run.{Stop, NoTree, OutOfRange, Deep, Asked, Run, finish, stop, after, go_on, ◌>>=◌, or_next, or_else, value_of, some_of}
 use Rattle.ipg_core.specs.Meaning.{kept, Call, Frame, State, Place, environment, value_in, ask, token_on, number_on, primitive_on, symbol_on, slot_on, items_on, times, item_end, item_on, many_on, turns, repetition_on, pick_on, term_on}
 use Rattle.ipg_core.specs.Mention.{term_syms}
-use Rattle.ipg_ends.proofs.Settled.{all_join}
+use Rattle.ipg_ends.proofs.Lists.{all_join}
 
 -- ---- a fact of each call that a run makes
 

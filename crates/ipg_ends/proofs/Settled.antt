@@ -1,5 +1,5 @@
 -- Answers that the height sufficed for, and what the calls of a run say of it.
-use Rattle.std.proofs.Common.{◌≡◌, ◌≢◌, ℕ, refl, ap, ◌∙◌, List, [], ◌∷◌, ◌++◌, Result, Ok, Err, Option, Some, None, Bool, true, false, if◌then◌else◌}
+use Rattle.std.proofs.Common.{◌≡◌, ◌≢◌, ℕ, refl, ap, ◌∙◌, List, Result, Ok, Err, Option, Some, None, Bool, true, false, if◌then◌else◌}
 use Rattle.std.specs.List.{AllByRecursion}
 use Rattle.ipg_num.specs.declared.op.Answer.{Answer}
 use Rattle.ipg_num.specs.declared.op.Answer.TheVariants.{Val, Fail, Range}
@@ -7,6 +7,7 @@ use Rattle.ipg_core.specs.Run.{Stop, NoTree, OutOfRange, Deep, Asked, Run, finis
 use Rattle.ipg_core.specs.Tree.{Kid}
 use Rattle.ipg_core.specs.Touch.{touches, ends_of}
 use Rattle.ipg_core.specs.Meaning.{kept}
+use Rattle.ipg_ends.proofs.Lists.{all_front, all_back, all_join}
 
 pub record Settled {A : Type 0} (answer : Result A Stop) : Type 0 where
   pub not_deep : answer ≢ Err Deep
@@ -19,18 +20,6 @@ settled_no_tree = record { not_deep = λ e. cc }
 
 settled_range : {A : Type 0} → Settled {A = A} (Err OutOfRange)
 settled_range = record { not_deep = λ e. cc }
-
-pub all_join : {X : Type 0} (Q : X → Type 0) (xs ys : List X) → AllByRecursion Q xs → AllByRecursion Q ys → AllByRecursion Q (xs ++ ys)
-all_join Q [] ys h k = k
-all_join Q (x ∷ xs) ys h k = (h.0, all_join Q xs ys h.1 k)
-
-all_front : {X : Type 0} (Q : X → Type 0) (xs ys : List X) → AllByRecursion Q (xs ++ ys) → AllByRecursion Q xs
-all_front Q [] ys h = tt
-all_front Q (x ∷ xs) ys h = (h.0, all_front Q xs ys h.1)
-
-all_back : {X : Type 0} (Q : X → Type 0) (xs ys : List X) → AllByRecursion Q (xs ++ ys) → AllByRecursion Q ys
-all_back Q [] ys h = h
-all_back Q (x ∷ xs) ys h = all_back Q xs ys h.1
 
 -- of two runs with other calls: Q says that a call settles, S that both calls answer the same
 pub record Follows {A : Type 0} (Q S : Asked → Type 0) (run again : Run A) : Type 0 where

@@ -7,7 +7,8 @@ use Rattle.std.proofs.lemmas.List.Elements.{All-from_recursion, recursion_from_A
 use Rattle.ipg_graph.specs.Graph.{Graph, caller, callee, IsLive, IsWhole}
 use Rattle.ipg_graph.specs.Cycle.{LeadsTo}
 use Rattle.ipg_ends.specs.Walks.{Leads, HoldsCycle, LongWalksHoldCycles}
-use Rattle.ipg_ends.proofs.Apart.{Apart, are_apart, apart_front, apart_swap, few, all_front, all_back, all_join, all_map, all_weaker}
+use Rattle.ipg_ends.proofs.Apart.{Apart, are_apart, apart_front, apart_swap, few}
+use Rattle.ipg_ends.proofs.Lists.{all_front, all_back, all_join, all_map, all_weaker}
 
 -- the first part of a walk that comes to u
 record Back (g : Graph) (u start : ℕ) (walk : List ℕ) : Type 0 where
