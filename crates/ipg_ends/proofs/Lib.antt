@@ -1,0 +1,11 @@
+pub mod Lists
+pub mod Apart
+pub mod Walks
+pub mod Settled
+pub mod Follows
+pub mod Named
+pub mod Edges
+pub mod Live
+pub mod Ending
+pub mod Nesting
+pub mod Solving

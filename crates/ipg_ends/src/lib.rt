@@ -1,0 +1,4 @@
+//! Laws of how parsing ends.
+#![tactic(auto)]
+
+pub mod laws;
