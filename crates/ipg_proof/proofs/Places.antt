@@ -41,8 +41,10 @@ pub running_more : (first now next : Listing) (from n m : ℕ) (c : List ℕ) (l
     → Running first now from n (c ∷ left) cycles → Running first next from m left cycles
 running_more first now next from n m c left cycles is graph at one running = record {
   run = λ r. running.run (is, subst (λ g. IsRun g (At c) left) graph (subst (λ s. IsRun next.graph s left) at r));
-  other = λ k o. running.other k (inr (is,
-      subst (λ i. IsFirstOther now.graph (At c) i left k) one (subst (λ g. IsFirstOther g (At c) m left k) graph (subst (λ s. IsFirstOther next.graph s m left k) at o))));
+  other = λ k o. running.other k (inr (
+    is,
+    subst (λ i. IsFirstOther now.graph (At c) i left k) one (subst (λ g. IsFirstOther g (At c) m left k) graph (subst (λ s. IsFirstOther next.graph s m left k) at o)),
+  ));
 }
 
 pub running_other : (first now : Listing) (from n : ℕ) (c : List ℕ) (left cycles : List (List ℕ)) → (IsNext now.graph now.at c → ⊥)
@@ -88,5 +90,5 @@ pub renamed : (graph given : Graph) (from : Spot) (n m : ℕ) (listed cycles : L
     → MatchOption r (IsRun given Start (map (λ entry. entry.0) cycles)) (λ at. IsFirstOther given Start m (map (λ entry. entry.0) cycles) at)
 renamed graph given from n m listed cycles r same start one all h =
     let Is : Graph → Spot → ℕ → List (List ℕ × Refutation) → Type 0 =
-        λ g s k es. MatchOption r (IsRun g s (map (λ entry. entry.0) es)) (λ at. IsFirstOther g s k (map (λ entry. entry.0) es) at) in
+    λ g s k es. MatchOption r (IsRun g s (map (λ entry. entry.0) es)) (λ at. IsFirstOther g s k (map (λ entry. entry.0) es) at) in
     subst (Is given Start m) all (subst (λ k. Is given Start k listed) one (subst (λ s. Is given s n listed) start (subst (λ g. Is g from n listed) same h)))

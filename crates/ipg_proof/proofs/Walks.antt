@@ -39,7 +39,12 @@ record Circle (g : Graph) (walk : List ℕ) : Type 0 where
 
 later : (g : Graph) (e : ℕ) (walk : List ℕ) → Circle g walk → Circle g (e ∷ walk)
 later g e walk c = record {
-  vertex = c.vertex; part = c.part; some = c.some; leads = c.leads; live = c.live; apart = c.apart;
+  vertex = c.vertex;
+  part = c.part;
+  some = c.some;
+  leads = c.leads;
+  live = c.live;
+  apart = c.apart;
   among = all_weaker (Contains walk) (Contains (e ∷ walk)) (λ x h. Contains-append_right (e ∷ []) walk x h) c.part c.among;
 }
 
@@ -48,7 +53,10 @@ begun g u walk live apart b =
     let itself = recursion_from_All (Contains b.part) b.part (All-contains_itself b.part) in
     let among = all_weaker (Contains b.part) (Contains (b.part ++ b.rest)) (λ x h. Contains-append_left b.part b.rest x h) b.part itself in
     record {
-      vertex = u; part = b.part; some = b.some; leads = b.leads;
+      vertex = u;
+      part = b.part;
+      some = b.some;
+      leads = b.leads;
       live = all_front (IsLive g) b.part b.rest (subst (AllByRecursion (IsLive g)) b.splits live);
       apart = apart_front (map (callee g) b.part) (map (callee g) b.rest)
           (subst Apart (map-append (callee g) b.part b.rest) (subst (λ w. Apart (map (callee g) w)) b.splits apart));
@@ -80,13 +88,21 @@ least g e (f ∷ part) =
     let r = least g f part in
     elim (cases_lt (caller g r.edge) (caller g e)) [
       | inl less ↦ record {
-        before = e ∷ r.before; edge = r.edge; behind = r.behind; splits = ap (λ w. e ∷ w) r.splits;
+        before = e ∷ r.before;
+        edge = r.edge;
+        behind = r.behind;
+        splits = ap (λ w. e ∷ w) r.splits;
         least = ((let s : caller g r.edge ≤ caller g e = omega (arith, less) in s), r.least);
       }
       | inr le ↦ record {
-        before = []; edge = e; behind = f ∷ part; splits = refl;
-        least = ((let s : caller g e ≤ caller g e = omega arith in s),
-            all_weaker (λ k. caller g r.edge ≤ caller g k) (λ k. caller g e ≤ caller g k) (λ k h. let s : caller g e ≤ caller g k = omega (arith, le, h) in s) (f ∷ part) r.least);
+        before = [];
+        edge = e;
+        behind = f ∷ part;
+        splits = refl;
+        least = (
+          (let s : caller g e ≤ caller g e = omega arith in s),
+          all_weaker (λ k. caller g r.edge ≤ caller g k) (λ k. caller g e ≤ caller g k) (λ k h. let s : caller g e ≤ caller g k = omega (arith, le, h) in s) (f ∷ part) r.least,
+        );
       }
     ]
 
@@ -126,9 +142,9 @@ turned g walk c l =
     let via = leads_split g c.vertex c.vertex l.before (l.edge ∷ l.behind) (subst (λ w. Leads g c.vertex w c.vertex) l.splits c.leads) in
     let closed : Leads g via.between whole via.between = leads_join g via.between c.vertex via.between (l.edge ∷ l.behind) l.before via.second via.first in
     let parted : Apart (map (callee g) l.before ++ map (callee g) (l.edge ∷ l.behind)) =
-        subst Apart (map-append (callee g) l.before (l.edge ∷ l.behind)) (subst (λ w. Apart (map (callee g) w)) l.splits c.apart) in
+    subst Apart (map-append (callee g) l.before (l.edge ∷ l.behind)) (subst (λ w. Apart (map (callee g) w)) l.splits c.apart) in
     let apart : Apart (map (callee g) whole) =
-        subst Apart (sym (map-append (callee g) (l.edge ∷ l.behind) l.before)) (apart_swap (map (callee g) l.before) (map (callee g) (l.edge ∷ l.behind)) parted) in
+    subst Apart (sym (map-append (callee g) (l.edge ∷ l.behind) l.before)) (apart_swap (map (callee g) l.before) (map (callee g) (l.edge ∷ l.behind)) parted) in
     record {
       cycle = whole;
       simple = record {

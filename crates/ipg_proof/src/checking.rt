@@ -4,8 +4,8 @@ ghost use Rattle.ipg_proof.specs.Calls as spec;
 ghost use Rattle.ipg_proof.specs.Proves.{first_false};
 ghost use Rattle.ipg_proof.specs.Seen.{seen};
 
-use crate::certificate::Certificate;
 use crate::calls::Calls;
+use crate::certificate::Certificate;
 use ipg_cert::{Refutation, check};
 use ipg_facts::{joint, keep};
 use ipg_lin::{Boxed, Formula};
@@ -13,11 +13,7 @@ use ipg_num::List;
 use std::alloc::{AllocError, Global};
 
 /// A dead edge's refutation checks against the edge's conditions.
-fn edge_checks(
-    alloc: Global,
-    calls: Calls,
-    entry: &(u32, Refutation),
-) -> Result<bool, AllocError>
+fn edge_checks(alloc: Global, calls: Calls, entry: &(u32, Refutation)) -> Result<bool, AllocError>
     ensures { IfOk result (λ on. on ≡ spec.edge_checks (seen calls.entry) entry.now) }
 {
     let edge = entry.0;
@@ -39,22 +35,12 @@ fn put_keep(
     if calls.edges.len() <= edge as usize {
         return Ok(());
     }
-    parts.push(keep(
-        alloc,
-        calls.grammar,
-        calls.marks,
-        calls.edges,
-        edge,
-    )?)?;
+    parts.push(keep(alloc, calls.grammar, calls.marks, calls.edges, edge)?)?;
     Ok(())
 }
 
 /// The conditions of a cycle's edges.
-fn keeps(
-    alloc: Global,
-    calls: Calls,
-    cycle: &[u32],
-) -> Result<Vec<(Formula, Boxed)>, AllocError>
+fn keeps(alloc: Global, calls: Calls, cycle: &[u32]) -> Result<Vec<(Formula, Boxed)>, AllocError>
     ensures { IfOk result (λ parts. parts.items ≡ spec.keeps (seen calls.entry) cycle.now) }
 {
     let mut parts = Vec::new(alloc);

@@ -29,3 +29,14 @@ impl From<AllocError> for ProofWhy {
         ProofWhy::Memory
     }
 }
+
+/// Why a text is no certificate's.
+#[derive(Clone, Copy, Debug, Drop, Error, PartialEq, Eq)]
+pub enum CertFault {
+    /// No certificate's text goes on with the byte at this place, or the text ends here.
+    #[error("no certificate goes on at byte {at}")]
+    CertText { at: u64 },
+    /// No memory was left.
+    #[error("no memory is left")]
+    Memory,
+}

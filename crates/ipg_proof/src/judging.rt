@@ -3,10 +3,10 @@ ghost use Rattle.std.specs.Prelude.{◌≡◌, IfOk, MatchResult, MatchOption};
 ghost use Rattle.ipg_proof.specs.Proves.{Proves, AreChecked, IsUnsound, IsUnsoundness, IsFault};
 ghost use Rattle.ipg_edges.specs.Edges.{edges_of};
 
+use crate::calls::Calls;
 use crate::certificate::Certificate;
 use crate::checking::unsound;
 use crate::fault::ProofWhy;
-use crate::calls::Calls;
 use crate::placing::misplaced;
 use ipg_core::accepted::Core;
 use ipg_edges::edges;

@@ -38,11 +38,7 @@ fn set(flags: &mut Vec<bool>, at: u32)
 }
 
 /// Whether each edge is dead.
-fn flags(
-    alloc: Global,
-    edges: usize,
-    dead: &[(u32, Refutation)],
-) -> Result<Vec<bool>, AllocError>
+fn flags(alloc: Global, edges: usize, dead: &[(u32, Refutation)]) -> Result<Vec<bool>, AllocError>
     ensures { IfOk result (λ flags. flags.items ≡ with_set (replicate edges false) (map (λ entry. entry.0) dead.now)) }
 {
     let mut flags = vec![in alloc; false; edges]?;

@@ -29,6 +29,6 @@ returns-in-None c =
     let cycles = map (spec.cycle_checks calls) c.args.c.now.cycles in
     let none = ap (λ entries. first_false 0 (map (spec.edge_checks calls) entries)) (sym c.as_slice-dead.ensures) ∙ sym (c.in_ok-at.ensures) ∙ c.in-None.is in
     let ends = ap (λ entries. first_false (length c.as_slice-dead.result.now) (map (spec.cycle_checks calls) entries)) c.as_slice.ensures
-        ∙ ap (λ entries. first_false (length entries) cycles) c.as_slice-dead.ensures
-        ∙ behind calls c.args.c.now.dead cycles none in
+    ∙ ap (λ entries. first_false (length entries) cycles) c.as_slice-dead.ensures
+    ∙ behind calls c.args.c.now.dead cycles none in
     MatchResult-weaker c.unsound_cycle.result c.unsound_cycle.ensures (λ at e. e ∙ ends) (λ _ u. u)
