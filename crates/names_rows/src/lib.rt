@@ -12,6 +12,8 @@ use ipg_syntax::laws::reads_exactly;
 use std::alloc::Global;
 
 #[cfg(test)]
+mod sizes;
+#[cfg(test)]
 mod tests;
 
 /// What a text reads as; it meets the conditions of `resolve`.

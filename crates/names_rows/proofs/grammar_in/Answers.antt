@@ -5,4 +5,5 @@ pub returns-in-Ok : goal.returns-in-Ok
 returns-in-Ok c =
     let text = c.args.text.now in
     let reads = (c.reads_exactly.ensures text c.in-Ok.grammar).0 c.in-Ok.ensures in
-    c.formed_is_readable.ensures c.in-Ok.grammar (c.reads_formed.ensures text c.in-Ok.grammar reads) (grammar_short c.keeps_tokens.ensures text c.in-Ok.grammar reads)
+    c.formed_is_readable.ensures c.in-Ok.grammar (c.reads_formed.ensures text c.in-Ok.grammar reads)
+    (grammar_short c.keeps_tokens.ensures text c.in-Ok.grammar reads)
