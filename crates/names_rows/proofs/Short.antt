@@ -27,7 +27,8 @@ token_more : (t : Token) (r : Lexed) (ts : List Token) (n : ℕ) → ((us : List
 token_more t (Ok us) ts n f h = let e : t ∷ us ≡ ts = cc in omega (arith, f us refl, ap length e)
 token_more t (Err e) ts n f h = absurd (cc)
 
-front_short : (front : Front) (at n : ℕ) (rest : ℕ → Lexed) (ts : List Token) → ((more : ℕ) (us : List Token) → rest more ≡ Ok us → length us ≤ n) → beginning front at rest ≡ Ok ts → length ts ≤ suc n
+front_short : (front : Front) (at n : ℕ) (rest : ℕ → Lexed) (ts : List Token) → ((more : ℕ) (us : List Token) → rest more ≡ Ok us → length us ≤ n)
+    → beginning front at rest ≡ Ok ts → length ts ≤ suc n
 front_short Nothing at n rest ts f h = absurd (cc)
 front_short (Blank w) at n rest ts f h = omega (arith, f (w - 1) ts h)
 front_short (Large w) at n rest ts f h = absurd (large_none at (rest (w - 1)) ts h)
@@ -36,7 +37,8 @@ front_short (Begins kind w) at n rest ts f h = token_more _ (rest (w - 1)) ts n 
 lexed_short : (bs : List ℕ) (at skip : ℕ) (ts : List Token) → lexed at skip bs ≡ Ok ts → length ts ≤ length bs
 lexed_short [] at skip ts h = let e : [] ≡ ts = cc in omega (arith, ap length e)
 lexed_short (b ∷ bs) at (suc skip) ts h = omega (arith, lexed_short bs (at + 1) skip ts h)
-lexed_short (b ∷ bs) at zero ts h = front_short (front_at b bs) at (length bs) (λ more. lexed (at + 1) more bs) ts (λ more us e. lexed_short bs (at + 1) more us e) h
+lexed_short (b ∷ bs) at zero ts h =
+    front_short (front_at b bs) at (length bs) (λ more. lexed (at + 1) more bs) ts (λ more us e. lexed_short bs (at + 1) more us e) h
 
 tokens_short : (text : List ℕ) (ts : List Token) → tokens_of text ≡ Ok ts → length ts ≤ 2 ^ 20
 tokens_short text ts h = by (nat_lt (2 ^ 20) (length text)) refl h

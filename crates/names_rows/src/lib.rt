@@ -13,6 +13,8 @@ use ipg_syntax::laws::reads_exactly;
 use std::alloc::Global;
 
 #[cfg(test)]
+mod sizes;
+#[cfg(test)]
 mod tests;
 
 /// What a text reads as, which meets the conditions of `resolve`; or the first fault of the text, G1 to G5.

@@ -198,7 +198,7 @@ fn told(answer: &Result<Named, NameFault>) -> (u32, u32) {
 }
 
 /// The number and the place of the refusal of a text's names; (0, 0) where there is none, (1, 0) where the text is no grammar.
-fn refusal(alloc: Global, text: &[u8]) -> (u32, u32) {
+pub fn refusal(alloc: Global, text: &[u8]) -> (u32, u32) {
     match grammar_in(alloc, text) {
         Ok(g) => told(&resolve(alloc, &g)),
         Err(_) => (1, 0),
