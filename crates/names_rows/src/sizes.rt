@@ -1,5 +1,7 @@
 //! Texts of as many rules, and of as many terms that refer to one another, as a grammar may have.
 
+ghost use Rattle.std.specs.Prelude.{◌<◌};
+
 use crate::tests::refusal;
 use std::alloc::Global;
 use std::test::Fail;
@@ -19,7 +21,9 @@ struct Instead {
 }
 
 /// A rule that calls the next one and reads its attribute; the last one calls the first.
-fn put_rule(alloc: Global, text: &mut String, k: u32) -> Result<(), Fail> {
+fn put_rule(alloc: Global, text: &mut String, k: u32) -> Result<(), Fail>
+    requires { k < 1024 }
+{
     let next = (k + 1) % 1024;
     let calls = format!(in alloc; "R{k} -> R{next} ?(R{next}.n > 0) ")?;
     text.push_str(calls.as_str())?;
@@ -28,7 +32,9 @@ fn put_rule(alloc: Global, text: &mut String, k: u32) -> Result<(), Fail> {
 }
 
 /// An attribute that reads the one after it and the one before it, around the end.
-fn put_term(alloc: Global, text: &mut String, k: u32) -> Result<(), Fail> {
+fn put_term(alloc: Global, text: &mut String, k: u32) -> Result<(), Fail>
+    requires { k < 256 }
+{
     let after = (k + 1) % 256;
     let before = (k + 255) % 256;
     let reads = format!(in alloc; "a{k} = a{after} + a{before}")?;
