@@ -412,7 +412,7 @@ def answer(rules, data):
 # ---- random grammars
 
 ATTRS = ["n", "k", "len", "hi", "val"]
-NAMES = ["S", "A", "B", "_c", "D1", "endless", "EOI2", "Tail"]
+NAMES = ["S", "A", "B", "_c", "Dash", "endless", "EOI2", "Tail"]
 
 
 class Maker:

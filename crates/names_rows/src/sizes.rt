@@ -25,7 +25,7 @@ fn put_rule(alloc: Global, text: &mut String, k: u32) -> Result<(), Fail>
     requires { k < 1024 }
 {
     let next = (k + 1) % 1024;
-    let calls = format!(in alloc; "R{k} -> R{next} ?(R{next}.n > 0) ")?;
+    let calls = format!(in alloc; "Rule{k} -> Rule{next} ?(Rule{next}.n > 0) ")?;
     text.push_str(calls.as_str())?;
     text.push_str("{n = 1} ;\n")?;
     Ok(())
@@ -87,14 +87,14 @@ fn many_rules(rt: HostRuntime) -> Result<(), Fail> {
     let alloc = rt.alloc();
     let unknown = Instead {
         piece: 700,
-        text: "R700 -> Q {n = 1} ;\n",
+        text: "Rule700 -> Q {n = 1} ;\n",
     };
     let twice = Instead {
         piece: 1023,
-        text: "R5 -> \"\" ;\n",
+        text: "Rule5 -> \"\" ;\n",
     };
     assert_eq!(rt; told(alloc, &rules(alloc, None)?), (0, 0));
-    assert_eq!(rt; told(alloc, &rules(alloc, Some(unknown))?), (7, 8));
+    assert_eq!(rt; told(alloc, &rules(alloc, Some(unknown))?), (7, 11));
     assert_eq!(rt; told(alloc, &rules(alloc, Some(twice))?), (6, 0));
     Ok(())
 }
