@@ -77,9 +77,9 @@ fn terms(alloc: Global, instead: Option<Instead>) -> Result<Made, Fail> {
 }
 
 /// The refusal, its place counted from where the changed piece begins.
-fn told(alloc: Global, made: &Made) -> (u32, u32) {
+fn told(alloc: Global, made: &Made) -> (u32, u64) {
     let (number, at) = refusal(alloc, made.text.as_bytes());
-    (number, at.wrapping_sub(made.at as u32))
+    (number, u64::from(at).wrapping_sub(made.at as u64))
 }
 
 #[test]
