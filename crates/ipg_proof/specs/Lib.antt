@@ -1,0 +1,14 @@
+-- what a certificate's entries are checked against
+pub mod Calls
+-- their places
+pub mod Places
+-- when a certificate proves a grammar, and what is at fault in one that does not
+pub mod Proves
+-- what a certificate is worth
+pub mod Worth
+-- texts
+pub mod Texts
+-- what the parts inside promise each other
+pub mod Seen
+pub mod Reads
+pub mod Numbers
