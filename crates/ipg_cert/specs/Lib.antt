@@ -1,6 +1,7 @@
 -- What the public contracts rest on.
 pub mod Facts
 pub mod Checks
+pub mod Laws
 pub mod Words
 pub mod Texts
 pub mod Totals

@@ -5,6 +5,7 @@ mod checking;
 mod facts;
 mod goal;
 mod known;
+pub mod laws;
 mod pos;
 mod refutation;
 mod sum;

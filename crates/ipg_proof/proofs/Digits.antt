@@ -15,7 +15,7 @@ use Rattle.ipg_proof.specs.declared.reader.Halt.TheVariants.{Here, Memory}
 use Rattle.ipg_proof.specs.Numbers.{IsDigit, Begun, Goes, IsNoStart, IsDone, IsNumber, FirstAnswer, IsMore, NextAnswer, WithDigit}
 use Rattle.ipg_proof.specs.Reads.{IsFrom, AreAlone, Reads, Stops, any, always}
 use Rattle.ipg_proof.proofs.Readers.{Front, fronts, heads, tails, no_cons, here_is_no_memory, made_of, read_memory}
-use Rattle.ipg_proof.proofs.Apart.{all_back, all_join}
+use Rattle.ipg_proof.proofs.Lists.{all_back, all_join}
 
 pub all_digits : (n : ℕ) → n < 2 ^ 64 → AllByRecursion IsDigit (decimal n)
 all_digits n small = decimal_by_steps (λ k ds. AllByRecursion IsDigit ds)

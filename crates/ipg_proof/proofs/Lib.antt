@@ -1,9 +1,9 @@
 pub mod Places
 pub mod Found
-pub mod Apart
-pub mod Walks
+pub mod Lists
 pub mod Readers
 pub mod Digits
 pub mod Lines
 pub mod Whole
 pub mod Ends
+pub mod Worth

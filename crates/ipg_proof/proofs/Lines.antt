@@ -15,7 +15,7 @@ use Rattle.ipg_proof.specs.declared.reader.Halt.TheVariants.{Here}
 use Rattle.ipg_proof.specs.Texts.{number_text, refutation_line, edge_line, cycle_line, counted_text, IsShort, IsTree, IsEdgeEntry, IsCycleEntry}
 use Rattle.ipg_proof.specs.Reads.{Reads, Stops, AreAlone}
 use Rattle.ipg_proof.proofs.Readers.{heads, tails}
-use Rattle.ipg_proof.proofs.Apart.{all_join, all_weaker}
+use Rattle.ipg_proof.proofs.Lists.{all_join, all_weaker}
 use Rattle.ipg_proof.proofs.Digits.{all_digits}
 
 -- no line feed

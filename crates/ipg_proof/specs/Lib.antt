@@ -4,10 +4,10 @@ pub mod Calls
 pub mod Places
 -- when a certificate proves a grammar, and what is at fault in one that does not
 pub mod Proves
+-- what a certificate is worth
+pub mod Worth
 -- texts
 pub mod Texts
--- walks along edges
-pub mod Walks
 -- what the parts inside promise each other
 pub mod Seen
 pub mod Reads

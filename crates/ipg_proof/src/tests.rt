@@ -1,6 +1,6 @@
 //! Texts read and written again, and the places of faults.
 
-use crate::laws::long_walks_hold_cycles;
+use crate::laws::{accepts_is_total, proves_is_total};
 use crate::{CertFault, Certificate, cert_read, cert_text};
 use ipg_cert::{Refutation, Step};
 use ipg_num::List;
@@ -72,6 +72,7 @@ fn faults_are_at_their_first_byte(rt: HostRuntime) -> Result<(), Fail> {
     for row in rows {
         assert_eq!(rt; fault_at(alloc, row.0), Some(row.1));
     }
-    long_walks_hold_cycles();
+    proves_is_total();
+    accepts_is_total();
     Ok(())
 }
