@@ -1,13 +1,17 @@
 """Random grammars over the whole language and inputs: the program's answer against a small evaluator, written from
-docs/MEANING.md. Repetitions aren't among them, since no text has one yet.
+docs/MEANING.md. Repetitions aren't among them; the cases of vectors.py have them.
 
-  random_grammars.py COMMAND [COUNT [SEED]]
+  random_grammars.py COMMAND [COUNT [CHECKED [SEED]]]
 
-COMMAND parse G FILE is run for each pair; the first that differs is printed, and ends the script with status 1.
+COMMAND parse G FILE is run for COUNT grammars whose calls go on to later rules, each with an input. Then CHECKED
+grammars whose calls go anywhere are checked: of those accepted the certificate is verified and inputs are parsed, of
+those refused the edges must be calls that lead into one another. The first that differs is printed, and ends the script
+with status 1.
 """
 
 import os
 import random
+import re
 import subprocess
 import sys
 import tempfile
@@ -161,9 +165,10 @@ class Grammar:
         self.numbers = {rule.name: r for r, (rule, _) in enumerate(self.entries)}
         self.alts = [[completed(alt.terms) for alt in rule.alts] for rule, _ in self.entries]
         self.orders = [[self.order(r, a, terms) for a, terms in enumerate(alts)] for r, alts in enumerate(self.alts)]
-        for r, alts in enumerate(self.alts):
-            if any(self.numbers.get(sym, r + 1) <= r for terms in alts for term in terms for sym in symbols(term)):
-                raise Refused("Later")
+
+    def callee(self, r, a, u, b):
+        """The rule that a term's branch calls."""
+        return self.numbers[symbols(self.alts[r][a][u])[b]]
 
     def reads(self, r):
         """The holder's attributes that a local rule reads, itself or through other local rules."""
@@ -416,46 +421,44 @@ NAMES = ["S", "A", "B", "_c", "Dash", "endless", "EOI2", "Tail"]
 
 
 class Maker:
-    """Makes a grammar from the last rule to the first, so that calls go on to what is there."""
+    """Makes a grammar whose calls go on to later rules, or anywhere."""
 
-    def __init__(self, rng):
-        self.rng = rng
+    def __init__(self, rng, anywhere=False):
+        self.rng, self.anywhere = rng, anywhere
         self.names = rng.sample(NAMES, len(NAMES))
         self.attrs = {**{p: ["val"] for p in WIDTHS if p[1:3] != "64"}, "U64LE": ["hi", "lo"], "U64BE": ["hi", "lo"], "Bytes": []}
 
     def pick(self, *choices):
         return self.rng.choice(choices)
 
-    def grammar(self):
-        later, rules = [], []
-        for _ in range(self.rng.randint(1, 4)):
-            if not self.names:
-                break
-            rule = self.rule(self.names.pop(), later, None)
-            if self.rng.random() < 0.01:
-                rule.alts[-1].terms.append(Slot(self.pick(rule.name, *later), ()))
-            later.append(rule.name)
-            rules.insert(0, rule)
-        return rules
+    def named(self, count):
+        """Names, each with the attributes that all alternatives of its rule will have."""
+        names = [self.names.pop() for _ in range(min(count, len(self.names)))]
+        for name in names:
+            self.attrs[name] = self.rng.sample(ATTRS, self.pick(0, 0, 1, 2))
+        return names
 
-    def rule(self, name, later, holder):
-        self.attrs[name] = self.rng.sample(ATTRS, self.pick(0, 0, 1, 2))
-        return Rule(name, [self.alt(self.attrs[name], later, holder) for _ in range(self.rng.randint(1, 3))])
+    def grammar(self):
+        return self.rules(self.named(self.rng.randint(1, 4)), [], None)
+
+    def rules(self, names, others, holder):
+        """The rules of these names, which may call others too."""
+        made = []
+        for at, name in enumerate(names):
+            callees = (names if self.anywhere else names[at + 1:]) + others
+            made.append(Rule(name, [self.alt(self.attrs[name], callees, holder) for _ in range(self.rng.randint(1, 3))]))
+        return made
 
     def alt(self, attrs, later, holder):
         own = list(dict.fromkeys(attrs + (self.rng.sample(ATTRS, 1) if self.rng.random() < 0.2 else [])))
-        local = self.locals(later, own) if holder is None and self.names and self.rng.random() < 0.25 else []
+        local = []
+        if holder is None and self.names and self.rng.random() < 0.25:
+            local = self.rules(self.named(self.pick(1, 1, 2)), later, own)
         syms = 3 * ([rule.name for rule in local] + later) + [*WIDTHS, "U8", "U8", "Bytes"]
         plan = [self.shape(syms) for _ in range(self.rng.randint(1, 3))] + [Set(a, None) for a in own]
         self.rng.shuffle(plan)
         plan = [t for t in plan if not (isinstance(t, Array) and t.var in own)] or [Test(None)]
         return Alt([self.filled(plan, u, holder or []) for u in range(len(plan))], local)
-
-    def locals(self, later, outer):
-        made = []
-        for _ in range(min(len(self.names), self.pick(1, 1, 2))):
-            made.insert(0, self.rule(self.names.pop(), [rule.name for rule in made] + later, outer))
-        return made
 
     def sym(self, syms):
         token = bytes(self.pick(97, 97, 98, 0, 34, 92) for _ in range(self.pick(0, 1, 1, 1, 2)))
@@ -617,12 +620,16 @@ def is_range(due):
 WANTED = [lambda due: True, has_lines(2), lambda due: due[0] < 2, has_lines(4), has_lines(6)]
 
 
+def random_input(rng):
+    return bytes(rng.choice([97, 97, 98, 0, 1, 2, 3, 34, 92, 255]) for _ in range(rng.randrange(9)))
+
+
 def random_case(rng, is_wanted):
     """A grammar, an input and the answer, which is one that is wanted."""
     while True:
         rules = Maker(rng).grammar()
         for _ in range(6):
-            data = bytes(rng.choice([97, 97, 98, 0, 1, 2, 3, 34, 92, 255]) for _ in range(rng.randrange(9)))
+            data = random_input(rng)
             try:
                 due = answer(rules, data)
             except TooLong:
@@ -631,27 +638,110 @@ def random_case(rng, is_wanted):
                 return rules, data, due
 
 
-def main(command, count=300, seed=1):
-    rng = random.Random(seed)
+class Program:
+    """The program, with a folder for its files."""
+
+    def __init__(self, command, folder):
+        self.command, self.folder = command, folder
+
+    def file(self, name, data):
+        path = os.path.join(self.folder, name)
+        with open(path, "wb") as out:
+            out.write(data)
+        return path
+
+    def run(self, *words):
+        """The status, negative where a signal ended it, and the text."""
+        run = subprocess.run([self.command, *words], stdout=subprocess.PIPE, stdin=subprocess.DEVNULL, timeout=120)
+        return run.returncode, run.stdout.decode("latin-1")
+
+
+def parses(program, rng, count):
+    """Grammars whose calls go on, against the evaluator; how many ended with each status."""
     seen = {0: 0, 1: 0, 2: 0, 3: 0}
+    for case in range(count):
+        rules, data, due = random_case(rng, is_range if case % 30 == 0 else WANTED[case % len(WANTED)])
+        text = Writer(rng).grammar(rules)
+        got = program.run("parse", program.file("g", text.encode()), program.file("f", data))
+        if got != due:
+            raise Differs("parse", text, data, got, due)
+        seen[due[0]] += 1
+    return seen
+
+
+class Differs(Exception):
+    """What was run, the grammar, the input, and two answers."""
+
+
+EDGE = re.compile(r"(\w+)/(\d+)/(\d+)/(\d+)")
+
+
+def is_loop(grammar, line):
+    """Whether the line tells calls of the grammar that lead into one another, from the rule of least number on."""
+    told = re.fullmatch(r"refused G13 MayLoop EOI=(0|[1-9]\d*)((?: \w+/\d+/\d+/\d+)+)\n", line)
+    if told is None or int(told.group(1)) > 2 ** 30:
+        return False
+    edges = [(grammar.numbers[name], int(a), int(u), int(b)) for name, a, u, b in EDGE.findall(told.group(2))]
+    callers = [edge[0] for edge in edges]
+    return callers[0] == min(callers) and len(set(callers)) == len(callers) \
+        and [grammar.callee(*edge) for edge in edges] == callers[1:] + callers[:1]
+
+
+def agrees(program, rng, rules, text, g):
+    """An accepted grammar: its certificate proves it, and inputs are parsed as the evaluator says."""
+    status, certificate = program.run("cert", g)
+    got = program.run("verify", g, program.file("c", certificate.encode("latin-1")))
+    if status != 0 or got != (0, "verified\n"):
+        raise Differs("cert, verify", text, certificate, got, (0, "verified\n"))
+    for number in range(20):
+        data = random_input(rng)
+        got = program.run("parse", g, program.file("f", data))
+        try:
+            due = answer(rules, data) if number < 4 else None
+        except TooLong:
+            due = None
+        if got != due if due else got[0] not in (0, 1, 3):
+            raise Differs("parse", text, data, got, due)
+
+
+def checks(program, rng, count):
+    """Grammars whose calls go anywhere; how many were accepted, and refused by G13."""
+    accepted = loops = 0
+    for _ in range(count):
+        rules = Maker(rng, True).grammar()
+        text = Writer(rng).grammar(rules)
+        g = program.file("g", text.encode())
+        got = program.run("check", g)
+        try:
+            grammar = Grammar(rules)
+        except Refused as why:
+            if got != (2, "refused %s\n" % why):
+                raise Differs("check", text, None, got, str(why))
+            continue
+        if got == (0, "accepted\n"):
+            accepted += 1
+            agrees(program, rng, rules, text, g)
+        elif got[0] == 2 and is_loop(grammar, got[1]) and program.run("parse", g, g) == got:
+            loops += 1
+        else:
+            raise Differs("check", text, None, got, "accepted, or a cycle of calls")
+    return accepted, loops
+
+
+def main(command, count=300, checked=1000, seed=1):
+    rng = random.Random(seed)
     with tempfile.TemporaryDirectory() as folder:
-        g, f = os.path.join(folder, "g"), os.path.join(folder, "f")
-        for case in range(count):
-            rules, data, due = random_case(rng, is_range if case % 30 == 0 else WANTED[case % len(WANTED)])
-            text = Writer(rng).grammar(rules)
-            with open(g, "wb") as out:
-                out.write(text.encode())
-            with open(f, "wb") as out:
-                out.write(data)
-            run = subprocess.run([command, "parse", g, f], stdout=subprocess.PIPE, stdin=subprocess.DEVNULL)
-            got = run.returncode, run.stdout.decode("latin-1")
-            if got != due:
-                print("random: case %d differs\n%s\ninput %r\n  got %r\n  due %r" % (case, text, data, got, due))
-                return 1
-            seen[due[0]] += 1
+        program = Program(command, folder)
+        try:
+            seen = parses(program, rng, count)
+            accepted, loops = checks(program, rng, checked)
+        except Differs as found:
+            print("random: %s differs\n%s\ninput %r\n  got %r\n  due %r" % found.args)
+            return 1
     print("random: %d grammars agree: %d trees, %d without, %d refused, %d out of range"
           % (count, seen[0], seen[1], seen[2], seen[3]))
-    return 0 if min(seen.values()) > 0 else 1
+    print("random: of %d whose calls go anywhere %d are accepted, %d may loop" % (checked, accepted, loops))
+    return 0 if min(seen[0], seen[1], seen[3], accepted, loops) > 0 else 1
 
 
 if __name__ == "__main__":

@@ -3,6 +3,7 @@
 # A program that is not installed is left out.
 set -u
 cd "$(dirname "$0")/../../crates/show_sample" || exit 1
+. ../../.ci/skips.sh
 dir=$(mktemp -d) || exit 1
 trap 'rm -rf "$dir"' EXIT
 failed=0
@@ -11,7 +12,10 @@ failed=0
 want() {
   local name=$1 text=$2
   shift 2
-  command -v "$1" >/dev/null || return 0
+  command -v "$1" >/dev/null || {
+    skip "formats-$1" "$1"
+    return 0
+  }
   if "$@" 2>/dev/null | grep -q -- "$text"; then
     echo "formats: $1 reads the sample $name"
   else
@@ -29,8 +33,8 @@ done
 sed "s|  |  $dir/|" <<'SUMS' | sha256sum --check --quiet || failed=1
 b26a65a7031b66ddaa6fd5c56c4af59e4a12592c8d4b0fe1d0f8f343302fad03  elf.ipg
 86d354cbf9b57f039be692d4db5175eaa603127ce0186c1f5aaa4aae4166988c  pe.ipg
-3639153cd22475fcfc6110202383924cceac8243b0a406a6ea134f1a6ffe6cc4  gif.ipg
-def553fc404d5f01df416e718efa7dcaa7c04511f81bf917ab71c04e2ae07c86  pcap.ipg
+9c3f0d62b763551908ec3479fb6366ffdcf72c9336422c699cedb5623aa51205  gif.ipg
+9af888c87b12879fd47b26d0d68b20942a94fc0ec6fd03085f980ba166304bf8  pcap.ipg
 SUMS
 
 want elf 'ELF 64-bit LSB executable, x86-64' file "$dir/elf"

@@ -2,8 +2,13 @@
 # Refuses each request for memory in turn: the program ends with 7 and says nothing, or answers as ever.
 set -u
 cd "$(dirname "$0")/../.." || exit 1
+top=$PWD
+. .ci/skips.sh
+. dist/sources.sh
+./ipg fmt crates/ipg_app/data/row.ipg >/dev/null || exit 1
+is_built || program=dist/ipg
 command -v cc >/dev/null || {
-  echo "memory: skipped, for want of a C compiler"
+  skip memory "a C compiler"
   exit 0
 }
 folder=$(mktemp -d) || exit 1
@@ -15,6 +20,8 @@ A -> "b" / L {k = 1} where { L -> "c" ?(k) ; } ;
 B -> switch { case (EOI == 1) "\x61" else Bytes } ;
 END
 printf 'ac' >"$folder/input"
+echo 'L -> I[0,EOI] L[I.end,EOI] / "" ; I -> "x" ;' >"$folder/list"
+printf 'ipgcert 2\ndead 1\n1 c 3 1 9 1 10 1 12\ncycles 0\n' >"$folder/cert"
 
 # each WORDS..: runs the program with these words once for each request, up to the first run that refuses none.
 each() {
@@ -22,9 +29,13 @@ each() {
   due=$(./ipg "$@") || return 1
   while true; do
     number=$((number + 1))
-    REFUSED=$number LD_PRELOAD="$folder/refuse.so" crates/ipg_app/out/ipg_app "$@" >"$folder/out" 2>"$folder/err"
+    REFUSED=$number LD_PRELOAD="$folder/refuse.so" "$program" "$@" >"$folder/out" 2>"$folder/err"
     status=$?
     [ -s "$folder/err" ] || break
+    if [ "$(cat "$folder/err")" != refused ]; then
+      echo "memory: $*: request $number: $(head -n 1 "$folder/err")"
+      return 1
+    fi
     if [ "$status" -eq 7 ] && [ ! -s "$folder/out" ]; then
       refused=$((refused + 1))
     elif [ "$status" -ne 0 ] || [ "$(cat "$folder/out")" != "$due" ]; then
@@ -41,4 +52,7 @@ each() {
 
 each parse crates/ipg_app/data/row.ipg crates/ipg_app/data/row.bin &&
   each parse "$folder/g" "$folder/input" &&
-  each fmt "$folder/g"
+  each fmt "$folder/g" &&
+  each check "$folder/list" &&
+  each cert "$folder/list" &&
+  each verify "$folder/list" "$folder/cert"

@@ -24,6 +24,18 @@ expect() {
 echo 'S -> Bytes ;' >"$folder/bytes.ipg"
 echo 'S -> T ;' >"$folder/name.ipg"
 echo 'S -> S[0, EOI] ;' >"$folder/loop.ipg"
+echo 'L -> I[0,EOI] L[I.end,EOI] / "" ; I -> "x" ;' >"$folder/list.ipg"
+echo 'L -> I[0,EOI] L[I.end,EOI] / "" ; I -> "x" / "" ;' >"$folder/blank.ipg"
+echo 'Int -> Int[0, EOI - 1] Digit[EOI - 1, EOI] / Digit[0, 1] ; Digit -> U8 ?(U8.val >= 48 && U8.val <= 57) ;' >"$folder/int.ipg"
+printf '42' >"$folder/42"
+printf 'ipgcert 2\ndead 1\n1 c 3 1 9 1 10 1 12\ncycles 0\n' >"$folder/list.cert"
+printf 'ipgcert 2\ndead 1\n1 c 3 2 9 1 10 1 12\ncycles 0\n' >"$folder/unsound.cert"
+printf 'ipgcert 2\ndead 0\ncycles 0\n' >"$folder/none.cert"
+echo 'S -> many U8 Bytes ;' >"$folder/many.ipg"
+echo 'S -> many A ; A -> Bytes ;' >"$folder/loose.ipg"
+echo 'S -> many S / "x" ;' >"$folder/itself.ipg"
+echo 'S -> "x" many S[1, EOI] ;' >"$folder/further.ipg"
+echo 'S->many A[1,EOI];A->U8;' >"$folder/spaces.ipg"
 truncate -s $((2 ** 30 + 1)) "$folder/long"
 : >"$folder/closed"
 chmod 000 "$folder/closed"
@@ -34,7 +46,33 @@ expect 1 $'no parse\n' parse "$grammar" "$folder/empty"
 expect 0 $'0 S 0 2 start=0 end=2\n1 Bytes 0 2 6162\n' parse "$folder/bytes.ipg" "$input"
 expect 2 $'refused G7 UnknownRule 5\n' parse "$folder/name.ipg" "$input"
 expect 0 $'S -> T ;\n' fmt "$folder/name.ipg"
-expect 2 $'refused Later\n' parse "$folder/loop.ipg" "$input"
+expect 2 $'refused G13 MayLoop EOI=0 S/0/0/0\n' check "$folder/loop.ipg"
+expect 2 $'refused G13 MayLoop EOI=0 S/0/0/0\n' cert "$folder/loop.ipg"
+expect 2 $'refused G13 MayLoop EOI=0 S/0/0/0\n' parse "$folder/loop.ipg" "$folder/absent"
+expect 2 $'refused G13 MayLoop EOI=0 L/0/1/0\n' check "$folder/blank.ipg"
+expect 2 $'refused G7 UnknownRule 5\n' check "$folder/name.ipg"
+expect 2 $'refused G7 UnknownRule 5\n' verify "$folder/name.ipg" "$folder/absent"
+for name in "$grammar" "$folder/list.ipg" "$folder/int.ipg"; do
+  expect 0 $'accepted\n' check "$name"
+  ./ipg cert "$name" >"$folder/cert"
+  expect 0 $'verified\n' verify "$name" "$folder/cert"
+done
+expect 0 $'0 Int 0 2 start=0 end=2\n1 Int 0 1 start=0 end=1\n2 Digit 0 1 start=0 end=1\n3 U8 0 1 val=52\n1 Digit 1 2 start=1 end=2\n2 U8 1 2 val=50\n' parse "$folder/int.ipg" "$folder/42"
+expect 0 $'verified\n' verify "$folder/list.ipg" "$folder/list.cert"
+expect 9 $'refused C1 CertText 0\n' verify "$folder/list.ipg" "$folder/empty"
+expect 9 $'refused C2 Mismatch 0\n' verify "$folder/list.ipg" "$folder/none.cert"
+expect 9 $'refused C3 Unsound 0\n' verify "$folder/list.ipg" "$folder/unsound.cert"
+expect 0 $'0 S 0 2 start=0 end=2\n1 many U8 2\n2 U8 0 1 val=97\n2 U8 1 2 val=98\n1 Bytes 2 2 -\n' parse "$folder/many.ipg" "$input"
+expect 2 $'refused G14 NoTouch S 0 0\n' check "$folder/loose.ipg"
+expect 2 $'refused G14 NoTouch S 0 0\n' check "$folder/itself.ipg"
+expect 0 $'accepted\n' check "$folder/further.ipg"
+expect 0 $'S -> many A [ 1 , EOI ] ;\nA -> U8 ;\n' fmt "$folder/spaces.ipg"
+for kind in elf pe gif pcap; do
+  expect 0 $'accepted\n' check "@$kind"
+  ./ipg cert "@$kind" >"$folder/cert"
+  expect 0 $'verified\n' verify "@$kind" "$folder/cert"
+done
+expect 5 $'read fault\n' check @x
 expect 2 $'refused G4 Syntax 0\n' parse "$folder/empty" "$input"
 expect 2 $'refused G4 Syntax 0\n' fmt "$folder/empty"
 expect 2 $'refused G1 TooLong\n' parse "$folder/long" "$input"
@@ -43,13 +81,20 @@ expect 0 $'S -> "ab" [ 0 , 2 ] ;\n' fmt "$grammar"
 expect 0 $'S -> Bytes ;\n' fmt /dev/stdin < <(cat "$folder/bytes.ipg")
 expect 4 $'usage\n' parse
 expect 4 $'usage\n' fmt "$grammar" "$input"
+expect 4 $'usage\n' parse --help
+expect 4 $'usage\n' parse "$grammar" "$input" --arena 0
+expect 4 $'usage\n' parse "$grammar" "$input" --memo maybe
+expect 0 "$tree" parse --memo=off --arena 4096 "$grammar" -- "$input"
 for name in "$folder/absent" "$folder" "$folder/closed"; do
   [ -f "$name" ] && [ -r "$name" ] && continue
   expect 5 $'read fault\n' parse "$name" "$input"
   expect 5 $'read fault\n' parse "$grammar" "$name"
   expect 5 $'read fault\n' fmt "$name"
+  expect 5 $'read fault\n' check "$name"
+  expect 5 $'read fault\n' verify "$grammar" "$name"
 done
 expect 8 $'too large\n' parse "$grammar" "$folder/long"
+expect 8 $'too large\n' verify "$grammar" "$folder/long"
 
 ./ipg parse "$grammar" "$input" >/dev/full
 if [ $? -ne 6 ]; then

@@ -8,6 +8,6 @@ fn the_built_in_grammars_are_read_whole(rt: HostRuntime) {
     let alloc = rt.alloc();
     assert_eq!(rt; count(alloc, text(Kind::Elf)), 777);
     assert_eq!(rt; count(alloc, text(Kind::Pe)), 386);
-    assert_eq!(rt; count(alloc, text(Kind::Gif)), 244);
-    assert_eq!(rt; count(alloc, text(Kind::Pcap)), 638);
+    assert_eq!(rt; count(alloc, text(Kind::Gif)), 242);
+    assert_eq!(rt; count(alloc, text(Kind::Pcap)), 633);
 }

@@ -1,5 +1,7 @@
 pub mod Written
 pub mod Settling
-pub mod Forward
 pub mod Stages
 pub mod OneCore
+pub mod Flat
+pub mod OneCheck
+pub mod OneVerdict

@@ -1,21 +1,26 @@
 -- What is settled, step by step.
-use Rattle.std.proofs.Common.{◌≡◌, ℕ, ◌≤◌, ◌<◌, inl, inr, List, length, false, cond, nat_le, Result, Ok, Err, refl, sym, subst, ap, ◌∙◌, arith}
+use Rattle.std.proofs.Common.{◌≡◌, ℕ, ◌≤◌, ◌<◌, inl, inr, List, length, true, false, cond, nat_le, Result, Ok, Err, Option, Some, None, refl, sym, subst, ap, ◌∙◌, arith}
 use Rattle.std.proofs.lemmas.Bool.Decides.{nat_tests}
 use Rattle.ipg_outside.specs.Files.{Told, MayHold}
 use Rattle.ipg_ast.specs.declared.grammar.Grammar as written
 use Rattle.ipg_app.specs.Said.{Said, too_large}
 use Rattle.ipg_core.specs.Grammar.{Grammar}
 use Rattle.ipg_app.specs.CoreOf.{Answer, On, grammar_in, CoreFrom, CoreOf}
-use Rattle.ipg_app.specs.Later.{only_forward}
+use Rattle.ipg_app.specs.Checks.{Checks}
 use Rattle.ipg_app.specs.Order.{Order, says, finds, reads, Answers, Turn, have}
-use Rattle.ipg_app.specs.Reply.{input_in, grammar_under, core_under, parse, parse_input, max_input}
+use Rattle.ipg_formats.specs.declared.Kind.{Kind}
+use Rattle.ipg_formats.specs.Names.{kind_of}
+use Rattle.ipg_formats.specs.Text.{text_of}
+use Rattle.ipg_app.specs.Reply.{input_in, text_by, grammar_of, core_of, grammar_under, core_under, accepted, max_input}
 use Rattle.ipg_app.specs.Run.{Settles}
-use Rattle.ipg_app.specs.Found.{Found, silence, parse_by}
+use Rattle.ipg_app.specs.Found.{Found, FoundCore, grammar_in_file, core_in_file, silence}
 use Rattle.ipg_app.proofs.Written.{later}
 
--- what follows of a core grammar, or of what refuses it
-abbrev next : List ℕ → Answer → Order
-next name answer = have answer (λ core. have (only_forward core) (λ forward. parse_input forward name))
+of_text : {told : Told} {g : written.Grammar} (found : Found told g) (answer : Answer) → CoreFrom g answer → CoreOf found.text answer
+of_text found answer h = subst (λ r. On r CoreFrom answer) (sym found.reads) h
+
+pub found_core : {told : Told} {g : written.Grammar} (core : Grammar) → Found told g → CoreFrom g (Ok core) → FoundCore told core
+found_core core found h = record { text = found.text; held = found.held; core = of_text found (Ok core) h }
 
 module _ (told : List ℕ → Told) (before after : List ℕ → ℕ) where
   abbrev Settled : Order → Said → Type 0
@@ -27,38 +32,90 @@ module _ (told : List ℕ → Told) (before after : List ℕ → ℕ) where
   goes_on name next said bytes held (inl a) = inl (inr (bytes, held, a))
   goes_on name next said bytes held (inr f) = inr (record { name = f.name; turn = inr (bytes, held, f.turn); rose = f.rose; is = f.is })
 
+  by_text : (k m : Option Kind) → m ≡ k → (name : List ℕ) (next : List ℕ → Order) (said : Said) → Settled (text_by k name next) said
+      → Settled (text_by m name next) said
+  by_text k m e name next said h = subst (λ k. Settled (text_by k name next) said) (sym e) h
+
+  -- the text under a name is that of the grammar that has the name
+  pub named_on : (kind : Kind) (name : List ℕ) (next : Grammar → Order) (said : Said) → kind_of name ≡ Some kind
+      → Settled (core_of (text_of kind) next) said → Settled (core_under name next) said
+  named_on kind name next said e h = by_text (Some kind) (kind_of name) e name (λ text. core_of text next) said h
+
+  -- of a name that none has it is a file's
+  pub file_on : (name : List ℕ) (next : Grammar → Order) (said : Said) → kind_of name ≡ None → Settled (core_in_file name next) said
+      → Settled (core_under name next) said
+  file_on name next said e h = by_text None (kind_of name) e name (λ text. core_of text next) said h
+
+  pub named_grammar_on : (kind : Kind) (name : List ℕ) (next : written.Grammar → Order) (said : Said) → kind_of name ≡ Some kind
+      → Settled (grammar_of (text_of kind) next) said → Settled (grammar_under name next) said
+  named_grammar_on kind name next said e h = by_text (Some kind) (kind_of name) e name (λ text. grammar_of text next) said h
+
+  pub file_grammar_on : (name : List ℕ) (next : written.Grammar → Order) (said : Said) → kind_of name ≡ None → Settled (grammar_in_file name next) said
+      → Settled (grammar_under name next) said
+  file_grammar_on name next said e h = by_text None (kind_of name) e name (λ text. grammar_of text next) said h
+
+  -- the core grammar of a text leads on
+  pub core_goes_on : (text : List ℕ) (next : Grammar → Order) (said : Said) (g : Grammar) → CoreOf text (Ok g) → Settled (next g) said
+      → Settled (core_of text next) said
+  core_goes_on text next said g h (inl a) = inl (Ok g, h, a)
+  core_goes_on text next said g h (inr f) = inr (record { name = f.name; turn = (Ok g, h, f.turn); rose = f.rose; is = f.is })
+
+  pub core_refused : (text : List ℕ) (next : Grammar → Order) (said : Said) → CoreOf text (Err said) → Settled (core_of text next) said
+  core_refused text next said h = inl (Err said, h, refl)
+
   -- a step settles what is said
   pub settles_by : {A : Type 0} (r : Result A Said) (next : A → Order) (said x : Said) → r ≡ Err x → said ≡ x → Settled (have r next) said
   settles_by (Ok a) next said x e f = absurd (cc)
   settles_by (Err y) next said x e f = inl (let same : said ≡ y = cc in same)
 
-  -- what is more often so leads on too
-  wider : {A : Type 0} (P Q : A → Type 0) (next : A → Order) (said : Said) → ((a : A) → P a → Q a) → Settled (finds P next) said
-      → Settled (finds Q next) said
-  wider P Q next said more (inl (a, p, h)) = inl (a, more a p, h)
-  wider P Q next said more (inr f) = inr (record {
+  -- the core grammar found leads on
+  pub core_on : (name : List ℕ) (next : Grammar → Order) (said : Said) (g : Grammar) → FoundCore (told name) g → Settled (next g) said
+      → Settled (core_in_file name next) said
+  core_on name next said g found (inl a) = inl (inr (found.text, found.held, (Ok g, found.core, a)))
+  core_on name next said g found (inr f) = inr (record {
     name = f.name;
-    turn = (f.turn.0, more f.turn.0 f.turn.1, f.turn.2);
+    turn = inr (found.text, found.held, (Ok g, found.core, f.turn));
     rose = f.rose;
     is = f.is;
   })
 
-  -- the grammar found leads on to what its text leads on to
-  pub core_on : (grammar name : List ℕ) (said : Said) (g : written.Grammar) → Found (told grammar) g → Settled (parse_by g name) said
-      → Settled (parse grammar name) said
-  core_on grammar name said g found h =
-      let text = found.text in
-      let more : (answer : Answer) → CoreFrom g answer → CoreOf text answer = λ answer p. subst (λ r. On r CoreFrom answer) (sym found.reads) p in
-      let wide = wider (CoreFrom g) (CoreOf text) (next name) said more h in
-      goes_on grammar (λ t. finds (CoreOf t) (next name)) said text found.held wide
+  silent : (r : Answer) (n : List ℕ) → Turn told (have r (λ g. silence)) n → ⊥
+  silent (Ok g) n t = t
+  silent (Err x) n t = t
+
+  -- what is said before there is one
+  pub no_core_on : (name : List ℕ) (next : Grammar → Order) (said : Said) → Settled (core_in_file name (λ g. silence)) said
+      → Settled (core_in_file name next) said
+  no_core_on name next said (inl (inl a)) = inl (inl a)
+  no_core_on name next said (inl (inr (bytes, held, (Ok g, core, a)))) = absurd a
+  no_core_on name next said (inl (inr (bytes, held, (Err x, core, a)))) = inl (inr (bytes, held, (Err x, core, a)))
+  no_core_on name next said (inr f) = by f.turn
+    where
+      by : Turn told (core_in_file name (λ g. silence)) f.name → Settled (core_in_file name next) said
+      by (inl e) = inr (record { name = f.name; turn = inl e; rose = f.rose; is = f.is })
+      by (inr (bytes, held, (answer, core, t))) = absurd (silent answer f.name t)
+
+  -- a text whose grammar has no core grammar
+  pub refused_core : (name : List ℕ) (next : Grammar → Order) (said : Said) (g : written.Grammar) → Found (told name) g → CoreFrom g (Err said)
+      → Settled (core_in_file name next) said
+  refused_core name next said g found h = inl (inr (found.text, found.held, (Err said, of_text found (Err said) h, refl)))
+
+  -- parsing ends by the grammar
+  pub accepted_on : (g same : Grammar) (next : Grammar → Order) (said : Said) → Checks g (Ok same) → Settled (next same) said
+      → Settled (accepted g next) said
+  accepted_on g same next said h (inl a) = inl (Ok same, h, a)
+  accepted_on g same next said h (inr f) = inr (record { name = f.name; turn = (Ok same, h, f.turn); rose = f.rose; is = f.is })
+
+  pub not_accepted : (g : Grammar) (next : Grammar → Order) (said : Said) → Checks g (Err said) → Settled (accepted g next) said
+  not_accepted g next said h = inl (Err said, h, refl)
 
   -- what a text that is no grammar settles
-  pub refused_on : (name : List ℕ) (next : Grammar → Order) (said : Said) → Settled (grammar_under name (λ g. silence)) said
-      → Settled (core_under name next) said
+  pub refused_on : (name : List ℕ) (next : Grammar → Order) (said : Said) → Settled (grammar_in_file name (λ g. silence)) said
+      → Settled (core_in_file name next) said
   refused_on name next said (inl (inl a)) = inl (inl a)
   refused_on name next said (inl (inr (bytes, held, a))) = by (grammar_in bytes) refl a
     where
-      by : (r : Result written.Grammar Said) → grammar_in bytes ≡ r → Answers told (have r (λ g. silence)) said → Settled (core_under name next) said
+      by : (r : Result written.Grammar Said) → grammar_in bytes ≡ r → Answers told (have r (λ g. silence)) said → Settled (core_in_file name next) said
       by (Ok g) e a = absurd a
       by (Err x) e a = inl (inr (bytes, held, (Err x, subst (λ r. On r CoreFrom (Err x)) (sym e) refl, a)))
   refused_on name next said (inr f) = by f.turn
@@ -67,7 +124,7 @@ module _ (told : List ℕ → Told) (before after : List ℕ → ℕ) where
       none (Ok g) n t = t
       none (Err x) n t = t
 
-      by : Turn told (grammar_under name (λ g. silence)) f.name → Settled (core_under name next) said
+      by : Turn told (grammar_in_file name (λ g. silence)) f.name → Settled (core_in_file name next) said
       by (inl e) = inr (record { name = f.name; turn = inl e; rose = f.rose; is = f.is })
       by (inr (bytes, held, t)) = absurd (none (grammar_in bytes) f.name t)
 
@@ -98,3 +155,12 @@ module _ (told then : List ℕ → Told) (same : (n : List ℕ) → then n ≡ t
 -- an input that is too long
 pub input_too_long : (bytes : List ℕ) → max_input < length bytes → input_in bytes ≡ Err too_large
 input_too_long bytes h = ap (λ b. cond b (Ok bytes) (Err too_large)) (let e : nat_le (length bytes) max_input ≡ false = grind (arith, nat_tests) in e)
+
+-- an input that isn't
+input_fits : (bytes : List ℕ) → length bytes ≤ max_input → input_in bytes ≡ Ok bytes
+input_fits bytes h = ap (λ b. cond b (Ok bytes) (Err too_large)) (let e : nat_le (length bytes) max_input ≡ true = grind (arith, nat_tests) in e)
+
+pub read_on : (told : List ℕ → Told) (before after : List ℕ → ℕ) (name : List ℕ) (next : List ℕ → Order) (said : Said) (bytes : List ℕ)
+    → MayHold (told name) bytes → length bytes ≤ max_input → Answers told (next bytes) said → Settles told before after (reads name (λ b. have (input_in b) next)) said
+read_on told before after name next said bytes held fits a =
+    goes_on told before after name (λ b. have (input_in b) next) said bytes held (inl (subst (λ r. Answers told (have r next) said) (sym (input_fits bytes fits)) a))

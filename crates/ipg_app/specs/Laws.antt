@@ -1,7 +1,23 @@
 -- What holds of core grammars and refusals.
-use Rattle.std.specs.Prelude.{◌≡◌, ℕ, List}
+use Rattle.std.specs.Prelude.{◌≡◌, ◌≢◌, ℕ, List}
+use Rattle.ipg_outside.specs.Files.{Told, untold}
+use Rattle.ipg_core.specs.Grammar.{Grammar}
+use Rattle.ipg_words.specs.Request.{Check}
+use Rattle.ipg_app.specs.Said.{Said}
+use Rattle.ipg_app.specs.Order.{Answers}
+use Rattle.ipg_app.specs.Reply.{use_order}
 use Rattle.ipg_app.specs.CoreOf.{Answer, CoreOf}
+use Rattle.ipg_app.specs.Checks.{Checks}
 
 -- a text has one core grammar, or is refused in one way
 abbrev pub OneCore : Type 0
 OneCore = (text : List ℕ) (one other : Answer) → CoreOf text one → CoreOf text other → one ≡ other
+
+-- a core grammar is accepted, or is refused in one way
+abbrev pub OneCheck : Type 0
+OneCheck = (g : Grammar) (one other : Answer) → Checks g one → Checks g other → one ≡ other
+
+-- of a name of which something is told `check` says one thing
+abbrev pub OneVerdict : Type 0
+OneVerdict = (told : List ℕ → Told) (name : List ℕ) (one other : Said) → told name ≢ untold → Answers told (use_order name Check) one
+    → Answers told (use_order name Check) other → one ≡ other

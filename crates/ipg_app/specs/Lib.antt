@@ -4,14 +4,15 @@ pub mod Said
 pub mod Refusal
 -- the core grammar of a text
 pub mod CoreOf
-pub mod Laws
--- a transitional step
-pub mod Later
+-- whether parsing by it ends, and certificates that it does
+pub mod Checks
+pub mod Certificate
 -- in which order it answers, and what it does outside
 pub mod Order
 pub mod Reply
 pub mod Run
+-- that there is one reply
+pub mod Laws
 -- what functions inside the crate promise each other
 pub mod Lines
-pub mod Asked
 pub mod Found

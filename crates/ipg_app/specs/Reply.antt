@@ -1,5 +1,5 @@
 -- The reply: for the program's words, the order in which it answers.
-use Rattle.std.specs.Prelude.{◌≡◌, ℕ, ◌^◌, List, [], ◌∷◌, length, nat_le, bytes_eq, codes, Result, Ok, Err, Option, None, Some, if◌then◌else◌}
+use Rattle.std.specs.Prelude.{◌≡◌, ℕ, ◌^◌, List, length, nat_le, codes, Result, Ok, Err, Option, None, Some, if◌then◌else◌}
 use Rattle.ipg_ast.specs.declared.grammar.Grammar as written
 use Rattle.ipg_tokens.specs.Shaped.{canonical_text}
 use Rattle.ipg_core.specs.Grammar.{Grammar}
@@ -7,27 +7,53 @@ use Rattle.ipg_core.specs.Tree.{Tree}
 use Rattle.ipg_core.specs.Run.{Stop, NoTree, OutOfRange, Deep}
 use Rattle.ipg_core.specs.Meaning.{Means}
 use Rattle.ipg_core.specs.Lines.{lines}
-use Rattle.ipg_app.specs.Said.{Said, done, usage, no_parse, range, too_large}
+use Rattle.ipg_formats.specs.declared.Kind.{Kind}
+use Rattle.ipg_formats.specs.Names.{kind_of}
+use Rattle.ipg_formats.specs.Text.{text_of}
+use Rattle.ipg_words.specs.Request.{Task, Parse, Check, Cert, Verify, Request, Use, Fmt, request_of}
+use Rattle.ipg_app.specs.Said.{Said, done, done_line, usage, no_parse, range, too_large}
 use Rattle.ipg_app.specs.CoreOf.{grammar_in, CoreOf}
-use Rattle.ipg_app.specs.Later.{only_forward}
+use Rattle.ipg_app.specs.Checks.{Checks}
+use Rattle.ipg_app.specs.Certificate.{Certifies, Reads, Judges}
 use Rattle.ipg_app.specs.Order.{Order, Step, says, only, found, have, contents, ◌>>=◌}
 
 -- ---- steps
 
+-- the text of a built-in grammar, by its name, or of a file
+abbrev pub text_by : Option Kind → List ℕ → Step (List ℕ)
+text_by (Some kind) name next = next (text_of kind)
+text_by None name next = contents name next
+
+abbrev pub text_under : List ℕ → Step (List ℕ)
+text_under name = text_by (kind_of name) name
+
 -- G1 to G5
+abbrev pub grammar_of : List ℕ → Step written.Grammar
+grammar_of text = have (grammar_in text)
+
 abbrev pub grammar_under : List ℕ → Step written.Grammar
 grammar_under name next = do
-  text ← contents name
-  g ← have (grammar_in text)
-  next g
+  text ← text_under name
+  grammar_of text next
 
 -- G1 to G12, then G14
-abbrev pub core_under : List ℕ → Step Grammar
-core_under name next = do
-  text ← contents name
+abbrev pub core_of : List ℕ → Step Grammar
+core_of text next = do
   answer ← found (CoreOf text)
   g ← have answer
   next g
+
+abbrev pub core_under : List ℕ → Step Grammar
+core_under name next = do
+  text ← text_under name
+  core_of text next
+
+-- G13
+abbrev pub accepted : Grammar → Step Grammar
+accepted g next = do
+  answer ← found (Checks g)
+  same ← have answer
+  next same
 
 abbrev pub max_input : ℕ
 max_input = 2 ^ 30
@@ -48,39 +74,68 @@ pub record Parses (g : Grammar) (input : List ℕ) (said : Said) : Type 0 where
   pub means : Means g input answer
   pub is : parse_said g answer ≡ Some said
 
--- ---- commands
+-- ---- commands, each behind the core grammar of a text
 
-abbrev pub parse_input : Grammar → List ℕ → Order
-parse_input g name = do
+abbrev pub parse_input : List ℕ → Grammar → Order
+parse_input name g = do
   bytes ← contents name
   input ← have (input_in bytes)
   says (Parses g input)
 
-abbrev pub parse : List ℕ → List ℕ → Order
-parse grammar name = do
-  g ← core_under grammar
-  forward ← have (only_forward g)
-  parse_input forward name
+abbrev pub parse : List ℕ → Grammar → Order
+parse name g = do
+  same ← accepted g
+  parse_input name same
+
+abbrev pub check : Grammar → Order
+check g = do
+  same ← accepted g
+  only (done_line (codes "accepted"))
+
+abbrev pub cert : Grammar → Order
+cert g = do
+  same ← accepted g
+  says (Certifies same)
+
+-- C1, then C2 and C3
+abbrev pub judge : List ℕ → Grammar → Order
+judge text g = do
+  read ← found (Reads text)
+  c ← have read
+  says (Judges g c)
+
+abbrev pub verify : List ℕ → Grammar → Order
+verify name g = do
+  bytes ← contents name
+  text ← have (input_in bytes)
+  judge text g
+
+-- ---- the command that reads a text alone
+
+abbrev pub formatted : written.Grammar → Order
+formatted g = only (done (canonical_text g))
 
 abbrev pub fmt : List ℕ → Order
 fmt grammar = do
   g ← grammar_under grammar
-  only (done (canonical_text g))
+  formatted g
 
 -- ---- words
 
-pub data Request : Type 0 where
-  Parse : (grammar input : List ℕ) → Request
-  Fmt : (grammar : List ℕ) → Request
+-- neither the memo nor the memory of a parse has an effect yet
+abbrev pub order_by : Task → Grammar → Order
+order_by (Parse input memo mib) g = parse input g
+order_by Check g = check g
+order_by Cert g = cert g
+order_by (Verify certificate) g = verify certificate g
 
--- what the words ask for
-abbrev pub request_of : List (List ℕ) → Option Request
-request_of (command ∷ grammar ∷ []) = if bytes_eq command (codes "fmt") then Some (Fmt grammar) else None
-request_of (command ∷ grammar ∷ input ∷ []) = if bytes_eq command (codes "parse") then Some (Parse grammar input) else None
-request_of _ = None
+abbrev pub use_order : List ℕ → Task → Order
+use_order grammar task = do
+  g ← core_under grammar
+  order_by task g
 
 abbrev pub order_on : Option Request → Order
-order_on (Some (Parse grammar input)) = parse grammar input
+order_on (Some (Use grammar task)) = use_order grammar task
 order_on (Some (Fmt grammar)) = fmt grammar
 order_on None = only usage
 

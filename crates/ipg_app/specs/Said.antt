@@ -15,6 +15,10 @@ done text = record { status = status.Done; text = text }
 abbrev pub line_said : Status → List ℕ → Said
 line_said s words = record { status = s; text = words ++ 10 ∷ [] }
 
+-- a command that ends well, and has a line for its text
+abbrev pub done_line : List ℕ → Said
+done_line words = line_said status.Done words
+
 abbrev pub usage : Said
 usage = line_said status.Usage (codes "usage")
 
@@ -23,6 +27,10 @@ read_fault = line_said status.ReadFault (codes "read fault")
 
 abbrev pub refused : List ℕ → Said
 refused why = line_said status.Refused (codes "refused " ++ why)
+
+-- what is said of a certificate
+abbrev pub bad_proof : List ℕ → Said
+bad_proof why = line_said status.BadProof (codes "refused " ++ why)
 
 abbrev pub no_parse : Said
 no_parse = line_said status.NoParse (codes "no parse")

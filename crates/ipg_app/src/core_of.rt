@@ -68,7 +68,7 @@ fn ordered_in(alloc: Global, c: Completed) -> Result<Result<Core, Settled>, Allo
 }
 
 /// A core grammar is good, by its type.
-pub fn good(core: &Core)
+fn good(core: &Core)
     ensures { Good core.now }
 {
     core.rules();
@@ -108,7 +108,8 @@ fn touching(alloc: Global, core: Core) -> Result<Result<Core, Settled>, AllocErr
     }
 }
 
-fn rule_name(rules: &[CoreRule], rule: u32) -> &[u8]
+/// The name of a rule; none of one that there isn't.
+pub fn rule_name(rules: &[CoreRule], rule: u32) -> &[u8]
     ensures { result.now ≡ name_of (slice_get rules.now rule) }
 {
     match item_at(rules, rule as usize) {

@@ -1,8 +1,9 @@
 //! What holds of core grammars, the contract of a function that does nothing.
 
-ghost use Rattle.ipg_app.specs.Laws.{OneCore};
+ghost use Rattle.ipg_app.specs.Laws.{OneCore, OneCheck, OneVerdict};
 
 use ipg_order::laws::{good_is_not_stuck, orders_once, stuck_once};
+use ipg_term::laws::{loops_arent_accepted, one_loops};
 
 /// A text has one core grammar, or is refused in one way.
 pub fn one_core()
@@ -11,4 +12,20 @@ pub fn one_core()
     orders_once();
     good_is_not_stuck();
     stuck_once();
+}
+
+/// A core grammar is accepted, or is refused in one way.
+pub fn one_check()
+    ensures { OneCheck }
+{
+    loops_arent_accepted();
+    one_loops();
+}
+
+/// Of a file of which something is told `check` says one thing.
+pub fn one_verdict()
+    ensures { OneVerdict }
+{
+    one_core();
+    one_check();
 }

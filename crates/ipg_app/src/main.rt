@@ -1,12 +1,12 @@
 //! Parses files by grammars.
 #![tactic(auto)]
 
-mod asking;
+mod checks;
 mod core_of;
 mod formatting;
 mod grammar;
-mod later;
 mod laws;
+mod looping;
 mod parse;
 mod refusal;
 mod run;
@@ -15,6 +15,7 @@ mod settle;
 mod status;
 #[cfg(test)]
 mod tests;
+mod verifying;
 mod writing;
 
 use ipg_outside::{DiskFiles, StdSink};

@@ -2,31 +2,36 @@
 ghost use Rattle.std.specs.Prelude.{◌≡◌, ◌≤◌, ℕ, List, map, Ok, Err, IfOk, MatchResult};
 ghost use Rattle.std.specs.String.{string_bytes};
 ghost use Rattle.ipg_names.specs.Readable.{IsReadable};
-ghost use Rattle.ipg_app.specs.Reply.{grammar_under, parse_input, parse, fmt, order_of};
+ghost use Rattle.ipg_formats.specs.Text.{text_of};
+ghost use Rattle.ipg_app.specs.CoreOf.{CoreOf};
+ghost use Rattle.ipg_app.specs.Reply.{grammar_of, core_of, formatted, parse_input, parse, verify, fmt, use_order, order_by, order_of};
 ghost use Rattle.ipg_app.specs.Run.{Settles};
-ghost use Rattle.ipg_app.specs.Found.{Found, IsUsed, silence, parse_by};
+ghost use Rattle.ipg_words.specs.Seen.{task_seen};
+ghost use Rattle.ipg_app.specs.Found.{Found, FoundCore, Says, grammar_in_file, core_in_file, silence};
 ghost use Rattle.ipg_app.specs.Lines.{said_of};
 
-use crate::asking::{Asked, request};
+use crate::checks::{accepted, say_cert, say_check};
 use crate::core_of::core_of;
 use crate::formatting::format;
 use crate::grammar::grammar_in;
-use crate::later::checked;
 use crate::parse::parse;
 use crate::refusal::refusal;
 use crate::said::{Settled, line};
 use crate::status::Status;
+use crate::verifying::judge;
 use ipg_ast::Grammar;
-use ipg_core::accepted::Checked;
+use ipg_core::accepted::{Checked, Core};
+use ipg_formats::{Kind, kind_named, text};
 use ipg_outside::{FileFault, Files};
 use ipg_tokens::ReadFault;
+use ipg_words::{Asked, Wanted, request};
 use std::alloc::{AllocError, Global};
 
 const MAX_TEXT: u64 = 1 << 20;
 
 const MAX_INPUT: u64 = 1 << 30;
 
-/// Answers in order: to the words, to the grammar, to the input, to the parse.
+/// Answers in order: to the words, to the grammar, and then what the grammar is wanted for.
 pub fn settle<F: Files>(
     alloc: Global,
     words: &[String],
@@ -34,23 +39,51 @@ pub fn settle<F: Files>(
 ) -> Result<Settled, AllocError>
     ensures { IfOk result (λ settled. Settles (F.told files.old) (F.faults files.old) (F.faults files.new) (order_of (map string_bytes words.now)) (said_of settled)) }
 {
-    match request(words) {
-        Some(Asked::Parse { grammar, input }) => settle_parse(alloc, grammar, input, files),
+    match request(alloc, words)? {
+        Some(Asked::Use { grammar, task }) => settle_use(alloc, grammar, task, files),
         Some(Asked::Fmt { grammar }) => settle_fmt(alloc, grammar, files),
         None => line(alloc, Status::Usage, b"usage"),
     }
 }
 
-fn settle_parse<F: Files>(
+fn settle_use<F: Files>(
     alloc: Global,
     grammar: &str,
-    input: &str,
+    task: Wanted<'_>,
     files: &mut F,
 ) -> Result<Settled, AllocError>
-    ensures { IfOk result (λ settled. Settles (F.told files.old) (F.faults files.old) (F.faults files.new) (parse grammar.now input.now) (said_of settled)) }
+    ensures { IfOk result (λ settled. Settles (F.told files.old) (F.faults files.old) (F.faults files.new) (use_order grammar.now (task_seen task.entry)) (said_of settled)) }
 {
-    match grammar_under(alloc, grammar, files)? {
-        Ok(grammar) => parse_by(alloc, &grammar, input, files),
+    match kind_named(grammar) {
+        Some(kind) => use_built_in(alloc, kind, task, files),
+        None => use_file(alloc, grammar, task, files),
+    }
+}
+
+fn use_built_in<F: Files>(
+    alloc: Global,
+    kind: Kind,
+    task: Wanted<'_>,
+    files: &mut F,
+) -> Result<Settled, AllocError>
+    ensures { IfOk result (λ settled. Settles (F.told files.old) (F.faults files.old) (F.faults files.new) (core_of (text_of kind) (order_by (task_seen task.entry))) (said_of settled)) }
+{
+    match core_in(alloc, text(kind))? {
+        Ok(core) => settle_task(alloc, core, task, files),
+        Err(settled) => Ok(settled),
+    }
+}
+
+fn use_file<F: Files>(
+    alloc: Global,
+    name: &str,
+    task: Wanted<'_>,
+    files: &mut F,
+) -> Result<Settled, AllocError>
+    ensures { IfOk result (λ settled. Settles (F.told files.old) (F.faults files.old) (F.faults files.new) (core_in_file name.now (order_by (task_seen task.entry))) (said_of settled)) }
+{
+    match core_in_file(alloc, name, files)? {
+        Ok(core) => settle_task(alloc, core, task, files),
         Err(settled) => Ok(settled),
     }
 }
@@ -58,19 +91,63 @@ fn settle_parse<F: Files>(
 fn settle_fmt<F: Files>(alloc: Global, grammar: &str, files: &mut F) -> Result<Settled, AllocError>
     ensures { IfOk result (λ settled. Settles (F.told files.old) (F.faults files.old) (F.faults files.new) (fmt grammar.now) (said_of settled)) }
 {
-    match grammar_under(alloc, grammar, files)? {
+    match kind_named(grammar) {
+        Some(kind) => fmt_built_in(alloc, kind),
+        None => fmt_file(alloc, grammar, files),
+    }
+}
+
+fn fmt_built_in(alloc: Global, kind: Kind) -> Result<Settled, AllocError>
+    ensures { IfOk result (λ settled. Says (grammar_of (text_of kind) formatted) (said_of settled)) }
+{
+    match grammar_in(alloc, text(kind))? {
+        Ok(g) => format(alloc, &g),
+        Err(settled) => Ok(settled),
+    }
+}
+
+fn fmt_file<F: Files>(alloc: Global, name: &str, files: &mut F) -> Result<Settled, AllocError>
+    ensures { IfOk result (λ settled. Settles (F.told files.old) (F.faults files.old) (F.faults files.new) (grammar_in_file name.now formatted) (said_of settled)) }
+{
+    match grammar_in_file(alloc, name, files)? {
         Ok(grammar) => format(alloc, &grammar),
         Err(settled) => Ok(settled),
     }
 }
 
+/// The core grammar of a text, or what is said of a text that has none.
+fn core_in(alloc: Global, text: &[u8]) -> Result<Result<Core, Settled>, AllocError>
+    ensures { IfOk result (λ made. MatchResult made (λ core. CoreOf text.now (Ok core)) (λ settled. CoreOf text.now (Err (said_of settled)))) }
+{
+    match grammar_in(alloc, text)? {
+        Ok(g) => core_of(alloc, &g),
+        Err(settled) => Ok(Err(settled)),
+    }
+}
+
+/// The core grammar of the text under a name, or what is said where it can't be read or has none.
+fn core_in_file<F: Files>(
+    alloc: Global,
+    name: &str,
+    files: &mut F,
+) -> Result<Result<Core, Settled>, AllocError>
+    ensures found { IfOk result (λ made. MatchResult made (λ core. FoundCore (F.told files.old name.now) core) (λ settled. Settles (F.told files.old) (F.faults files.old) (F.faults files.new) (core_in_file name.now (λ g. silence)) (said_of settled))) }
+    ensures told { (n : List ℕ) → F.told files.new n ≡ F.told files.old n }
+    ensures counts { (n : List ℕ) → F.faults files.old n ≤ F.faults files.new n }
+{
+    match grammar_in_file(alloc, name, files)? {
+        Ok(grammar) => core_of(alloc, &grammar),
+        Err(settled) => Ok(Err(settled)),
+    }
+}
+
 /// The grammar under a name, or what is said where it can't be read or is none.
-fn grammar_under<F: Files>(
+fn grammar_in_file<F: Files>(
     alloc: Global,
     name: &str,
     files: &mut F,
 ) -> Result<Result<Grammar, Settled>, AllocError>
-    ensures found { IfOk result (λ read. MatchResult read (Found (F.told files.old name.now)) (λ settled. Settles (F.told files.old) (F.faults files.old) (F.faults files.new) (grammar_under name.now (λ g. silence)) (said_of settled))) }
+    ensures found { IfOk result (λ read. MatchResult read (Found (F.told files.old name.now)) (λ settled. Settles (F.told files.old) (F.faults files.old) (F.faults files.new) (grammar_in_file name.now (λ g. silence)) (said_of settled))) }
     ensures readable { IfOk result (λ read. IfOk read IsReadable) }
     ensures told { (n : List ℕ) → F.told files.new n ≡ F.told files.old n }
     ensures counts { (n : List ℕ) → F.faults files.old n ≤ F.faults files.new n }
@@ -83,29 +160,33 @@ fn grammar_under<F: Files>(
     }
 }
 
-fn parse_by<F: Files>(
+fn settle_task<F: Files>(
     alloc: Global,
-    grammar: &Grammar,
-    input: &str,
+    core: Core,
+    task: Wanted<'_>,
     files: &mut F,
 ) -> Result<Settled, AllocError>
-    requires { IsReadable grammar.now }
-    ensures { IfOk result (λ settled. Settles (F.told files.old) (F.faults files.old) (F.faults files.new) (parse_by grammar.now input.now) (said_of settled)) }
+    ensures { IfOk result (λ settled. Settles (F.told files.old) (F.faults files.old) (F.faults files.new) (order_by (task_seen task.entry) core) (said_of settled)) }
 {
-    match checked_in(alloc, grammar)? {
-        Ok(checked) => parse_input(alloc, &checked, input, files),
-        Err(settled) => Ok(settled),
+    match task {
+        Wanted::Parse { input, .. } => parse_by(alloc, core, input, files),
+        Wanted::Check => say_check(alloc, core),
+        Wanted::Cert => say_cert(alloc, core),
+        Wanted::Verify { certificate } => verify_by(alloc, core, certificate, files),
     }
 }
 
-/// The grammar as it is used, or what is said of one that can't be.
-fn checked_in(alloc: Global, grammar: &Grammar) -> Result<Result<Checked, Settled>, AllocError>
-    requires { IsReadable grammar.now }
-    ensures { IfOk result (λ made. MatchResult made (λ c. IsUsed grammar.now (Ok c)) (λ settled. IsUsed grammar.now (Err (said_of settled)))) }
+fn parse_by<F: Files>(
+    alloc: Global,
+    core: Core,
+    input: &str,
+    files: &mut F,
+) -> Result<Settled, AllocError>
+    ensures { IfOk result (λ settled. Settles (F.told files.old) (F.faults files.old) (F.faults files.new) (parse input.now core) (said_of settled)) }
 {
-    match core_of(alloc, grammar)? {
-        Ok(core) => checked(alloc, core),
-        Err(settled) => Ok(Err(settled)),
+    match accepted(alloc, core)? {
+        Ok((checked, _)) => parse_input(alloc, &checked, input, files),
+        Err(settled) => Ok(settled),
     }
 }
 
@@ -115,10 +196,26 @@ fn parse_input<F: Files>(
     input: &str,
     files: &mut F,
 ) -> Result<Settled, AllocError>
-    ensures { IfOk result (λ settled. Settles (F.told files.old) (F.faults files.old) (F.faults files.new) (parse_input grammar.now input.now) (said_of settled)) }
+    ensures { IfOk result (λ settled. Settles (F.told files.old) (F.faults files.old) (F.faults files.new) (parse_input input.now grammar.now) (said_of settled)) }
 {
     match files.read_all(alloc, input, MAX_INPUT) {
         Ok(bytes) => parse(alloc, grammar, &bytes),
+        Err(FileFault::Failed) => line(alloc, Status::ReadFault, b"read fault"),
+        Err(FileFault::TooLarge(_)) => line(alloc, Status::TooLarge, b"too large"),
+        Err(FileFault::Memory) => Err(AllocError),
+    }
+}
+
+fn verify_by<F: Files>(
+    alloc: Global,
+    core: Core,
+    certificate: &str,
+    files: &mut F,
+) -> Result<Settled, AllocError>
+    ensures { IfOk result (λ settled. Settles (F.told files.old) (F.faults files.old) (F.faults files.new) (verify certificate.now core) (said_of settled)) }
+{
+    match files.read_all(alloc, certificate, MAX_INPUT) {
+        Ok(bytes) => judge(alloc, core, &bytes),
         Err(FileFault::Failed) => line(alloc, Status::ReadFault, b"read fault"),
         Err(FileFault::TooLarge(_)) => line(alloc, Status::TooLarge, b"too large"),
         Err(FileFault::Memory) => Err(AllocError),

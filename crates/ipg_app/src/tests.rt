@@ -5,8 +5,9 @@ use crate::run::run;
 use crate::status::Status;
 use ipg_outside::{MemFiles, MemSink};
 use rows::{
-    CIRCULAR, FORMATTED, LATER, LONG_PLACES, NO_PARSE, PARSED, PLACES, READ_FAULT, REFUSED, ROW,
-    ROW_TEXT, ROW_TREE, Reply, TREE, UNKNOWN, USAGE, WHOLE, WRONG_WORDS,
+    ACCEPTED, CHECKED, CIRCULAR, FORMATTED, INT, INT_TREE, JUDGED, LIST, LONG_PLACES, LOOP,
+    NO_PARSE, PARSED, PARSING_WORDS, PLACES, READ_FAULT, REFUSED, ROW, ROW_TEXT, ROW_TREE, Reply,
+    TREE, UNKNOWN, USAGE, VERIFIED, WHOLE, WRONG_WORDS,
 };
 use std::alloc::{AllocError, Global};
 
@@ -24,6 +25,12 @@ struct Try<'a> {
 const PARSE: &[&str] = &["parse", "g", "f"];
 
 const FMT: &[&str] = &["fmt", "g"];
+
+const CHECK: &[&str] = &["check", "g"];
+
+const CERT: &[&str] = &["cert", "g"];
+
+const VERIFY: &[&str] = &["verify", "g", "f"];
 
 fn parse_of<'a>(grammar: &'a [u8], input: &'a [u8]) -> Try<'a> {
     Try {
@@ -44,6 +51,27 @@ fn fmt_of(grammar: &[u8]) -> Try<'_> {
     }
 }
 
+fn check_of(grammar: &[u8]) -> Try<'_> {
+    Try {
+        words: CHECK,
+        ..fmt_of(grammar)
+    }
+}
+
+fn cert_of(grammar: &[u8]) -> Try<'_> {
+    Try {
+        words: CERT,
+        ..fmt_of(grammar)
+    }
+}
+
+fn verify_of<'a>(grammar: &'a [u8], certificate: &'a [u8]) -> Try<'a> {
+    Try {
+        words: VERIFY,
+        ..parse_of(grammar, certificate)
+    }
+}
+
 /// The text by `parse`, with no input, and by `fmt`.
 fn both_of(grammar: &[u8]) -> [Try<'_>; 2] {
     let parse = Try {
@@ -51,6 +79,25 @@ fn both_of(grammar: &[u8]) -> [Try<'_>; 2] {
         ..parse_of(grammar, b"")
     };
     [parse, fmt_of(grammar)]
+}
+
+/// The text by each command, where there is neither an input nor a certificate.
+fn all_of(grammar: &[u8]) -> [Try<'_>; 5] {
+    let parse = Try {
+        input: None,
+        ..parse_of(grammar, b"")
+    };
+    let verify = Try {
+        words: VERIFY,
+        ..parse
+    };
+    [
+        parse,
+        fmt_of(grammar),
+        check_of(grammar),
+        cert_of(grammar),
+        verify,
+    ]
 }
 
 fn answer(alloc: Global, case: &Try<'_>) -> Result<(Status, MemSink), AllocError> {
@@ -106,25 +153,81 @@ fn parses_by_whole_grammars(rt: HostRuntime) -> anyhow::Result<()> {
     Ok(())
 }
 
-/// G6 to G12, and what doesn't go on to later rules, before the input is read.
+/// G6 to G12, and then G13, before the input is read.
 #[test]
-fn refuses_names_orders_and_calls(rt: HostRuntime) -> anyhow::Result<()> {
+fn refuses_names_orders_and_loops(rt: HostRuntime) -> anyhow::Result<()> {
     for (grammar, want) in REFUSED {
         let no_input = Try {
             input: None,
             ..parse_of(grammar, b"")
         };
-        let (status, out) = answer(rt.alloc(), &no_input)?;
-        assert_eq!(rt; (status, out.bytes()), want, "{grammar:?}");
+        for case in [no_input, check_of(grammar), cert_of(grammar)] {
+            let (status, out) = answer(rt.alloc(), &case)?;
+            assert_eq!(rt; (status, out.bytes()), want, "{grammar:?}");
+        }
     }
     Ok(())
 }
 
-/// G1 to G5, by `parse` and by `fmt`, before the input is read.
+/// Grammars with cycles of calls: accepted, or refused with the first that may loop.
+#[test]
+fn checks_grammars(rt: HostRuntime) -> anyhow::Result<()> {
+    for (grammar, want) in CHECKED {
+        let (status, out) = answer(rt.alloc(), &check_of(grammar))?;
+        assert_eq!(rt; (status, out.bytes()), want, "{grammar:?}");
+    }
+    let (status, out) = answer(rt.alloc(), &parse_of(INT, b"42"))?;
+    assert_eq!(rt; (status, out.bytes()), (Status::Done, INT_TREE));
+    Ok(())
+}
+
+/// Certificates of every kind, for one grammar.
+#[test]
+fn judges_certificates(rt: HostRuntime) -> anyhow::Result<()> {
+    for (certificate, want) in JUDGED {
+        let (status, out) = answer(rt.alloc(), &verify_of(LIST, certificate))?;
+        assert_eq!(rt; (status, out.bytes()), want, "{certificate:?}");
+    }
+    Ok(())
+}
+
+/// What `cert` writes of each grammar that is accepted is verified.
+#[test]
+fn verifies_its_own(rt: HostRuntime) -> anyhow::Result<()> {
+    for (grammar, want) in CHECKED {
+        let (status, out) = answer(rt.alloc(), &cert_of(grammar))?;
+        if want != ACCEPTED {
+            assert_eq!(rt; (status, out.bytes()), want, "{grammar:?}");
+            continue;
+        }
+        let (status, out) = answer(rt.alloc(), &verify_of(grammar, out.bytes()))?;
+        assert_eq!(rt; (status, out.bytes()), VERIFIED, "{grammar:?}");
+    }
+    Ok(())
+}
+
+/// A refused grammar is told before its certificate is read; a cycle doesn't refuse one.
+#[test]
+fn answers_before_certificates(rt: HostRuntime) -> anyhow::Result<()> {
+    let mismatch: Reply<'_> = (Status::BadProof, b"refused C2 Mismatch 0\n");
+    let empty: &[u8] = b"ipgcert 2\ndead 0\ncycles 0\n";
+    let cases = [
+        (verify_of(b"S -> T ;", b""), UNKNOWN),
+        (verify_of(b"S -> S[0, EOI] ;", empty), mismatch),
+        (verify_of(ROW, empty), VERIFIED),
+    ];
+    for (case, want) in cases {
+        let (status, out) = answer(rt.alloc(), &case)?;
+        assert_eq!(rt; (status, out.bytes()), want);
+    }
+    Ok(())
+}
+
+/// G1 to G5, by each command, before anything else is read.
 #[test]
 fn refuses_texts_with_their_places(rt: HostRuntime) -> anyhow::Result<()> {
     for (grammar, want) in PLACES {
-        for case in both_of(grammar) {
+        for case in all_of(grammar) {
             let (status, out) = answer(rt.alloc(), &case)?;
             assert_eq!(rt;
                 (status, out.bytes()),
@@ -172,6 +275,14 @@ fn answers_words(rt: HostRuntime) -> anyhow::Result<()> {
         let (status, out) = answer(rt.alloc(), &case)?;
         assert_eq!(rt; (status, out.bytes()), USAGE, "{words:?}");
     }
+    for words in PARSING_WORDS {
+        let case = Try {
+            words,
+            ..parse_of(ROW, b"ab")
+        };
+        let (status, out) = answer(rt.alloc(), &case)?;
+        assert_eq!(rt; (status, out.bytes()), TREE, "{words:?}");
+    }
     Ok(())
 }
 
@@ -196,7 +307,15 @@ fn answers_absent_files(rt: HostRuntime) -> anyhow::Result<()> {
         words: FMT,
         ..no_grammar
     };
-    for case in [no_input, no_grammar, neither, fmt] {
+    let check = Try {
+        words: CHECK,
+        ..no_grammar
+    };
+    let no_cert = Try {
+        words: VERIFY,
+        ..no_input
+    };
+    for case in [no_input, no_grammar, neither, fmt, check, no_cert] {
         let (status, out) = answer(rt.alloc(), &case)?;
         assert_eq!(rt; (status, out.bytes()), READ_FAULT);
     }
@@ -211,14 +330,16 @@ fn answers_failing_reads(rt: HostRuntime) -> anyhow::Result<()> {
     let row = parse_of(ROW, b"ab");
     let syntax: Reply<'_> = (Status::Refused, b"refused G4 Syntax 1\n");
     let ring = b"S -> A[B.end,EOI] B[A.end,EOI] ; A -> U8 ; B -> U8 ;";
-    let cases: [(Try<'_>, &[u64], Reply<'_>); 9] = [
+    let cases: [(Try<'_>, &[u64], Reply<'_>); 11] = [
         (row, &[0], READ_FAULT),
         (row, &[1], READ_FAULT),
         (row, &[2], TREE),
         (parse_of(b"S", b"ab"), &[1], syntax),
         (parse_of(b"S -> T ;", b"ab"), &[1], UNKNOWN),
         (parse_of(ring, b"ab"), &[1], CIRCULAR),
-        (parse_of(b"S -> S[0, 1] ;", b"ab"), &[1], LATER),
+        (parse_of(b"S -> S[0, EOI] ;", b"ab"), &[1], LOOP),
+        (verify_of(ROW, b""), &[1], READ_FAULT),
+        (verify_of(b"S -> T ;", b""), &[1], UNKNOWN),
         (fmt_of(ROW), &[0], READ_FAULT),
         (fmt_of(ROW), &[1], (Status::Done, ROW_TEXT)),
     ];

@@ -112,13 +112,12 @@ IsFormedSlot s = IsFormedPlace s.place
 abbrev pub IsFormedCase : Case → Type 0
 IsFormedCase c = IsFormedExpr c.cond × IsFormedSlot c.slot
 
--- a repetition has no text yet: the grammar of grammars doesn't take one
 abbrev pub IsFormedTerm : Term → Type 0
 IsFormedTerm (SlotTerm s) = IsFormedSlot s
 IsFormedTerm (Set name value) = IsFormedExpr value
 IsFormedTerm (Test at cond) = IsFormedExpr cond
 IsFormedTerm (Repeat var first last item from to) = IsFormedExpr first × IsFormedExpr last × IsFormedExpr from × IsFormedExpr to
-IsFormedTerm (Many at item place) = ⊥
+IsFormedTerm (Many at item place) = IsFormedPlace place
 IsFormedTerm (Pick at cases other) = (0 < length cases) × AllByRecursion IsFormedCase cases × IsFormedSlot other
 
 pub record IsFormedTerms (terms : List Term) : Type 0 where
@@ -156,3 +155,21 @@ pub record IsFormed (g : Grammar) : Type 0 where
   pub some : 0 < length g.rules
   pub count : count_rules g.rules ≤ max_rules
   pub each : AllByRecursion IsFormedRule g.rules
+
+-- ---- what can be written: `where` has one level
+
+abbrev pub IsFlatLocalAlt : Alt → Type 0
+IsFlatLocalAlt alt = (out-Alt alt).locals ≡ []
+
+abbrev pub IsFlatLocal : Rule → Type 0
+IsFlatLocal rule = AllByRecursion IsFlatLocalAlt (out-Rule rule).alts
+
+abbrev pub IsFlatAlt : Alt → Type 0
+IsFlatAlt alt = AllByRecursion IsFlatLocal (out-Alt alt).locals
+
+abbrev pub IsFlatRule : Rule → Type 0
+IsFlatRule rule = AllByRecursion IsFlatAlt (out-Rule rule).alts
+
+-- no local rule has local rules of its own
+abbrev pub IsFlat : Grammar → Type 0
+IsFlat g = AllByRecursion IsFlatRule g.rules

@@ -1,3 +1,6 @@
+ghost use Rattle.std.specs.Prelude.{◌≡◌, [], ◌∷◌, IfOk};
+ghost use Rattle.ipg_ast.specs.Shape.{IsFlat};
+
 use super::*;
 use ipg_num::{Held, List, Op2};
 use std::alloc::{AllocError, Global};
@@ -16,14 +19,18 @@ fn ident(alloc: Global, bytes: &[u8]) -> Result<Ident, AllocError> {
     })
 }
 
-fn one<T: Drop>(alloc: Global, item: T) -> Result<List<T>, AllocError> {
+fn one<T: Drop>(alloc: Global, item: T) -> Result<List<T>, AllocError>
+    ensures { IfOk result (λ items. items ≡ item ∷ []) }
+{
     let mut items = List::new(alloc);
     items.push(item)?;
     Ok(items)
 }
 
 /// `S -> TERM ;`
-fn rule_of(alloc: Global, term: Term) -> Result<Grammar, AllocError> {
+fn rule_of(alloc: Global, term: Term) -> Result<Grammar, AllocError>
+    ensures { IfOk result IsFlat }
+{
     let alt = Alt {
         terms: one(alloc, term)?,
         locals: List::new(alloc),

@@ -1,14 +1,17 @@
 ghost use Rattle.std.specs.Prelude.{◌≡◌, ◌∷◌, ◌++◌, [], IfOk, OnOk};
 ghost use Rattle.ipg_ast.specs.Spelling.{field_tokens, sign_of, expr_tokens, place_tokens, what_token, slot_tokens, case_tokens, cases_tokens, term_tokens, terms_tokens, local_alts_tokens, local_tokens, locals_tokens, where_tokens, alt_tokens, alts_tokens, rule_tokens, grammar_tokens};
 ghost use Rattle.ipg_ast.specs.Canonical.{tokens_text};
+ghost use Rattle.ipg_ast.specs.Shape.{IsFlat};
 
 use crate::put::{put, put_end, put_number, put_string};
 use crate::{Alt, Case, Expr, Field, Grammar, Place, Rule, Slot, Term, What};
 use ipg_num::Op2;
 use std::alloc::{AllocError, Global};
 
-/// The canonical text of a grammar. It goes as deep as the grammar's expressions, as dropping them does.
+/// The canonical text of a grammar, in which no local rule has local rules of its own: the language has no text for those.
+/// It goes as deep as the grammar's expressions, as dropping them does.
 pub fn text_of(alloc: Global, g: &Grammar) -> Result<Vec<u8>, AllocError>
+    requires { IsFlat g.now }
     ensures { IfOk result (λ text. text.items ≡ tokens_text (grammar_tokens g.now)) }
 {
     let mut out = Vec::new(alloc);

@@ -67,6 +67,7 @@ bared = record {
   set_term = λ x e. refl;
   test_term = λ at e. refl;
   repeat_term = λ x a b i l r. refl;
+  many_term = λ at i p. refl;
   pick_term = λ at cs s. refl;
   no_terms = refl;
   with_term = λ ts t. every_last bare_term ts t (bare_term t) refl;

@@ -8,7 +8,7 @@ use Rattle.ipg_ast.specs.declared.grammar.Alt.{out-roll-Alt}
 use Rattle.ipg_ast.specs.declared.grammar.Rule.{out-Rule, out-roll-Rule}
 use Rattle.ipg_ast.specs.Shape.{Form, stands, IsFilled, IsFormedExpr, IsFormedPlace, IsFormedCase, IsFormedTerm, IsFormedTerms, IsFormedLocalAlt, IsFormedLocal, IsFormedAlt, IsFormedRule, IsFormed, rules_in, count_rules}
 use Rattle.ipg_syntax.specs.Classes.{level}
-use Rattle.ipg_syntax.specs.Written.{ExprTree, num, eoi, own, part, item, group, neg, isnt, two, choose, PlaceTree, anywhere, long, ends, CaseTree, TermTree, slot_term, set_term, test_term, repeat_term, pick_term, LocalTree, AltTree, RuleTree, spell_expr, spell_case, spell_cases, spell_term, spell_terms, spell_local, spell_alt, spell_rule, Stands, prefix_level, Each, SomeEach, PlaceFits, CaseFits, TermFits, TermsFit, LocalFits, AltFits, RuleFits, Fits}
+use Rattle.ipg_syntax.specs.Written.{ExprTree, num, eoi, own, part, item, group, neg, isnt, two, choose, PlaceTree, anywhere, long, ends, CaseTree, TermTree, slot_term, set_term, test_term, repeat_term, many_term, pick_term, LocalTree, AltTree, RuleTree, spell_expr, spell_case, spell_cases, spell_term, spell_terms, spell_local, spell_alt, spell_rule, Stands, prefix_level, Each, SomeEach, PlaceFits, CaseFits, TermFits, TermsFit, LocalFits, AltFits, RuleFits, Fits}
 use Rattle.ipg_syntax.specs.Limits.{Size, past, depth, is_over, first_over, expr_size, place_sizes, slot_sizes, case_sizes, cases_sizes, term_sizes, terms_sizes, local_alts_sizes, locals_sizes, alt_sizes, alts_sizes, locals_in, rules_sizes, sizes}
 use Rattle.ipg_canon.specs.Bare.{every}
 use Rattle.ipg_syntax.specs.Making.{made, expr_by, place_by, term_by, grammar_of}
@@ -121,6 +121,7 @@ formed_term (repeat_term x a b i l r) at fits within =
       formed_expr l (third + 1) fits.2 (within.1.1.0, tt),
       formed_expr r (past (third + 1) (spell_expr l) + 1) fits.3 within.1.1.1,
     )
+formed_term (many_term span i p) at fits within = formed_place p (at + 1 + 1) fits within
 formed_term (pick_term span cs s) at fits within =
     let mid : ℕ = past (at + 1 + 1) (spell_cases cs) + 1 in
     let first : List Size = cases_sizes (at + 1 + 1) cs in

@@ -14,7 +14,7 @@ use Rattle.ipg_ast.specs.declared.grammar.Rule.{out-Rule, out-roll-Rule}
 use Rattle.ipg_ast.specs.Shape.{Form, alone, stands, prefixed, infixed, form_step, form_of, level_of, IsFilled, IsFormedExpr, IsFormedPlace, IsFormedSlot, IsFormedCase, IsFormedTerm, IsFormedTerms, IsFormedLocalAlt, IsFormedLocal, IsFormedAlt, IsFormedRule, IsFormed, rules_in, count_rules}
 use Rattle.ipg_ast.specs.Shape
 use Rattle.ipg_syntax.specs.Classes.{Infix, either, both, op, level, op_level}
-use Rattle.ipg_syntax.specs.Written.{ExprTree, num, eoi, own, part, item, group, neg, isnt, two, choose, PlaceTree, anywhere, long, ends, CaseTree, TermTree, slot_term, set_term, test_term, repeat_term, pick_term, LocalTree, AltTree, RuleTree, spell_expr, spell_case, spell_cases, spell_term, spell_terms, spell_local, spell_alt, spell_rule, Stands, prefix_level, Each, SomeEach, PlaceFits, CaseFits, TermFits, TermsFit, LocalFits, AltFits, RuleFits, Fits}
+use Rattle.ipg_syntax.specs.Written.{ExprTree, num, eoi, own, part, item, group, neg, isnt, two, choose, PlaceTree, anywhere, long, ends, CaseTree, TermTree, slot_term, set_term, test_term, repeat_term, many_term, pick_term, LocalTree, AltTree, RuleTree, spell_expr, spell_case, spell_cases, spell_term, spell_terms, spell_local, spell_alt, spell_rule, Stands, prefix_level, Each, SomeEach, PlaceFits, CaseFits, TermFits, TermsFit, LocalFits, AltFits, RuleFits, Fits}
 use Rattle.ipg_syntax.specs.Limits.{Size, past, depth, is_over, first_over, expr_size, place_sizes, slot_sizes, case_sizes, cases_sizes, term_sizes, terms_sizes, local_alts_sizes, locals_sizes, alt_sizes, alts_sizes, locals_in, rules_sizes, sizes}
 use Rattle.ipg_canon.specs.Bare.{every}
 use Rattle.ipg_syntax.specs.Making.{made, infix_expr, expr_by, place_by, term_by, grammar_of}
@@ -183,6 +183,7 @@ term_formed (repeat_term x a b i l r) at formed =
     let fl = expr_formed l (third + 1) formed.2 in
     let fr = expr_formed r (past (third + 1) (spell_expr l) + 1) formed.3 in
     ((fa.0, fb.0, fl.0, fr.0), (fa.1.0, (fb.1.0, (fl.1.0, fr.1))))
+term_formed (many_term span i p) at formed = place_formed p (at + 1 + 1) formed
 term_formed (pick_term span cs s) at formed =
     let mid : ℕ = past (at + 1 + 1) (spell_cases cs) + 1 in
     let all : AllByRecursion IsFormedCase (every made_case cs) = subst (AllByRecursion IsFormedCase) (cases_made [] cs) formed.1 in

@@ -18,7 +18,7 @@ use Rattle.ipg_ast.specs.declared.grammar.Rule.{Rule, out-Rule, roll-out-Rule}
 use Rattle.ipg_ast.specs.declared.grammar.Grammar.{Grammar}
 use Rattle.ipg_ast.specs.Shape.{IsFormedTerm, IsFormedTerms, IsFormedLocalAlt, IsFormedLocal, IsFormedAlt, IsFormedRule, IsFormed}
 use Rattle.ipg_syntax.specs.Classes.{either, both, op}
-use Rattle.ipg_syntax.specs.Written.{ExprTree, num, eoi, own, part, item, group, neg, isnt, two, choose, anywhere, long, ends, CaseTree, TermTree, slot_term, set_term, test_term, repeat_term, pick_term, LocalTree, AltTree, RuleTree}
+use Rattle.ipg_syntax.specs.Written.{ExprTree, num, eoi, own, part, item, group, neg, isnt, two, choose, anywhere, long, ends, CaseTree, TermTree, slot_term, set_term, test_term, repeat_term, many_term, pick_term, LocalTree, AltTree, RuleTree}
 use Rattle.ipg_canon.specs.Bare.{every}
 use Rattle.ipg_syntax.specs.Making.{made, last, alt_of, rule_of, expr_by, place_by, slot_by, cases_by, term_by, terms_by, local_alts_by, locals_by, alts_by, rules_by, grammar_of}
 use Rattle.ipg_syntax.proofs.Selfs.{moved}
@@ -152,7 +152,7 @@ term_tree (T.Repeat x a b i l r) any = record {
   is = ap₂ (λ c d. T.Repeat x c d i (expr_by made (expr_of l).tree) (expr_by made (expr_of r).tree)) (expr_of a).is (expr_of b).is
       ∙ ap₂ (λ c d. T.Repeat x a b i c d) (expr_of l).is (expr_of r).is;
 }
-term_tree (T.Many at i p) any = absurd any
+term_tree (T.Many at i p) any = record { tree = many_term at i (place_tree p).tree; is = ap (λ x. T.Many at i x) (place_tree p).is }
 term_tree (T.Pick at cs s) any =
     let cases : Of (every made_case) cs = each_of made_case Any case_tree cs (all_any cs) in
     record { tree = pick_term at cases.tree (slot_tree s).tree; is = ap₂ (λ x y. T.Pick at x y) (cases_made [] cases.tree ∙ cases.is) (slot_tree s).is }

@@ -6,20 +6,28 @@ use Rattle.ipg_ast.specs.declared.token.TokenKind.{TokenKind}
 use Rattle.ipg_ast.specs.declared.token.TokenKind.TheVariants.{Name, Word, Number, Text, Symbol}
 use Rattle.ipg_tokens.specs.Lexical.{is_same}
 use Rattle.ipg_tokens.specs.declared.token.Token.{Token}
-use Rattle.ipg_syntax.specs.Classes.{either, both, op, Tok, name, number, text, sign, bang, question, colon, dot, comma, equals, arrow, semicolon, left_paren, right_paren, left_bracket, right_bracket, left_brace, right_brace, for_word, to_word, do_word, switch_word, case_word, else_word, where_word, start_word, end_word, eoi_word, stray, kind_class, classes}
+use Rattle.ipg_syntax.specs.Classes.{either, both, op, Tok, name, number, text, sign, bang, question, colon, dot, comma, equals, arrow, semicolon, left_paren, right_paren, left_bracket, right_bracket, left_brace, right_brace, for_word, to_word, do_word, switch_word, case_word, else_word, where_word, start_word, end_word, eoi_word, many_word, stray, kind_class, classes}
 use Rattle.ipg_syntax.specs.Written.{Toks}
 use Rattle.ipg_canon.specs.Bare.{no_span}
 use Rattle.ipg_canon.specs.Laws.{kinds}
 use Rattle.ipg_syntax.proofs.Maps.{plain, plains}
 use Rattle.ipg_canon.proofs.Spelt.{kind_of, kinds_of}
 
-word_places : (b1 b2 b3 b4 : Bool) (rest : Tok) (at : Span) → plain (cond b1 for_word (cond b2 to_word (cond b3 do_word (cond b4 (switch_word at) rest))))
-    ≡ plain (cond b1 for_word (cond b2 to_word (cond b3 do_word (cond b4 (switch_word no_span) rest))))
-word_places true b2 b3 b4 rest at = refl
-word_places false true b3 b4 rest at = refl
-word_places false false true b4 rest at = refl
-word_places false false false true rest at = refl
-word_places false false false false rest at = refl
+word_places : (b1 b2 b3 b4 b5 b6 b7 b8 b9 b10 b11 : Bool) (at : Span)
+    → plain (cond b1 for_word (cond b2 to_word (cond b3 do_word (cond b4 (switch_word at) (cond b5 case_word (cond b6 else_word (cond b7 where_word (cond b8 start_word (cond b9 end_word (cond b10 eoi_word (cond b11 (many_word at) stray)))))))))))
+    ≡ plain (cond b1 for_word (cond b2 to_word (cond b3 do_word (cond b4 (switch_word no_span) (cond b5 case_word (cond b6 else_word (cond b7 where_word (cond b8 start_word (cond b9 end_word (cond b10 eoi_word (cond b11 (many_word no_span) stray)))))))))))
+word_places true b2 b3 b4 b5 b6 b7 b8 b9 b10 b11 at = refl
+word_places false true b3 b4 b5 b6 b7 b8 b9 b10 b11 at = refl
+word_places false false true b4 b5 b6 b7 b8 b9 b10 b11 at = refl
+word_places false false false true b5 b6 b7 b8 b9 b10 b11 at = refl
+word_places false false false false true b6 b7 b8 b9 b10 b11 at = refl
+word_places false false false false false true b7 b8 b9 b10 b11 at = refl
+word_places false false false false false false true b8 b9 b10 b11 at = refl
+word_places false false false false false false false true b9 b10 b11 at = refl
+word_places false false false false false false false false true b10 b11 at = refl
+word_places false false false false false false false false false true b11 at = refl
+word_places false false false false false false false false false false true at = refl
+word_places false false false false false false false false false false false at = refl
 
 single_places : (b1 b2 b3 b4 b5 b6 b7 b8 b9 b10 b11 b12 b13 b14 b15 b16 : Bool) (rest : Tok) (at : Span) → plain (cond b1 (sign (op Mod)) (cond b2 (sign (op BitAnd)) (cond b3 left_paren (cond b4 right_paren (cond b5 (sign (op Mul)) (cond b6 (sign (op Add)) (cond b7 comma (cond b8 (sign (op Sub)) (cond b9 dot (cond b10 (sign (op Div)) (cond b11 colon (cond b12 semicolon (cond b13 (sign (op Lt)) (cond b14 equals (cond b15 (sign (op Gt)) (cond b16 (question at) rest))))))))))))))))
     ≡ plain (cond b1 (sign (op Mod)) (cond b2 (sign (op BitAnd)) (cond b3 left_paren (cond b4 right_paren (cond b5 (sign (op Mul)) (cond b6 (sign (op Add)) (cond b7 comma (cond b8 (sign (op Sub)) (cond b9 dot (cond b10 (sign (op Div)) (cond b11 colon (cond b12 semicolon (cond b13 (sign (op Lt)) (cond b14 equals (cond b15 (sign (op Gt)) (cond b16 (question no_span) rest))))))))))))))))
@@ -45,8 +53,7 @@ single_places false false false false false false false false false false false 
 kind_plain : (k : TokenKind) (at : Span) → plain (kind_class k at) ≡ plain (kind_class k no_span)
 kind_plain (Name bs) at = refl
 kind_plain (Word w) at =
-    word_places (is_same w (codes "for")) (is_same w (codes "to")) (is_same w (codes "do")) (is_same w (codes "switch"))
-    (cond (is_same w (codes "case")) case_word (cond (is_same w (codes "else")) else_word (cond (is_same w (codes "where")) where_word (cond (is_same w (codes "start")) start_word (cond (is_same w (codes "end")) end_word (cond (is_same w (codes "EOI")) eoi_word stray)))))) at
+    word_places (is_same w (codes "for")) (is_same w (codes "to")) (is_same w (codes "do")) (is_same w (codes "switch")) (is_same w (codes "case")) (is_same w (codes "else")) (is_same w (codes "where")) (is_same w (codes "start")) (is_same w (codes "end")) (is_same w (codes "EOI")) (is_same w (codes "many")) at
 kind_plain (Number z) at = refl
 kind_plain (Text bs) at = refl
 kind_plain (Symbol []) at = refl
@@ -102,6 +109,7 @@ class_plain where_word = refl
 class_plain start_word = refl
 class_plain end_word = refl
 class_plain eoi_word = refl
+class_plain (many_word at) = refl
 class_plain stray = refl
 
 abbrev first_or : List TokenKind → TokenKind → TokenKind

@@ -15,8 +15,8 @@ use Rattle.ipg_ast.specs.declared.grammar.Alt.{out-Alt, out-roll-Alt}
 use Rattle.ipg_ast.specs.declared.grammar.Rule.{Rule, out-roll-Rule}
 use Rattle.ipg_ast.specs.declared.grammar.Term.{Term}
 use Rattle.ipg_ast.specs.Spelling.{Tokens, sign_of, field_tokens, expr_step, expr_tokens, place_tokens, what_token, slot_tokens, case_tokens, cases_tokens, term_tokens, terms_tokens, local_alts_from, local_alts_tokens, local_tokens, locals_tokens, where_tokens, alt_tokens, alts_from, alts_tokens, rule_tokens, rules_tokens, grammar_tokens}
-use Rattle.ipg_syntax.specs.Classes.{Infix, either, both, op, Tok, name, number, text, sign, bang, question, colon, dot, comma, equals, arrow, semicolon, left_paren, right_paren, left_bracket, right_bracket, left_brace, right_brace, for_word, to_word, do_word, switch_word, case_word, else_word, where_word, start_word, end_word, eoi_word, stray, slash}
-use Rattle.ipg_syntax.specs.Written.{Toks, ExprTree, num, eoi, own, part, item, group, neg, isnt, two, choose, PlaceTree, anywhere, long, ends, SlotTree, CaseTree, TermTree, slot_term, set_term, test_term, repeat_term, pick_term, LocalTree, AltTree, RuleTree, field_tok, what_tok, spell_expr, spell_place, spell_slot, spell_case, spell_cases, spell_term, spell_terms, spell_local_alts, spell_local, spell_locals, spell_where, spell_alt, spell_alts, spell_rule, spell}
+use Rattle.ipg_syntax.specs.Classes.{Infix, either, both, op, Tok, name, number, text, sign, bang, question, colon, dot, comma, equals, arrow, semicolon, left_paren, right_paren, left_bracket, right_bracket, left_brace, right_brace, for_word, to_word, do_word, switch_word, case_word, else_word, where_word, start_word, end_word, eoi_word, many_word, stray, slash}
+use Rattle.ipg_syntax.specs.Written.{Toks, ExprTree, num, eoi, own, part, item, group, neg, isnt, two, choose, PlaceTree, anywhere, long, ends, SlotTree, CaseTree, TermTree, slot_term, set_term, test_term, repeat_term, many_term, pick_term, LocalTree, AltTree, RuleTree, field_tok, what_tok, spell_expr, spell_place, spell_slot, spell_case, spell_cases, spell_term, spell_terms, spell_local_alts, spell_local, spell_locals, spell_where, spell_alt, spell_alts, spell_rule, spell}
 use Rattle.ipg_canon.specs.Bare.{every}
 use Rattle.ipg_syntax.specs.Making.{made, infix_expr, alt_of, expr_by, place_by, slot_by, cases_by, term_by, grammar_of}
 use Rattle.ipg_canon.proofs.Images.{made_case, made_local_alt, made_local, made_alt, made_rule, cases_made, grammar_made}
@@ -55,6 +55,7 @@ kind_of where_word = Word (codes "where")
 kind_of start_word = Word (codes "start")
 kind_of end_word = Word (codes "end")
 kind_of eoi_word = Word (codes "EOI")
+kind_of (many_word at) = Word (codes "many")
 kind_of stray = Symbol []
 
 abbrev pub kinds_of : Toks → Tokens
@@ -155,6 +156,7 @@ term_kinds (repeat_term x a b i l r) =
     (Word (codes "to") ∷ (expr_tokens (expr_by made b) ++ end)) (expr_kinds a)
     (ap (λ ts. Word (codes "to") ∷ ts) (in_a_row (spell_expr b) (do_word ∷ name i ∷ spell_place (ends l r)) (expr_tokens (expr_by made b)) end (expr_kinds b)
     (ap (λ ts. Word (codes "do") ∷ Name i.name ∷ ts) (place_kinds (ends l r))))))
+term_kinds (many_term at i p) = ap (λ ts. Word (codes "many") ∷ Name i.name ∷ ts) (place_kinds p)
 term_kinds (pick_term at cs s) =
     let end : Tokens = Word (codes "else") ∷ (slot_tokens (slot_by made s) ++ (Symbol (codes "}") ∷ [])) in
     ap (λ ts. Word (codes "switch") ∷ Symbol (codes "{") ∷ ts)

@@ -1,4 +1,9 @@
 -- what the public calls answer
+pub mod Names
+pub mod ElfText
+pub mod PeText
+pub mod GifText
+pub mod PcapText
 pub mod Text
 pub mod Sample
 -- the formats, header by header

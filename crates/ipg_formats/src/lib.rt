@@ -9,6 +9,7 @@ mod texts;
 ghost use Rattle.std.specs.Prelude.{◌≡◌, ◌≤◌, length, vec_len, IsTrue, IfOk};
 ghost use Rattle.ipg_formats.specs.Text.{text_of, text_len, is_text};
 ghost use Rattle.ipg_formats.specs.Sample.{sample_of, sample_len};
+ghost use Rattle.ipg_formats.specs.Names.{kind_of};
 
 use std::alloc::{AllocError, Global};
 
@@ -19,6 +20,19 @@ pub enum Kind {
     Pe,
     Gif,
     Pcap,
+}
+
+/// The format whose grammar has this name, as in `@gif`.
+pub fn kind_named(name: &str) -> Option<Kind>
+    ensures { result ≡ kind_of name.now }
+{
+    match name {
+        "@elf" => Some(Kind::Elf),
+        "@pe" => Some(Kind::Pe),
+        "@gif" => Some(Kind::Gif),
+        "@pcap" => Some(Kind::Pcap),
+        _ => None,
+    }
 }
 
 /// The text of the built-in grammar, in plain ASCII: lines that each end in a line feed.

@@ -1,6 +1,6 @@
 //! The samples' bytes as the formats' public standards lay them out, field by field.
 
-use crate::{Kind, sample, text};
+use crate::{Kind, kind_named, sample, text};
 use std::test::Fail;
 
 /// e_ident; e_type to e_shstrndx; one Elf64_Shdr; one byte.
@@ -88,4 +88,10 @@ fn texts_begin_with_their_rule(rt: HostRuntime) {
     assert!(rt; text(Kind::Pe).starts_with(b"Pe -> "));
     assert!(rt; text(Kind::Gif).starts_with(b"Gif -> "));
     assert!(rt; text(Kind::Pcap).starts_with(b"Pcap -> "));
+}
+
+#[test]
+fn names_of_grammars(rt: HostRuntime) {
+    assert_eq!(rt; kind_named("@gif"), Some(Kind::Gif));
+    assert_eq!(rt; kind_named("gif"), None);
 }

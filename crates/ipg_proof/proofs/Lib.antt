@@ -7,3 +7,6 @@ pub mod Lines
 pub mod Whole
 pub mod Ends
 pub mod Worth
+pub mod Parts
+pub mod Graphs
+pub mod Alive

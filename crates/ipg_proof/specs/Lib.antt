@@ -12,3 +12,5 @@ pub mod Texts
 pub mod Seen
 pub mod Reads
 pub mod Numbers
+-- cycles without dead edges
+pub mod Cycles

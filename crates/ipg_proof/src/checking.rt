@@ -1,14 +1,13 @@
 //! Which entry's refutation does not check.
-ghost use Rattle.std.specs.Prelude.{◌≡◌, ◌++◌, ◌+◌, ◌<◌, ◌^◌, map, length, IfOk, OnOk, option_to_list};
+ghost use Rattle.std.specs.Prelude.{◌≡◌, ◌+◌, ◌<◌, ◌^◌, map, length, IfOk};
 ghost use Rattle.ipg_proof.specs.Calls as spec;
 ghost use Rattle.ipg_proof.specs.Proves.{first_false};
 ghost use Rattle.ipg_proof.specs.Seen.{seen};
 
 use crate::calls::Calls;
 use crate::certificate::Certificate;
+use crate::conditions::{joint_of, keep_of};
 use ipg_cert::{Refutation, check};
-use ipg_facts::{joint, keep};
-use ipg_lin::{Boxed, Formula};
 use ipg_num::List;
 use std::alloc::{AllocError, Global};
 
@@ -20,34 +19,8 @@ fn edge_checks(alloc: Global, calls: Calls, entry: &(u32, Refutation)) -> Result
     if calls.edges.len() <= edge as usize {
         return Ok(false);
     }
-    let part = keep(alloc, calls.grammar, calls.marks, calls.edges, edge)?;
+    let part = keep_of(alloc, calls, edge)?;
     check(alloc, &part.0, &part.1, &entry.1)
-}
-
-fn put_keep(
-    alloc: Global,
-    parts: &mut Vec<(Formula, Boxed)>,
-    calls: Calls,
-    edge: u32,
-) -> Result<(), AllocError>
-    ensures { OnOk result (parts.new.items ≡ parts.old.items ++ option_to_list (spec.keep_of (seen calls.entry) edge)) }
-{
-    if calls.edges.len() <= edge as usize {
-        return Ok(());
-    }
-    parts.push(keep(alloc, calls.grammar, calls.marks, calls.edges, edge)?)?;
-    Ok(())
-}
-
-/// The conditions of a cycle's edges.
-fn keeps(alloc: Global, calls: Calls, cycle: &[u32]) -> Result<Vec<(Formula, Boxed)>, AllocError>
-    ensures { IfOk result (λ parts. parts.items ≡ spec.keeps (seen calls.entry) cycle.now) }
-{
-    let mut parts = Vec::new(alloc);
-    for edge in cycle {
-        put_keep(alloc, &mut parts, calls, *edge)?;
-    }
-    Ok(parts)
 }
 
 /// A cycle's refutation checks against the joint of its edges' conditions.
@@ -58,8 +31,7 @@ fn cycle_checks(
 ) -> Result<bool, AllocError>
     ensures { IfOk result (λ on. on ≡ spec.cycle_checks (seen calls.entry) entry.now) }
 {
-    let parts = keeps(alloc, calls, entry.0.as_slice())?;
-    let joint = joint(alloc, parts.as_slice())?;
+    let joint = joint_of(alloc, calls, entry.0.as_slice())?;
     check(alloc, &joint.0, &joint.1, &entry.1)
 }
 

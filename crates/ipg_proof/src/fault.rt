@@ -2,6 +2,7 @@
 
 ghost use Rattle.std.specs.Prelude.{◌≡◌};
 
+use ipg_core::accepted::Core;
 use std::alloc::AllocError;
 use thiserror::Error;
 
@@ -28,6 +29,13 @@ impl From<AllocError> for ProofWhy {
     fn from(_: AllocError) -> ProofWhy {
         ProofWhy::Memory
     }
+}
+
+/// The grammar that a certificate does not prove, given back, and what is at fault.
+#[derive(Drop)]
+pub struct ProofFault {
+    pub grammar: Core,
+    pub why: ProofWhy,
 }
 
 /// Why a text is no certificate's.

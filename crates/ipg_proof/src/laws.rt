@@ -1,23 +1,47 @@
-//! What a certificate is worth: laws, each the contract of a function that calls only the laws it stands on.
+//! What a certificate is worth, and which cycles it needn't speak of: laws, each the contract of a function that calls only the laws it stands on.
 
-ghost use Rattle.ipg_proof.specs.Worth.{AcceptsIsTotal, ProvesIsTotal};
+ghost use Rattle.ipg_proof.specs.Cycles.{LiveCyclesAreCycles, LoopsAreLive};
+ghost use Rattle.ipg_proof.specs.Worth.{AcceptsIsTotal, ProvesIsAccepted, ProvesIsTotal};
 
 use ipg_cert::laws::checks_refute;
 use ipg_ends::laws::ends_where_none_solve;
 use ipg_graph::runs_are_whole;
+use ipg_sound::laws::{conditions_are_parts, joint_solves_parts};
+
+/// A grammar that a certificate proves is accepted: none of its cycles can be walked on one length of the part.
+pub fn proves_is_accepted()
+    ensures { ProvesIsAccepted }
+{
+    checks_refute();
+    loops_are_live();
+    runs_are_whole();
+}
 
 /// Parsing by a good grammar that a certificate proves ends.
 pub fn proves_is_total()
     ensures { ProvesIsTotal }
 {
-    checks_refute();
-    ends_where_none_solve();
-    runs_are_whole();
+    accepts_is_total();
+    proves_is_accepted();
 }
 
-/// So does parsing by a good grammar none of whose cycles can be walked on one length of the part.
+/// So does parsing by a good grammar that is accepted.
 pub fn accepts_is_total()
     ensures { AcceptsIsTotal }
 {
     ends_where_none_solve();
+}
+
+/// The cycles of the edges that aren't dead are cycles of all edges.
+pub fn live_cycles_are_cycles()
+    ensures { LiveCyclesAreCycles }
+{}
+
+/// Where each dead edge has a refutation that checks, those are all cycles that can be walked on one length of the part.
+pub fn loops_are_live()
+    ensures { LoopsAreLive }
+{
+    checks_refute();
+    conditions_are_parts();
+    joint_solves_parts();
 }

@@ -4,18 +4,25 @@
 mod calls;
 mod certificate;
 mod checking;
+mod conditions;
 mod fault;
 mod judging;
 pub mod laws;
+mod live;
 mod placing;
 mod reader;
 mod reading;
 #[cfg(test)]
 mod tests;
 mod text;
+mod verifying;
 
+pub use calls::Calls;
 pub use certificate::Certificate;
-pub use fault::{CertFault, ProofWhy};
+pub use conditions::{joint_of, keep_of};
+pub use fault::{CertFault, ProofFault, ProofWhy};
 pub use judging::judged;
+pub use live::live_cycles;
 pub use reading::cert_read;
 pub use text::cert_text;
+pub use verifying::verify;

@@ -1,17 +1,17 @@
 //! Which entry is out of place.
-ghost use Rattle.std.specs.Prelude.{◌≡◌, ◌++◌, ◌+◌, ◌<◌, ◌≤◌, ◌^◌, map, length, replicate, false, true, slice_set, IfOk, MatchOption};
+ghost use Rattle.std.specs.Prelude.{◌≡◌, ◌+◌, ◌<◌, ◌^◌, map, length, IfOk, MatchOption};
 ghost use Rattle.ipg_edges.specs.Edges.{edges_of};
 ghost use Rattle.ipg_graph.specs.Answers.{Start, IsRun};
-ghost use Rattle.ipg_proof.specs.Calls.{with_set, dead_edges, cycles_of, live_graph};
+ghost use Rattle.ipg_proof.specs.Calls.{dead_edges, cycles_of, live_graph};
 ghost use Rattle.ipg_proof.specs.Places.{Rise, IsFirstOff, IsFirstOther, AreInPlace, IsMismatch};
 ghost use Rattle.ipg_proof.specs.Seen.{Takes};
 
 use crate::certificate::Certificate;
+use crate::live::live_cycles;
 use ipg_cert::Refutation;
 use ipg_core::accepted::Core;
 use ipg_graph::{Cycles, Edge};
 use ipg_num::List;
-use ipg_sound::laws::{edges_are_few, edges_are_inside};
 use std::alloc::{AllocError, Global};
 
 /// The first dead edge that is no edge, or not above the one before it.
@@ -27,25 +27,6 @@ fn off(edges: usize, dead: &[(u32, Refutation)]) -> Option<u64>
         low = edge + 1;
     }
     None
-}
-
-fn set(flags: &mut Vec<bool>, at: u32)
-    ensures { flags.new.items ≡ slice_set flags.old.items at true }
-{
-    if (at as usize) < flags.len() {
-        flags[at as usize] = true;
-    }
-}
-
-/// Whether each edge is dead.
-fn flags(alloc: Global, edges: usize, dead: &[(u32, Refutation)]) -> Result<Vec<bool>, AllocError>
-    ensures { IfOk result (λ flags. flags.items ≡ with_set (replicate edges false) (map (λ entry. entry.0) dead.now)) }
-{
-    let mut flags = vec![in alloc; false; edges]?;
-    for entry in dead {
-        set(&mut flags, entry.0);
-    }
-    Ok(flags)
 }
 
 /// Lists the next cycle: whether it is this one.
@@ -85,11 +66,7 @@ fn misplaced_cycle(
     ensures { IfOk result (λ at. MatchOption at (IsRun (live_graph g.now (dead_edges c.now)) Start (cycles_of c.now)) (λ at. IsFirstOther (live_graph g.now (dead_edges c.now)) Start (length c.now.dead) (cycles_of c.now) at)) }
 {
     let dead = c.dead.as_slice();
-    let flags = flags(alloc, edges.len(), dead)?;
-    edges_are_inside();
-    edges_are_few();
-    let rules = g.rules().len() as u32;
-    let mut cycles = Cycles::new(alloc, rules, edges, flags.as_slice())?;
+    let mut cycles = live_cycles(alloc, g, edges, dead)?;
     Ok(other(&mut cycles, dead.len() as u64, c.cycles.as_slice()))
 }
 

@@ -1,6 +1,8 @@
 //! Texts read and written again, and the places of faults.
 
-use crate::laws::{accepts_is_total, proves_is_total};
+use crate::laws::{
+    accepts_is_total, live_cycles_are_cycles, loops_are_live, proves_is_accepted, proves_is_total,
+};
 use crate::{CertFault, Certificate, cert_read, cert_text};
 use ipg_cert::{Refutation, Step};
 use ipg_num::List;
@@ -72,7 +74,10 @@ fn faults_are_at_their_first_byte(rt: HostRuntime) -> Result<(), Fail> {
     for row in rows {
         assert_eq!(rt; fault_at(alloc, row.0), Some(row.1));
     }
+    proves_is_accepted();
     proves_is_total();
     accepts_is_total();
+    live_cycles_are_cycles();
+    loops_are_live();
     Ok(())
 }

@@ -1,5 +1,10 @@
-pub mod Stacked
-pub mod Rests
+pub mod Scans
 pub mod Places
-pub mod BuiltStacked
-pub mod Endings
+pub mod Dues
+pub mod Levels
+pub mod Ends
+pub mod CountSteps
+pub mod CountRuns
+pub mod MadeSteps
+pub mod MadeRuns
+pub mod Same

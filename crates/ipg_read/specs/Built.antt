@@ -1,141 +1,290 @@
--- What the code's positions of the second reading stand for.
-use Rattle.std.specs.Prelude.{◌≡◌, ℕ, List, [], ◌∷◌, Option, Some, None, Result, Ok, Err}
-use Rattle.ipg_ast.specs.declared.grammar.Expr as Ast
-use Rattle.ipg_syntax.specs.Machine as M
-use Rattle.ipg_syntax.specs.Classes.{Tok}
-use Rattle.ipg_syntax.specs.Making.{made}
-use Rattle.ipg_read.specs.Lexemes.{ident_of}
-use Rattle.ipg_read.specs.Leads.{what_of, span_of}
-use Rattle.ipg_read.specs.BuiltStacks as Stacks
-use Rattle.ipg_read.specs.declared.build.frame.Frame.{Frame}
-use Rattle.ipg_read.specs.declared.build.frame.Closed.{Closed}
-use Rattle.ipg_read.specs.declared.build.frame.Closed.TheVariants.{Over, Stopped}
-use Rattle.ipg_read.specs.declared.build.place.Inner.{Inner}
-use Rattle.ipg_read.specs.declared.build.place.Inner.TheVariants.{Want, Have, Named, Dotted, Indexed, IndexDotted}
-use Rattle.ipg_read.specs.declared.build.place.Next.{Next}
-use Rattle.ipg_read.specs.declared.build.place.Next.TheVariants as N
-use Rattle.ipg_read.specs.declared.build.place.Role.{Role}
-use Rattle.ipg_read.specs.declared.build.place.Role.TheVariants.{Alone, Chosen, Other}
-use Rattle.ipg_read.specs.declared.build.place.Base.{Base}
-use Rattle.ipg_read.specs.declared.build.place.Base.TheVariants.{LengthOrLeft, RightOf, ValueOf, TestOf, FirstBound, LastBound, ItemLeft, ItemRight, CaseOf}
-use Rattle.ipg_read.specs.declared.build.place.Part.{Part}
-use Rattle.ipg_read.specs.declared.build.place.Part.TheVariants.{SlotNamed, Expr, SetOpen, SetNamed, TestOpen, RepeatOpen, RepeatNamed, ItemDue, ItemNamed, PickOpen, FirstCase, NextCase, CaseOpen, SlotDue, PickClose}
-use Rattle.ipg_read.specs.declared.build.place.Turn.{Turn}
-use Rattle.ipg_read.specs.declared.build.place.Turn.TheVariants.{Still, Done, Passed}
-use Rattle.ipg_read.specs.declared.build.place.Head.{Head}
-use Rattle.ipg_read.specs.declared.build.place.Site.{Site}
-use Rattle.ipg_read.specs.declared.build.place.Site.TheVariants.{Global, Local}
-use Rattle.ipg_read.specs.declared.build.place.Pos.{Pos}
-use Rattle.ipg_read.specs.declared.build.place.Pos.TheVariants.{Start, Between, RuleNamed, LocalNamed, BeforeTerm, InTerm, AfterTerm, WhereNamed, BeforeLocal, AfterLocal, AfterWhere}
-use Rattle.ipg_read.specs.declared.build.verdict.Outcome.{Outcome}
-use Rattle.ipg_read.specs.declared.build.verdict.Outcome.TheVariants.{Grammar, Stuck}
+-- What is made of the rows: the forms that are still parts to be, the last one first, and the lists that are being made.
+use Rattle.std.specs.Prelude.{List, [], ◌∷◌}
+use Rattle.ipg_ast.specs.declared.grammar.Ident.{Ident}
+use Rattle.ipg_ast.specs.declared.grammar.Span.{Span}
+use Rattle.ipg_ast.specs.declared.grammar.Field.{Field}
+use Rattle.ipg_ast.specs.declared.grammar.Expr.{Expr}
+use Rattle.ipg_ast.specs.declared.grammar.Expr.TheVariants as E
+use Rattle.ipg_ast.specs.declared.grammar.Place.{Place}
+use Rattle.ipg_ast.specs.declared.grammar.Place.TheVariants as P
+use Rattle.ipg_ast.specs.declared.grammar.What.{What}
+use Rattle.ipg_ast.specs.declared.grammar.What.TheVariants as W
+use Rattle.ipg_ast.specs.declared.grammar.Slot.{Slot}
+use Rattle.ipg_ast.specs.declared.grammar.Case.{Case}
+use Rattle.ipg_ast.specs.declared.grammar.Term.{Term}
+use Rattle.ipg_ast.specs.declared.grammar.Term.TheVariants as T
+use Rattle.ipg_ast.specs.declared.grammar.Alt.{Alt}
+use Rattle.ipg_ast.specs.declared.grammar.Rule.{Rule}
+use Rattle.ipg_syntax.specs.Making.{last, infix_expr, alt_of, rule_of}
+use Rattle.ipg_read.specs.declared.row.Site.{Site}
+use Rattle.ipg_read.specs.declared.row.Site.TheVariants.{Global, Local}
+use Rattle.ipg_read.specs.declared.row.Role.{Role}
+use Rattle.ipg_read.specs.declared.row.Role.TheVariants as Use
+use Rattle.ipg_read.specs.declared.row.Extent.{Extent}
+use Rattle.ipg_read.specs.declared.row.Extent.TheVariants.{Open, Length, Ends}
+use Rattle.ipg_read.specs.declared.build.Build.{Build}
+use Rattle.ipg_read.specs.Counted.{below}
+use Rattle.ipg_read.specs.Rowed.{Row}
+use Rattle.ipg_read.specs.Rowed as R
 
-abbrev pub MFrames : Type 0
-MFrames = List (M.Frame made)
+-- names, expressions and slots that no row took yet; `outer` are the terms before a `where`
+pub record Parts : Type 0 where
+  pub exprs : List Expr
+  pub names : List Ident
+  pub slots : List Slot
+  pub cases : List Case
+  pub terms : List Term
+  pub outer : List Term
+  pub local_alts : List Alt
+  pub locals : List Rule
+  pub alts : List Alt
+  pub rules : List Rule
 
-abbrev pub MBase : Type 0
-MBase = M.Base made
+abbrev pub parts_of : Build → Parts
+parts_of b = record {
+  exprs = b.exprs;
+  names = b.names;
+  slots = b.slots;
+  cases = b.cases;
+  terms = b.terms;
+  outer = b.outer;
+  local_alts = b.local_alts;
+  locals = b.locals;
+  alts = b.alts;
+  rules = b.rules;
+}
 
-abbrev pub frame_of : Frame → M.Frame made
-frame_of = Stacks.frame_of
+abbrev pub blank : Parts
+blank = record { exprs = []; names = []; slots = []; cases = []; terms = []; outer = []; local_alts = []; locals = []; alts = []; rules = [] }
 
-abbrev pub frames_of : List Frame → MFrames
-frames_of = Stacks.frames_of
+-- ---- one field
 
--- the top of a stack is taken, where there is one
-abbrev pub Pops : MFrames → MFrames → Option Frame → Type 0
-Pops before after None = (before ≡ []) × (after ≡ [])
-Pops before after (Some f) = before ≡ frame_of f ∷ after
+abbrev pub put_exprs : List Expr → Parts → Parts
+put_exprs xs p = record { exprs = xs; names = p.names; slots = p.slots; cases = p.cases; terms = p.terms; outer = p.outer; local_alts = p.local_alts; locals = p.locals; alts = p.alts; rules = p.rules }
 
--- one frame closes over an operand, or stops the closing
-abbrev pub Closes : ℕ → M.Frame made → Ast.Expr → Closed → Type 0
-Closes level f e (Over whole) = (below : MFrames) → M.close made level (f ∷ below) e ≡ M.close made level below whole
-Closes level f e (Stopped g d) = (below : MFrames) → M.close made level (f ∷ below) e ≡ record { frames = frame_of g ∷ below; operand = d }
+abbrev pub put_names : List Ident → Parts → Parts
+put_names xs p = record { exprs = p.exprs; names = xs; slots = p.slots; cases = p.cases; terms = p.terms; outer = p.outer; local_alts = p.local_alts; locals = p.locals; alts = p.alts; rules = p.rules }
 
-abbrev pub inner_of : Inner → M.Inner made
-inner_of (Want fs) = M.want (frames_of fs)
-inner_of (Have fs e) = M.have (frames_of fs) e
-inner_of (Named fs l) = M.named (frames_of fs) (ident_of l)
-inner_of (Dotted fs l) = M.dotted (frames_of fs) (ident_of l)
-inner_of (Indexed fs l e) = M.indexed (frames_of fs) (ident_of l) e
-inner_of (IndexDotted fs l e) = M.index_dotted (frames_of fs) (ident_of l) e
+abbrev pub put_slots : List Slot → Parts → Parts
+put_slots xs p = record { exprs = p.exprs; names = p.names; slots = xs; cases = p.cases; terms = p.terms; outer = p.outer; local_alts = p.local_alts; locals = p.locals; alts = p.alts; rules = p.rules }
 
-abbrev pub role_of : Role → M.SlotUse made
-role_of Alone = M.alone
-role_of (Chosen at cs c) = M.chosen at cs c
-role_of (Other at cs) = M.other at cs
+abbrev pub put_cases : List Case → Parts → Parts
+put_cases xs p = record { exprs = p.exprs; names = p.names; slots = p.slots; cases = xs; terms = p.terms; outer = p.outer; local_alts = p.local_alts; locals = p.locals; alts = p.alts; rules = p.rules }
 
-abbrev pub base_of : Base → M.Base made
-base_of (LengthOrLeft u l) = M.length_or_left (role_of u) (what_of l) (span_of l)
-base_of (RightOf u l e) = M.right_of (role_of u) (what_of l) (span_of l) e
-base_of (ValueOf x) = M.value_of (ident_of x)
-base_of (TestOf at) = M.test_of at
-base_of (FirstBound x) = M.first_bound (ident_of x)
-base_of (LastBound x a) = M.last_bound (ident_of x) a
-base_of (ItemLeft b i) = M.item_left (ident_of b.name) b.from b.to (ident_of i)
-base_of (ItemRight b i l) = M.item_right (ident_of b.name) b.from b.to (ident_of i) l
-base_of (CaseOf at cs) = M.case_of at cs
+abbrev pub put_term : Term → Parts → Parts
+put_term t p = record { exprs = p.exprs; names = p.names; slots = p.slots; cases = p.cases; terms = last p.terms t; outer = p.outer; local_alts = p.local_alts; locals = p.locals; alts = p.alts; rules = p.rules }
 
-abbrev pub part_of : Part → M.Part made
-part_of (SlotNamed u l) = M.slot_named (role_of u) (what_of l) (span_of l)
-part_of (Expr base first inner) = M.expr (base_of base) first (inner_of inner)
-part_of SetOpen = M.set_open
-part_of (SetNamed x) = M.set_named (ident_of x)
-part_of (TestOpen at) = M.test_open at
-part_of RepeatOpen = M.repeat_open
-part_of (RepeatNamed x) = M.repeat_named (ident_of x)
-part_of (ItemDue b) = M.item_due (ident_of b.name) b.from b.to
-part_of (ItemNamed b i) = M.item_named (ident_of b.name) b.from b.to (ident_of i)
-part_of (PickOpen at) = M.pick_open at
-part_of (FirstCase at) = M.first_case at
-part_of (NextCase at cs) = M.next_case at cs
-part_of (CaseOpen at cs) = M.case_open at cs
-part_of (SlotDue u) = M.slot_due (role_of u)
-part_of (PickClose at cs s) = M.pick_close at cs s
+-- ---- expressions
 
--- a place within a term, but outside of its expressions
-abbrev pub IsOutside : Part → Type 0
-IsOutside (Expr base first inner) = ⊥
-IsOutside p = Unit {0}
+-- the last one, or `EOI` where there is none
+abbrev pub top : List Expr → Expr
+top [] = E.Eoi
+top (e ∷ es) = e
 
-abbrev pub turn_of : Turn → M.Turn made
-turn_of (Still p) = M.still tt (part_of p)
-turn_of (Done t) = M.done tt t
-turn_of (Passed t) = M.passed tt t
+abbrev pub put_expr : Expr → Parts → Parts
+put_expr e p = put_exprs (e ∷ p.exprs) p
 
--- what a token within an expression, or after it, makes of the term around it
-abbrev pub next_of : ℕ → MBase → ℕ → Tok → Next → Option (M.Turn made)
-next_of at base first t (N.Within inner) = Some (M.still tt (M.expr base first (inner_of inner)))
-next_of at base first t (N.Whole e) = M.ended made at tt base e t
-next_of at base first t N.Stuck = None
+abbrev pub one : (Expr → Expr) → Parts → Parts
+one f p = put_exprs (f (top p.exprs) ∷ below p.exprs) p
 
-abbrev pub head_of : Head → M.Head made
-head_of h = record { rules = h.rules; name = ident_of h.name; alts = h.alts }
+abbrev pub two : (Expr → Expr → Expr) → Parts → Parts
+two f p = put_exprs (f (top (below p.exprs)) (top p.exprs) ∷ below (below p.exprs)) p
 
-abbrev pub site_of : Site → M.Site made
-site_of (Global h) = M.global (head_of h)
-site_of (Local h ts ls n las) = M.local (head_of h) ts ls (ident_of n) las
+abbrev pub three : (Expr → Expr → Expr → Expr) → Parts → Parts
+three f p = put_exprs (f (top (below (below p.exprs))) (top (below p.exprs)) (top p.exprs) ∷ below (below (below p.exprs))) p
 
-abbrev pub pos_of : Pos → M.Pos made
-pos_of Start = M.start
-pos_of (Between rs) = M.between rs
-pos_of (RuleNamed rs n) = M.rule_named rs (ident_of n)
-pos_of (LocalNamed h ts ls n) = M.local_named (head_of h) ts ls (ident_of n)
-pos_of (BeforeTerm site) = M.before_term (site_of site)
-pos_of (InTerm site ts part) = M.in_term (site_of site) ts (part_of part)
-pos_of (AfterTerm site ts) = M.after_term (site_of site) ts
-pos_of (WhereNamed h ts) = M.where_named (head_of h) ts
-pos_of (BeforeLocal h ts) = M.before_local (head_of h) ts
-pos_of (AfterLocal h ts ls) = M.after_local (head_of h) ts ls
-pos_of (AfterWhere h) = M.after_where (head_of h)
+-- the name last put is an attribute, or has a part
+abbrev pub named : (Ident → Expr) → List Ident → Parts → Parts
+named f [] p = p
+named f (i ∷ is) p = put_expr (f i) (put_names is p)
 
-abbrev pub IsOutsideTerm : Pos → Type 0
-IsOutsideTerm (InTerm site ts part) = ⊥
-IsOutsideTerm p = Unit {0}
+-- the name before an index
+abbrev pub indexed : Field → List Ident → Parts → Parts
+indexed f [] p = p
+indexed f (i ∷ is) p = put_exprs (E.Item i (top p.exprs) f ∷ below p.exprs) (put_names is p)
 
-abbrev pub state_of : Pos → M.State made
-state_of p = record { log = tt; pos = pos_of p }
+-- ---- slots
 
-abbrev pub outcome_of : Outcome → Result (M.Read made) ℕ
-outcome_of (Grammar rs) = Ok (record { log = tt; rules = rs })
-outcome_of (Stuck n) = Err n
+abbrev pub slot : What → Span → Slot
+slot what at = record { what = what; span = at; place = P.Open }
+
+abbrev pub placed : Slot → Place → Slot
+placed s place = record { what = s.what; span = s.span; place = place }
+
+abbrev pub place_of : Extent → List Expr → Place
+place_of Open es = P.Open
+place_of Length es = P.Length (top es)
+place_of Ends es = P.Ends (top (below es)) (top es)
+
+abbrev pub left_by : Extent → List Expr → List Expr
+left_by Open es = es
+left_by Length es = below es
+left_by Ends es = below (below es)
+
+-- ---- terms
+
+abbrev pub slot_term : Place → List Slot → Parts → Parts
+slot_term place [] p = p
+slot_term place (s ∷ ss) p = put_term (T.Slot (placed s place)) (put_slots ss p)
+
+abbrev pub many_term : Span → Place → List Ident → Parts → Parts
+many_term at place [] p = p
+many_term at place (i ∷ is) p = put_term (T.Many at i place) (put_names is p)
+
+abbrev pub slot_case : Place → List Slot → Parts → Parts
+slot_case place [] p = p
+slot_case place (s ∷ ss) p = put_cases (last p.cases (record { cond = top p.exprs; slot = placed s place })) (put_exprs (below p.exprs) (put_slots ss p))
+
+abbrev pub slot_other : Place → List Slot → Parts → Parts
+slot_other place [] p = p
+slot_other place (s ∷ ss) p = put_slots (placed s place ∷ ss) p
+
+abbrev pub filled : Role → Place → Parts → Parts
+filled Use.Term place p = slot_term place p.slots p
+filled (Use.Many at) place p = many_term at place p.names p
+filled Use.Case place p = slot_case place p.slots p
+filled Use.Other place p = slot_other place p.slots p
+
+abbrev pub set_term : List Ident → Parts → Parts
+set_term [] p = p
+set_term (i ∷ is) p = put_term (T.Set i (top p.exprs)) (put_exprs (below p.exprs) (put_names is p))
+
+-- the loop variable, the bounds, the item and its interval
+abbrev pub repeated : Ident → Ident → List Ident → Parts → Parts
+repeated x i is p =
+    put_term (T.Repeat x (top (below (below (below p.exprs)))) (top (below (below p.exprs))) i (top (below p.exprs)) (top p.exprs))
+    (put_exprs (below (below (below (below p.exprs)))) (put_names is p))
+
+abbrev pub repeat_term : List Ident → Parts → Parts
+repeat_term [] p = p
+repeat_term (i ∷ []) p = p
+repeat_term (i ∷ x ∷ is) p = repeated x i is p
+
+abbrev pub pick_term : Span → List Slot → Parts → Parts
+pick_term at [] p = p
+pick_term at (s ∷ ss) p = put_term (T.Pick at p.cases s) (put_cases [] (put_slots ss p))
+
+-- ---- alternatives and rules
+
+-- the terms so far, and no local rules
+abbrev pub alt_ends : Site → Parts → Parts
+alt_ends Global p = record {
+  exprs = p.exprs;
+  names = p.names;
+  slots = p.slots;
+  cases = p.cases;
+  terms = [];
+  outer = p.outer;
+  local_alts = p.local_alts;
+  locals = p.locals;
+  alts = last p.alts (alt_of p.terms []);
+  rules = p.rules;
+}
+alt_ends Local p = record {
+  exprs = p.exprs;
+  names = p.names;
+  slots = p.slots;
+  cases = p.cases;
+  terms = [];
+  outer = p.outer;
+  local_alts = last p.local_alts (alt_of p.terms []);
+  locals = p.locals;
+  alts = p.alts;
+  rules = p.rules;
+}
+
+abbrev pub put_rule : Site → Ident → Parts → Parts
+put_rule Global n p = record {
+  exprs = p.exprs;
+  names = p.names;
+  slots = p.slots;
+  cases = p.cases;
+  terms = p.terms;
+  outer = p.outer;
+  local_alts = p.local_alts;
+  locals = p.locals;
+  alts = [];
+  rules = last p.rules (rule_of n p.alts);
+}
+put_rule Local n p = record {
+  exprs = p.exprs;
+  names = p.names;
+  slots = p.slots;
+  cases = p.cases;
+  terms = p.terms;
+  outer = p.outer;
+  local_alts = [];
+  locals = last p.locals (rule_of n p.local_alts);
+  alts = p.alts;
+  rules = p.rules;
+}
+
+abbrev pub rule_ends : Site → List Ident → Parts → Parts
+rule_ends site [] p = p
+rule_ends site (n ∷ ns) p = put_rule site n (put_names ns p)
+
+abbrev pub end_rule : Site → Parts → Parts
+end_rule site p = rule_ends site p.names (alt_ends site p)
+
+abbrev pub locals_begin : Parts → Parts
+locals_begin p = record {
+  exprs = p.exprs;
+  names = p.names;
+  slots = p.slots;
+  cases = p.cases;
+  terms = [];
+  outer = p.terms;
+  local_alts = p.local_alts;
+  locals = p.locals;
+  alts = p.alts;
+  rules = p.rules;
+}
+
+abbrev pub locals_end : Parts → Parts
+locals_end p = record {
+  exprs = p.exprs;
+  names = p.names;
+  slots = p.slots;
+  cases = p.cases;
+  terms = p.terms;
+  outer = [];
+  local_alts = p.local_alts;
+  locals = [];
+  alts = last p.alts (alt_of p.outer p.locals);
+  rules = p.rules;
+}
+
+-- ---- a row
+
+abbrev pub make : Row → Parts → Parts
+make (R.rule at) p = p
+make (R.name i) p = put_names (i ∷ p.names) p
+make (R.first site at) p = p
+make (R.term at) p = p
+make (R.text i) p = put_slots (slot (W.Text i.name) i.span ∷ p.slots) p
+make (R.call i) p = put_slots (slot (W.Call i.name) i.span ∷ p.slots) p
+make (R.placed extent role) p = filled role (place_of extent p.exprs) (put_exprs (left_by extent p.exprs) p)
+make R.set p = set_term p.names p
+make (R.test at) p = put_term (T.Test at (top p.exprs)) (put_exprs (below p.exprs) p)
+make R.repeat p = repeat_term p.names p
+make (R.pick at) p = pick_term at p.slots p
+make (R.next_alt site) p = alt_ends site p
+make (R.end_rule site) p = end_rule site p
+make R.locals p = locals_begin p
+make R.end_locals p = locals_end p
+make R.close p = rule_ends Global p.names p
+make (R.num z) p = put_expr (E.Num z) p
+make R.eoi p = put_expr E.Eoi p
+make R.own p = named E.Id p.names p
+make (R.part f) p = named (λ i. E.Part i f) p.names p
+make (R.item f) p = indexed f p.names p
+make R.group p = one E.Group p
+make R.neg p = one E.Neg p
+make R.isnt p = one E.Not p
+make (R.two i) p = two (infix_expr i) p
+make R.choose p = three E.Cond p
+make (R.whole from) p = p
+
+abbrev pub makes : List Row → Parts → Parts
+makes [] p = p
+makes (r ∷ rs) p = makes rs (make r p)

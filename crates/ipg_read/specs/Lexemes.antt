@@ -5,7 +5,7 @@ use Rattle.ipg_read.specs.declared.lexeme.Label.{Label}
 use Rattle.ipg_read.specs.declared.lexeme.Infix.{Infix}
 use Rattle.ipg_read.specs.declared.lexeme.Infix.TheVariants.{Either, Both, Op}
 use Rattle.ipg_read.specs.declared.lexeme.Lexeme.{Lexeme}
-use Rattle.ipg_read.specs.declared.lexeme.Lexeme.TheVariants.{Name, Number, Text, Sign, Bang, Question, Colon, Dot, Comma, Equals, Arrow, Semicolon, LeftParen, RightParen, LeftBracket, RightBracket, LeftBrace, RightBrace, For, To, Do, Switch, Case, Else, Where, Start, End, Eoi, Stray}
+use Rattle.ipg_read.specs.declared.lexeme.Lexeme.TheVariants.{Name, Number, Text, Sign, Bang, Question, Colon, Dot, Comma, Equals, Arrow, Semicolon, LeftParen, RightParen, LeftBracket, RightBracket, LeftBrace, RightBrace, For, To, Do, Switch, Case, Else, Where, Start, End, Eoi, Many, Stray}
 
 abbrev pub ident_of : Label → Ident
 ident_of l = record { name = l.name.now; span = l.span }
@@ -44,4 +44,10 @@ tok_of Where = C.where_word
 tok_of Start = C.start_word
 tok_of End = C.end_word
 tok_of Eoi = C.eoi_word
+tok_of (Many at) = C.many_word at
 tok_of Stray = C.stray
+
+abbrev pub coded_infix : C.Infix → Infix
+coded_infix C.either = Either
+coded_infix C.both = Both
+coded_infix (C.op o) = Op o

@@ -53,6 +53,7 @@ pub enum Lexeme<'a> {
     Start,
     End,
     Eoi,
+    Many(Span),
     Stray,
 }
 
@@ -92,6 +93,8 @@ fn word_lexeme<'a>(word: &[u8], at: Span) -> Lexeme<'a>
         Lexeme::End
     } else if same(word, b"EOI") {
         Lexeme::Eoi
+    } else if same(word, b"many") {
+        Lexeme::Many(at)
     } else {
         Lexeme::Stray
     }

@@ -3,9 +3,13 @@
 
 mod build;
 mod count;
-mod lead;
+mod due;
 mod lexeme;
+mod limits;
 mod reading;
+mod row;
+mod scan;
+mod stack;
 #[cfg(test)]
 mod tests;
 

@@ -1,56 +1,81 @@
-ghost use Rattle.std.specs.Prelude.{◌≡◌, ◌⊎◌, ◌≤◌, ◌^◌, MatchResult, length, Ok, Err};
-ghost use Rattle.ipg_syntax.specs.Reading.{read_of, place_of, counted_answer, made_answer};
-ghost use Rattle.ipg_read.specs.Counted.{verdict_of};
-ghost use Rattle.ipg_read.specs.Built.{outcome_of};
+ghost use Rattle.std.specs.Prelude.{◌≡◌, ◌⊎◌, ◌≤◌, ◌^◌, ℕ, List, MatchResult, IfOk, length, Ok, Err};
+ghost use Rattle.ipg_syntax.specs.Laws.{Refused};
+ghost use Rattle.ipg_syntax.specs.Reading.{ReadsWithin, read_of, place_of};
+ghost use Rattle.ipg_read.specs.Rowed.{rows_of};
+ghost use Rattle.ipg_tokens.specs.declared.token.Token.{Token as Tokened};
+ghost use Rattle.ipg_read.specs.Told.{answer, rows_answer};
+ghost use Rattle.ipg_read.specs.Outcomes.{told};
 
-use crate::build::verdict::{Outcome, built};
-use crate::count::verdict::{Verdict, counted};
+use crate::build::built;
+use crate::count::first_over;
+use crate::limits::Over;
+use crate::row::Row;
+use crate::scan::{Found, scan};
 use crate::{Grammar, ReadFault, Token, tokens};
-use std::alloc::Global;
+use ipg_ast::Rule;
+use ipg_num::List;
+use ipg_syntax::laws::{reads_exactly, refused_exactly};
+use std::alloc::{AllocError, Global};
 
 /// The grammar that a text reads as, within the limits.
 ///
 /// # Errors
-/// The first fault of the text, G1 to G5, with its place in bytes; `Memory` where memory is wanting.
+/// Why the text is refused, G1 to G5, with the place in bytes; `Memory` where memory is wanting.
 pub fn read(alloc: Global, text: &[u8]) -> Result<Grammar, ReadFault>
+    ensures { MatchResult result (ReadsWithin text.now) (λ fault. (fault ≡ ReadFault.Memory) ⊎ Refused text.now fault) }
+{
+    reads_exactly();
+    refused_exactly();
+    answered(alloc, text)
+}
+
+/// What the tokens of a text are: a grammar within the limits, one that passes a limit, or none.
+#[derive(Drop)]
+pub enum Outcome {
+    Grammar(List<Rule>),
+    Over(Over),
+    Stuck(usize),
+}
+
+#[tactic(auto, using(crate::proofs::Same::read_by_rows))]
+fn answered(alloc: Global, text: &[u8]) -> Result<Grammar, ReadFault>
     ensures { MatchResult result (λ g. read_of text.now ≡ Ok g) (λ fault. (fault ≡ ReadFault.Memory) ⊎ (read_of text.now ≡ Err fault)) }
 {
     let found = tokens(alloc, text)?;
-    let verdict = counted(alloc, found.as_slice())?;
-    judged(alloc, text, found.as_slice(), verdict)
+    let outcome = outcome_of(alloc, found.as_slice())?;
+    told(text, found.as_slice(), outcome)
 }
 
-/// The answer after the first reading.
-fn judged(
-    alloc: Global,
-    text: &[u8],
-    found: &[Token],
-    verdict: Verdict,
-) -> Result<Grammar, ReadFault>
-    requires { length text.now ≤ 2 ^ 20 }
-    ensures { MatchResult result (λ g. counted_answer text.now found.now (verdict_of verdict) ≡ Ok g) (λ fault. (fault ≡ ReadFault.Memory) ⊎ (counted_answer text.now found.now (verdict_of verdict) ≡ Err fault)) }
+fn outcome_of(alloc: Global, found: &[Token]) -> Result<Outcome, AllocError>
+    ensures { IfOk result (λ outcome. (text : List ℕ) → told text found.now outcome ≡ answer text found.now) }
 {
-    match verdict {
-        Verdict::Stuck(n) => Err(ReadFault::Syntax {
-            at: place_at(text, found, n),
-        }),
-        Verdict::Grammar(seen) => match seen.over {
-            Some(over) => Err(ReadFault::Limit {
-                which: over.which,
-                at: place_at(text, found, over.at),
-            }),
-            None => grammar(text, found, built(alloc, found)?),
-        },
+    match scan(alloc, found)? {
+        Found::Rows(rows) => of_rows(alloc, rows.as_slice()),
+        Found::Stuck(n) => Ok(Outcome::Stuck(n)),
     }
 }
 
-/// The answer of the second reading, which ends as the first one did.
-fn grammar(text: &[u8], found: &[Token], outcome: Outcome) -> Result<Grammar, ReadFault>
+/// The grammar that the rows make, or the first limit that they pass.
+fn of_rows<'a>(alloc: Global, rows: &[Row<'a>]) -> Result<Outcome, AllocError>
+    ensures { IfOk result (λ outcome. (text : List ℕ) (ts : List Tokened) → told text ts outcome ≡ rows_answer text ts (rows_of rows.now)) }
+{
+    match first_over(alloc, rows)? {
+        Some(over) => Ok(Outcome::Over(over)),
+        None => Ok(Outcome::Grammar(built(alloc, rows)?)),
+    }
+}
+
+/// The answer for a text.
+fn told(text: &[u8], found: &[Token], outcome: Outcome) -> Result<Grammar, ReadFault>
     requires { length text.now ≤ 2 ^ 20 }
-    ensures { MatchResult result (λ g. made_answer text.now found.now (outcome_of outcome) ≡ Ok g) (λ fault. made_answer text.now found.now (outcome_of outcome) ≡ Err fault) }
+    ensures { MatchResult result (λ g. told text.now found.now outcome ≡ Ok g) (λ fault. told text.now found.now outcome ≡ Err fault) }
 {
     match outcome {
         Outcome::Grammar(rules) => Ok(Grammar { rules }),
+        Outcome::Over(over) => Err(ReadFault::Limit {
+            which: over.which,
+            at: place_at(text, found, over.at),
+        }),
         Outcome::Stuck(n) => Err(ReadFault::Syntax {
             at: place_at(text, found, n),
         }),

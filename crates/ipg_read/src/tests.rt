@@ -1,4 +1,3 @@
-mod forms;
 mod operators;
 
 use super::*;
@@ -79,6 +78,30 @@ fn a_local_rule_has_no_where(rt: HostRuntime) {
         (b'=', 0)
     );
     assert_eq!(rt; answer(alloc, b"S -> L where { } ;"), (b'S', 15));
+}
+
+#[test]
+fn many_stands_before_a_name(rt: HostRuntime) {
+    let alloc = rt.alloc();
+    assert_eq!(rt; answer(alloc, b"many -> \"a\" ;"), (b'S', 0));
+    assert_eq!(rt; answer(alloc, b"S -> {many = 1} \"a\" ;"), (b'S', 6));
+    assert_eq!(rt; answer(alloc, b"S -> many \"a\" ;"), (b'S', 10));
+    assert_eq!(rt; answer(alloc, b"S -> many ;"), (b'S', 10));
+    assert_eq!(rt; answer(alloc, b"S -> many many A ;"), (b'S', 10));
+    assert_eq!(rt; answer(alloc, b"S -> many A[1,2,3] ;"), (b'S', 15));
+    assert_eq!(rt;
+        answer(alloc, b"S -> switch { case (1) many A else B } ;"),
+        (b'S', 23)
+    );
+    assert_eq!(rt; answer(alloc, b"S -> many A ;"), (b'=', 0));
+    assert_eq!(rt;
+        answer_long(alloc, b"S -> ", b"many A ", 257, b";"),
+        (b't', 5 + 256 * 7)
+    );
+    assert_eq!(rt;
+        answer_long(alloc, b"S -> many A[0, ", b"-", 64, b"1] ;"),
+        (b'd', 15)
+    );
 }
 
 #[test]

@@ -29,3 +29,4 @@ pub mod Solved
 pub mod Parted
 pub mod Widths
 pub mod Cycles
+pub mod Bounded

@@ -10,3 +10,5 @@ pub mod Grows
 pub mod Reached
 -- what the laws say
 pub mod Laws
+-- bounds of joints
+pub mod Bounded

@@ -1,5 +1,6 @@
 //! Laws of the conditions, each the contract of a function that does nothing.
 
+ghost use Rattle.ipg_sound.specs.Bounded.{JointIsPart};
 ghost use Rattle.ipg_sound.specs.Laws.{ConditionsAreParts, EdgesAreFew, EdgesAreInside, EdgesCall, FactsSolve, JointSolvesParts, MembersAreKnown, OwnMembersAreKnown, PartsSolveJoint, ReachedCyclesSolve, ReachedEdgesSolve, SpellingsDiffer, TermsAreKnown, ValuesAreKnown, ValuesStay};
 
 use ipg_core::laws::{lies_within, touching_touches};
@@ -23,6 +24,11 @@ pub fn joint_solves_parts()
 /// The conditions of edges are such parts: their variable 0 is a length from 0 to 2^30.
 pub fn conditions_are_parts()
     ensures { ConditionsAreParts }
+{}
+
+/// The joint of such parts is such a part: it has bounds for each of its variables, and those of variable 0 are theirs.
+pub fn joint_is_part()
+    ensures { JointIsPart }
 {}
 
 /// Where variables have the values of what they stand for, what an expression is to the conditions holds of its value:

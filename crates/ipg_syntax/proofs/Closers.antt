@@ -76,6 +76,8 @@ close_base (Machine.first_bound x) rest = word (codes "to") ∷ eoi ∷ word (co
 close_base (Machine.last_bound x a) rest = word (codes "do") ∷ some_name ∷ repeated rest
 close_base (Machine.item_left x a b i) rest = symbol (codes ",") ∷ eoi ∷ symbol (codes "]") ∷ rest
 close_base (Machine.item_right x a b i l) rest = symbol (codes "]") ∷ rest
+close_base (Machine.many_length_or_left at i) rest = symbol (codes "]") ∷ rest
+close_base (Machine.many_right at i l) rest = symbol (codes "]") ∷ rest
 close_base (Machine.case_of at cs) rest = symbol (codes ")") ∷ last_case rest
 
 abbrev close_part : Part trees → Tokens → Tokens
@@ -88,6 +90,8 @@ close_part Machine.repeat_open rest = some_name ∷ symbol (codes "=") ∷ eoi �
 close_part (Machine.repeat_named x) rest = symbol (codes "=") ∷ eoi ∷ word (codes "to") ∷ eoi ∷ word (codes "do") ∷ some_name ∷ repeated rest
 close_part (Machine.item_due x a b) rest = some_name ∷ repeated rest
 close_part (Machine.item_named x a b i) rest = repeated rest
+close_part (Machine.many_open at) rest = some_name ∷ rest
+close_part (Machine.many_named at i) rest = rest
 close_part (Machine.pick_open at) rest = symbol (codes "{") ∷ word (codes "case") ∷ symbol (codes "(") ∷ eoi ∷ symbol (codes ")") ∷ last_case rest
 close_part (Machine.first_case at) rest = word (codes "case") ∷ symbol (codes "(") ∷ eoi ∷ symbol (codes ")") ∷ last_case rest
 close_part (Machine.next_case at cs) rest = word (codes "else") ∷ no_text ∷ symbol (codes "}") ∷ rest
@@ -167,6 +171,10 @@ base_good at (global h) ts first (Machine.item_left x a b i) e = tt
 base_good at (local h outer ls n las) ts first (Machine.item_left x a b i) e = tt
 base_good at (global h) ts first (Machine.item_right x a b i l) e = tt
 base_good at (local h outer ls n las) ts first (Machine.item_right x a b i l) e = tt
+base_good at (global h) ts first (Machine.many_length_or_left span i) e = tt
+base_good at (local h outer ls n las) ts first (Machine.many_length_or_left span i) e = tt
+base_good at (global h) ts first (Machine.many_right span i l) e = tt
+base_good at (local h outer ls n las) ts first (Machine.many_right span i l) e = tt
 base_good at (global h) ts first (Machine.case_of x cs) e = tt
 base_good at (local h outer ls n las) ts first (Machine.case_of x cs) e = tt
 
@@ -184,6 +192,8 @@ base_closes (Machine.first_bound x) rest = (le_refl 0, refl)
 base_closes (Machine.last_bound x a) rest = (le_refl 0, refl)
 base_closes (Machine.item_left x a b i) rest = (le_refl 0, refl)
 base_closes (Machine.item_right x a b i l) rest = (le_refl 0, refl)
+base_closes (Machine.many_length_or_left span i) rest = (le_refl 0, refl)
+base_closes (Machine.many_right span i l) rest = (le_refl 0, refl)
 base_closes (Machine.case_of x cs) rest = (le_refl 0, refl)
 
 frames_close : (fs : List (Frame trees)) (rest : Tokens) → Closes (classes rest) → Closes (classes (close_frames fs rest))
@@ -268,6 +278,10 @@ part_good at (global h) ts (Machine.item_due x a b) = tt
 part_good at (local h outer ls n las) ts (Machine.item_due x a b) = tt
 part_good at (global h) ts (Machine.item_named x a b i) = tt
 part_good at (local h outer ls n las) ts (Machine.item_named x a b i) = tt
+part_good at (global h) ts (Machine.many_open span) = tt
+part_good at (local h outer ls n las) ts (Machine.many_open span) = tt
+part_good at (global h) ts (Machine.many_named span i) = tt
+part_good at (local h outer ls n las) ts (Machine.many_named span i) = tt
 part_good at (global h) ts (Machine.pick_open span) = tt
 part_good at (local h outer ls n las) ts (Machine.pick_open span) = tt
 part_good at (global h) ts (Machine.first_case span) = tt

@@ -3,7 +3,7 @@ use Rattle.std.proofs.Common.{◌≡◌, ℕ, ◌+◌, ◌<◌, ◌≤◌, min, 
 use Rattle.std.proofs.lemmas.Bool.{ltb-true, ltb-false, lt-ltb, le-ltb}
 use Rattle.ipg_tokens.specs.declared.fault.Which.{Which}
 use Rattle.ipg_tokens.specs.declared.fault.Which.TheVariants.{Rules, Alternatives, Terms, Depth}
-use Rattle.ipg_syntax.specs.Written.{ExprTree, num, eoi, own, part, item, group, neg, isnt, two, choose, PlaceTree, anywhere, long, ends, CaseTree, TermTree, slot_term, set_term, test_term, repeat_term, pick_term, LocalTree, AltTree, RuleTree, spell_expr, spell_case, spell_cases, spell_term, spell_terms, spell_local, spell_alt, spell_rule}
+use Rattle.ipg_syntax.specs.Written.{ExprTree, num, eoi, own, part, item, group, neg, isnt, two, choose, PlaceTree, anywhere, long, ends, CaseTree, TermTree, slot_term, set_term, test_term, repeat_term, many_term, pick_term, LocalTree, AltTree, RuleTree, spell_expr, spell_case, spell_cases, spell_term, spell_terms, spell_local, spell_alt, spell_rule}
 use Rattle.ipg_syntax.specs.Limits.{Size, Over, past, depth, limit, is_over, first_over, expr_size, place_sizes, slot_sizes, case_sizes, cases_sizes, term_sizes, terms_sizes, local_alts_sizes, locals_sizes, alt_sizes, alts_sizes, locals_in, rules_sizes, sizes}
 use Rattle.ipg_syntax.specs.Counting.{counters, more, Seen, first_kept}
 use Rattle.ipg_syntax.specs.Making.{expr_by}
@@ -109,6 +109,7 @@ told_term at (repeat_term x a b i l r) k o =
     ap (λ s. log_place counters third (ends l r) (log_expr counters second b s)) (told_expr from a k o)
     ∙ ap (log_place counters third (ends l r)) (told_expr second b k seen_a)
     ∙ told_place third (ends l r) k (notes (expr_size second b ∷ []) seen_a)
+told_term at (many_term span i p) k o = told_place (at + 1 + 1) p k o
 told_term at (pick_term span cs s) k o =
     let mid : ℕ = past (at + 1 + 1) (spell_cases cs) + 1 in
     ap (log_slot counters mid s) (told_cases (at + 1 + 1) cs k o)

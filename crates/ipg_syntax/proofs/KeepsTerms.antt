@@ -3,7 +3,7 @@ use Rattle.std.proofs.Common.{◌≡◌, ℕ, ◌≤◌, List, [], ◌∷◌, �
 use Rattle.ipg_ast.specs.declared.grammar.Ident.{Ident}
 use Rattle.ipg_ast.specs.declared.grammar.Span.{Span}
 use Rattle.ipg_ast.specs.declared.grammar.What.{What}
-use Rattle.ipg_syntax.specs.Classes.{level, Tok, name, text, sign, question, colon, dot, comma, equals, left_paren, right_paren, left_bracket, right_bracket, left_brace, right_brace, for_word, to_word, do_word, switch_word, case_word, else_word}
+use Rattle.ipg_syntax.specs.Classes.{level, Tok, name, text, sign, question, colon, dot, comma, equals, left_paren, right_paren, left_bracket, right_bracket, left_brace, right_brace, for_word, to_word, do_word, switch_word, case_word, else_word, many_word}
 use Rattle.ipg_syntax.specs.Written
 use Rattle.ipg_syntax.specs.Written.{Toks, ExprTree, SlotTree, CaseTree, TermTree, what_tok, spell_expr, spell_slot, spell_case, spell_cases, spell_term, Stands, prefix_level, SlotFits, CaseFits, TermFits, Each, SomeEach}
 use Rattle.ipg_syntax.specs.Machine
@@ -86,6 +86,14 @@ repeat_done : (x i : Ident) (a b l e : ExprTree) (r : Toks)
     → base_before (Machine.item_right x a b i l) (spell_expr e ++ (right_bracket ∷ r)) ≡ spell_term (Written.repeat_term x a b i l e) ++ r
 repeat_done x i a b l e r = simp append_assoc refl
 
+many_long_done : (span : Span) (i : Ident) (e : ExprTree) (r : Toks)
+    → base_before (Machine.many_length_or_left span i) (spell_expr e ++ (right_bracket ∷ r)) ≡ spell_term (Written.many_term span i (Written.long e)) ++ r
+many_long_done span i e r = ap (λ toks. many_word span ∷ name i ∷ left_bracket ∷ toks) (sym (append_assoc (spell_expr e) (right_bracket ∷ []) r))
+
+many_ends_done : (span : Span) (i : Ident) (l e : ExprTree) (r : Toks)
+    → base_before (Machine.many_right span i l) (spell_expr e ++ (right_bracket ∷ r)) ≡ spell_term (Written.many_term span i (Written.ends l e)) ++ r
+many_ends_done span i l e r = simp append_assoc refl
+
 ended_keeps : (at : ℕ) (log : _) (base : Base trees) (e : ExprTree) (t : Tok) (before : Toks → Toks) → KeptBase base → Stands 0 e
     → ((r : Toks) → before r ≡ base_before base (spell_expr e ++ r)) → Next (TurnNext before t) (Machine.ended trees at log base e t)
 ended_keeps at log (Machine.length_or_left u w span) e right_bracket before kept stands same =
@@ -116,6 +124,17 @@ ended_keeps at log (Machine.item_right x a b i l) e right_bracket before kept st
   same = λ r. same (right_bracket ∷ r) ∙ repeat_done x i a b l e r;
 }
 ended_keeps at log (Machine.item_right x a b i l) e t before kept stands same = tt
+ended_keeps at log (Machine.many_length_or_left span i) e right_bracket before kept stands same = record {
+  fits = stands;
+  same = λ r. same (right_bracket ∷ r) ∙ many_long_done span i e r;
+}
+ended_keeps at log (Machine.many_length_or_left span i) e comma before kept stands same = record { kept = (stands, tt); same = λ r. same (comma ∷ r) }
+ended_keeps at log (Machine.many_length_or_left span i) e t before kept stands same = tt
+ended_keeps at log (Machine.many_right span i l) e right_bracket before kept stands same = record {
+  fits = (kept, stands);
+  same = λ r. same (right_bracket ∷ r) ∙ many_ends_done span i l e r;
+}
+ended_keeps at log (Machine.many_right span i l) e t before kept stands same = tt
 ended_keeps at log (Machine.case_of span cs) e right_paren before kept stands same = record { kept = (kept, stands); same = λ r. same (right_paren ∷ r) }
 ended_keeps at log (Machine.case_of span cs) e t before kept stands same = tt
 
@@ -197,10 +216,16 @@ pub opening_keeps : (t : Tok) → Next (PartNext (λ r. r) t) (Machine.opening t
 opening_keeps left_brace = record { kept = tt; same = λ r. refl }
 opening_keeps (question at) = record { kept = tt; same = λ r. refl }
 opening_keeps for_word = record { kept = tt; same = λ r. refl }
+opening_keeps (many_word at) = record { kept = tt; same = λ r. refl }
 opening_keeps (switch_word at) = record { kept = tt; same = λ r. refl }
 opening_keeps (text bs at) = record { kept = tt; same = λ r. refl }
 opening_keeps (name i) = record { kept = tt; same = λ r. refl }
 opening_keeps t = tt
+
+many_keeps : (at : ℕ) (log : _) (span : Span) (i : Ident) (t : Tok) (before : Toks → Toks)
+    → ((r : Toks) → before r ≡ part_before (Machine.many_named span i) r) → Next (TurnNext before t) (Machine.many_move trees at log span i t)
+many_keeps at log span i left_bracket before same = record { kept = (tt, tt); same = λ r. same (left_bracket ∷ r) }
+many_keeps at log span i t before same = record { fits = tt; same = same }
 
 pub part_move_keeps : (at : ℕ) (log : _) (p : Part trees) (t : Tok) (before : Toks → Toks) → KeptPart p → ((r : Toks) → before r ≡ part_before p r)
     → Next (TurnNext before t) (Machine.part_move trees at log p t)
@@ -220,6 +245,9 @@ part_move_keeps at log (Machine.item_due x a b) (name i) before kept same = reco
 part_move_keeps at log (Machine.item_due x a b) t before kept same = tt
 part_move_keeps at log (Machine.item_named x a b i) left_bracket before kept same = record { kept = (kept, tt); same = λ r. same (left_bracket ∷ r) }
 part_move_keeps at log (Machine.item_named x a b i) t before kept same = tt
+part_move_keeps at log (Machine.many_open span) (name i) before kept same = record { kept = tt; same = λ r. same (name i ∷ r) }
+part_move_keeps at log (Machine.many_open span) t before kept same = tt
+part_move_keeps at log (Machine.many_named span i) t before kept same = many_keeps at log span i t before same
 part_move_keeps at log (Machine.pick_open span) left_brace before kept same = record { kept = tt; same = λ r. same (left_brace ∷ r) }
 part_move_keeps at log (Machine.pick_open span) t before kept same = tt
 part_move_keeps at log (Machine.first_case span) case_word before kept same = record { kept = tt; same = λ r. same (case_word ∷ r) }

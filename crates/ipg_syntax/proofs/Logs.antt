@@ -1,6 +1,6 @@
 -- What the log is told of while each form is read, where `at` is the number of its first token.
 use Rattle.std.proofs.Common.{ℕ, ◌+◌, List, [], ◌∷◌}
-use Rattle.ipg_syntax.specs.Written.{ExprTree, PlaceTree, anywhere, long, ends, SlotTree, CaseTree, TermTree, slot_term, set_term, test_term, repeat_term, pick_term, LocalTree, AltTree, RuleTree, spell_expr, spell_case, spell_cases, spell_term, spell_terms, spell_local, spell_alt, spell_rule}
+use Rattle.ipg_syntax.specs.Written.{ExprTree, PlaceTree, anywhere, long, ends, SlotTree, CaseTree, TermTree, slot_term, set_term, test_term, repeat_term, many_term, pick_term, LocalTree, AltTree, RuleTree, spell_expr, spell_case, spell_cases, spell_term, spell_terms, spell_local, spell_alt, spell_rule}
 use Rattle.ipg_syntax.specs.Limits.{past}
 use Rattle.ipg_syntax.specs.Machine.{Acts}
 use Rattle.ipg_syntax.specs.Making.{expr_by, term_by, terms_by, locals_by}
@@ -31,6 +31,7 @@ module _ (A : Acts) where
   log_term at (repeat_term x a b i l r) log =
       let second : ℕ = past (at + 1 + 1 + 1) (spell_expr a) + 1 in
       log_place (past second (spell_expr b) + 1 + 1) (ends l r) (log_expr second b (log_expr (at + 1 + 1 + 1) a log))
+  log_term at (many_term span i p) log = log_place (at + 1 + 1) p log
   log_term at (pick_term span cs other) log =
       log_slot (past (at + 1 + 1) (spell_cases cs) + 1) other (log_cases (at + 1 + 1) cs log)
 

@@ -6,7 +6,7 @@ use Rattle.ipg_ast.specs.declared.grammar.Span.{Span}
 use Rattle.ipg_ast.specs.declared.grammar.What.{What}
 use Rattle.ipg_ast.specs.declared.grammar.Field.{Field}
 use Rattle.ipg_ast.specs.declared.grammar.Field.TheVariants.{Id as Attribute, Start, End}
-use Rattle.ipg_syntax.specs.Classes.{Infix, op, level, Tok, name, number, text, sign, bang, question, colon, dot, comma, equals, arrow, semicolon, left_paren, right_paren, left_bracket, right_bracket, left_brace, right_brace, for_word, to_word, do_word, switch_word, case_word, else_word, where_word, start_word, end_word, eoi_word}
+use Rattle.ipg_syntax.specs.Classes.{Infix, op, level, Tok, name, number, text, sign, bang, question, colon, dot, comma, equals, arrow, semicolon, left_paren, right_paren, left_bracket, right_bracket, left_brace, right_brace, for_word, to_word, do_word, switch_word, case_word, else_word, where_word, start_word, end_word, eoi_word, many_word}
 use Rattle.ipg_syntax.specs.Machine
 use Rattle.ipg_syntax.specs.Machine.{Acts, Frame, Inner, SlotUse, Base, Part, Head, Site, Pos, State, Closing, Turn, Read, verdict}
 
@@ -27,6 +27,7 @@ plain (name i) = name (plain_ident i)
 plain (text bs at) = text bs no_span
 plain (question at) = question no_span
 plain (switch_word at) = switch_word no_span
+plain (many_word at) = many_word no_span
 plain t = t
 
 abbrev pub plains : List Tok → List Tok
@@ -67,6 +68,7 @@ pub record Maps (A B : Acts) : Type 0 where
   pub test_term : (at : Span) (e : A.Expr) → on_term (A.test_term at e) ≡ B.test_term no_span (on_expr e)
   pub repeat_term : (x : Ident) (a b : A.Expr) (i : Ident) (l r : A.Expr)
       → on_term (A.repeat_term x a b i l r) ≡ B.repeat_term (plain_ident x) (on_expr a) (on_expr b) (plain_ident i) (on_expr l) (on_expr r)
+  pub many_term : (at : Span) (i : Ident) (p : A.Place) → on_term (A.many_term at i p) ≡ B.many_term no_span (plain_ident i) (on_place p)
   pub pick_term : (at : Span) (cs : A.Cases) (s : A.Slot) → on_term (A.pick_term at cs s) ≡ B.pick_term no_span (on_cases cs) (on_slot s)
   pub no_terms : on_terms A.no_terms ≡ B.no_terms
   pub with_term : (ts : A.Terms) (t : A.Term) → on_terms (A.with_term ts t) ≡ B.with_term (on_terms ts) (on_term t)
@@ -121,6 +123,8 @@ module _ (A B : Acts) (m : Maps A B) where
   on_base (Machine.last_bound x a) = Machine.last_bound (plain_ident x) (m.on_expr a)
   on_base (Machine.item_left x a b i) = Machine.item_left (plain_ident x) (m.on_expr a) (m.on_expr b) (plain_ident i)
   on_base (Machine.item_right x a b i l) = Machine.item_right (plain_ident x) (m.on_expr a) (m.on_expr b) (plain_ident i) (m.on_expr l)
+  on_base (Machine.many_length_or_left at i) = Machine.many_length_or_left no_span (plain_ident i)
+  on_base (Machine.many_right at i l) = Machine.many_right no_span (plain_ident i) (m.on_expr l)
   on_base (Machine.case_of at cs) = Machine.case_of no_span (m.on_cases cs)
 
   abbrev pub on_part : Part A → Part B
@@ -133,6 +137,8 @@ module _ (A B : Acts) (m : Maps A B) where
   on_part (Machine.repeat_named x) = Machine.repeat_named (plain_ident x)
   on_part (Machine.item_due x a b) = Machine.item_due (plain_ident x) (m.on_expr a) (m.on_expr b)
   on_part (Machine.item_named x a b i) = Machine.item_named (plain_ident x) (m.on_expr a) (m.on_expr b) (plain_ident i)
+  on_part (Machine.many_open at) = Machine.many_open no_span
+  on_part (Machine.many_named at i) = Machine.many_named no_span (plain_ident i)
   on_part (Machine.pick_open at) = Machine.pick_open no_span
   on_part (Machine.first_case at) = Machine.first_case no_span
   on_part (Machine.next_case at cs) = Machine.next_case no_span (m.on_cases cs)
@@ -261,6 +267,9 @@ module _ (A B : Acts) (m : Maps A B) where
       passed_map log u (A.slot w span A.anywhere) t
       ∙ ap (λ s. Machine.slot_passed B (m.on_log log) (on_use u) s (plain t)) (slot_made w span A.anywhere B.anywhere m.anywhere)
 
+  many_made : (at : Span) (i : Ident) (p : A.Place) (q : B.Place) → m.on_place p ≡ q → m.on_term (A.many_term at i p) ≡ B.many_term no_span (plain_ident i) q
+  many_made at i p q same = m.many_term at i p ∙ ap (B.many_term no_span (plain_ident i)) same
+
   -- ---- whole expressions
 
   ended_map : (at : ℕ) (log : A.Log) (base : Base A) (e : A.Expr) (t : Tok)
@@ -285,6 +294,13 @@ module _ (A B : Acts) (m : Maps A B) where
   ended_map at log (Machine.item_left x a b i) e t = refl
   ended_map at log (Machine.item_right x a b i l) e right_bracket = ap (λ y. Some (Machine.done (m.on_log log) y)) (m.repeat_term x a b i l e)
   ended_map at log (Machine.item_right x a b i l) e t = refl
+  ended_map at log (Machine.many_length_or_left span i) e right_bracket =
+      ap (λ y. Some (Machine.done (m.on_log log) y)) (many_made span i (A.long e) (B.long (m.on_expr e)) (m.long e))
+  ended_map at log (Machine.many_length_or_left span i) e comma = refl
+  ended_map at log (Machine.many_length_or_left span i) e t = refl
+  ended_map at log (Machine.many_right span i l) e right_bracket =
+      ap (λ y. Some (Machine.done (m.on_log log) y)) (many_made span i (A.ends l e) (B.ends (m.on_expr l) (m.on_expr e)) (m.ends l e))
+  ended_map at log (Machine.many_right span i l) e t = refl
   ended_map at log (Machine.case_of span cs) e right_paren = refl
   ended_map at log (Machine.case_of span cs) e t = refl
 
@@ -348,12 +364,18 @@ module _ (A B : Acts) (m : Maps A B) where
   opening_map left_brace = refl
   opening_map (question at) = refl
   opening_map for_word = refl
+  opening_map (many_word at) = refl
   opening_map (switch_word at) = refl
   opening_map t = slot_opening_map Machine.alone t
 
   stays_map : (log : A.Log) (o : Option (Part A)) → option_map on_turn (Machine.stays A log o) ≡ Machine.stays B (m.on_log log) (option_map on_part o)
   stays_map log (Some p) = refl
   stays_map log None = refl
+
+  many_map : (at : ℕ) (log : A.Log) (span : Span) (i : Ident) (t : Tok)
+      → option_map on_turn (Machine.many_move A at log span i t) ≡ Machine.many_move B at (m.on_log log) no_span (plain_ident i) (plain t)
+  many_map at log span i left_bracket = refl
+  many_map at log span i t = ap (λ y. Some (Machine.passed (m.on_log log) y)) (many_made span i A.anywhere B.anywhere m.anywhere)
 
   part_move_map : (at : ℕ) (log : A.Log) (p : Part A) (t : Tok)
       → option_map on_turn (Machine.part_move A at log p t) ≡ Machine.part_move B at (m.on_log log) (on_part p) (plain t)
@@ -373,6 +395,9 @@ module _ (A B : Acts) (m : Maps A B) where
   part_move_map at log (Machine.item_due x a b) t = refl
   part_move_map at log (Machine.item_named x a b i) left_bracket = refl
   part_move_map at log (Machine.item_named x a b i) t = refl
+  part_move_map at log (Machine.many_open span) (name i) = refl
+  part_move_map at log (Machine.many_open span) t = refl
+  part_move_map at log (Machine.many_named span i) t = many_map at log span i t
   part_move_map at log (Machine.pick_open span) left_brace = refl
   part_move_map at log (Machine.pick_open span) t = refl
   part_move_map at log (Machine.first_case span) case_word = ap (λ cs. Some (Machine.still (m.on_log log) (Machine.case_open no_span cs))) m.no_cases

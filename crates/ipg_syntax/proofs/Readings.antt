@@ -1,5 +1,5 @@
 -- The laws of reading.
-use Rattle.std.proofs.Common.{◌≡◌, ℕ, List, [], ◌∷◌, ◌++◌, Option, Some, None, Result, Ok, Err, refl, ap, ap₂, ◌∙◌, sym, subst, append_assoc, append-nil}
+use Rattle.std.proofs.Common.{◌≡◌, ◌⊎◌, inl, inr, ℕ, List, [], ◌∷◌, ◌++◌, Option, Some, None, Result, Ok, Err, refl, ap, ap₂, ◌∙◌, sym, subst, append_assoc, append-nil}
 use Rattle.ipg_ast.specs.declared.grammar.Grammar.{Grammar}
 use Rattle.ipg_tokens.specs.Lexical.{tokens_of}
 use Rattle.ipg_tokens.specs.declared.token.Token.{Token}
@@ -12,8 +12,8 @@ use Rattle.ipg_syntax.specs.Limits.{Over, sizes, first_over}
 use Rattle.ipg_syntax.specs.Machine.{Read, verdict, start_state}
 use Rattle.ipg_syntax.specs.Making.{trees, grammar_of}
 use Rattle.ipg_syntax.specs.Reading.{ReadsTree, ReadsWithin, place_of, tokens_answer, within_answer, read_of}
-use Rattle.ipg_syntax.specs.Laws.{IsGrammar, Begins, EndsBefore, first_place, Breaks, PassesLimit, IsOfTokens, OneGrammar, ReadsExactly, SyntaxPlace, LimitPlace, TokensFirst}
-use Rattle.ipg_syntax.proofs.Lexed.{FailsByTokens, tokens_fail}
+use Rattle.ipg_syntax.specs.Laws.{IsGrammar, Begins, EndsBefore, first_place, Breaks, PassesLimit, IsOfTokens, Refused, OneGrammar, ReadsExactly, RefusedExactly, AlwaysOneAnswer, SyntaxPlace, LimitPlace, TokensFirst}
+use Rattle.ipg_syntax.proofs.Lexed.{FailsByTokens, tokens_fail, too_long, long_is}
 use Rattle.ipg_syntax.proofs.Outcomes.{Outcome, by_tokens, by_syntax, by_tree, outcome, tree_taken, grammar_answer, made_grammar}
 
 abbrev Answer : Type 0
@@ -36,6 +36,10 @@ IsSyntax (Err (Number p)) = ⊥
 IsSyntax (Err (Syntax p)) = Unit {0}
 IsSyntax (Err (Limit w p)) = ⊥
 IsSyntax (Err Memory) = ⊥
+
+abbrev IsLimit : Answer → Type 0
+IsLimit (Err (Limit w p)) = Unit {0}
+IsLimit r = ⊥
 
 abbrev place_in : Answer → ℕ → ℕ
 place_in (Ok g) n = n
@@ -230,3 +234,44 @@ tokens_back text fault of_tokens is (by_tree tree r) = go (first_over (sizes tre
 
 pub tokens_first : TokensFirst
 tokens_first text fault = (λ falls. (subst FailsByTokens falls (tokens_fail text), ap (tokens_answer text) falls), λ both. tokens_back text fault both.0 both.1 (outcome text))
+
+-- ---- refusals
+
+never_memory : (text : List ℕ) → read_of text ≡ Err Memory → Outcome text → ⊥
+never_memory text is (by_tokens f falls) = tokens_never text f Memory falls is
+never_memory text is (by_syntax p broken fails) = subst IsSyntax (sym fails ∙ is) tt
+never_memory text is (by_tree tree r) = go (first_over (sizes tree)) refl
+  where
+    go : (o : Option Over) → first_over (sizes tree) ≡ o → ⊥
+    go (Some o) passed = subst IsLimit (sym (passes_limit text tree r o passed) ∙ is) tt
+    go None within = not_both (reads_within text tree r within) is
+
+refused_of : (text : List ℕ) (fault : ReadFault) → read_of text ≡ Err fault → Refused text fault
+refused_of text TooLong is = too_long text ((tokens_first text TooLong).1 (tt, is))
+refused_of text (Lex at) is = (tokens_first text (Lex at)).1 (tt, is)
+refused_of text (Number at) is = (tokens_first text (Number at)).1 (tt, is)
+refused_of text (Syntax at) is = (syntax_place text at).0 is
+refused_of text (Limit which at) is = (limit_place text which at).0 is
+refused_of text Memory is = never_memory text is (outcome text)
+
+refused_is : (text : List ℕ) (fault : ReadFault) → Refused text fault → read_of text ≡ Err fault
+refused_is text TooLong long = ((tokens_first text TooLong).0 (long_is text long)).1
+refused_is text (Lex at) falls = ((tokens_first text (Lex at)).0 falls).1
+refused_is text (Number at) falls = ((tokens_first text (Number at)).0 falls).1
+refused_is text (Syntax at) breaks = (syntax_place text at).1 breaks
+refused_is text (Limit which at) passes = (limit_place text which at).1 passes
+refused_is text Memory never = absurd never
+
+pub refused_exactly : RefusedExactly
+refused_exactly text fault = (refused_of text fault, refused_is text fault)
+
+some_answer : (text : List ℕ) (r : Answer) → read_of text ≡ r → ((g : Grammar) × ReadsWithin text g) ⊎ ((fault : ReadFault) × Refused text fault)
+some_answer text (Ok g) is = inl (g, (reads_exactly text g).0 is)
+some_answer text (Err fault) is = inr (fault, refused_of text fault is)
+
+pub always_one_answer : AlwaysOneAnswer
+always_one_answer text = record {
+  some = some_answer text (read_of text) refl;
+  apart = λ g fault reads refused. not_both ((reads_exactly text g).1 reads) (refused_is text fault refused);
+  one = λ fault other first second. ap (λ r. fault_in r fault) (sym (refused_is text fault first) ∙ refused_is text other second);
+}

@@ -1,8 +1,8 @@
 -- The sizes of a grammar stand in the order of their tokens.
 use Rattle.std.proofs.Common.{◌≡◌, ℕ, ◌+◌, ◌≤◌, ◌<◌, append_assoc, List, [], ◌∷◌, ◌++◌, length, Bool, true, false, cond, Option, Some, None, refl, ap, ◌∙◌, sym, subst, arith, le_refl, le_trans, true≢false}
 use Rattle.std.specs.List.{AllByRecursion}
-use Rattle.ipg_syntax.specs.Classes.{Tok, name, question, comma, equals, arrow, semicolon, left_paren, right_paren, right_bracket, left_brace, right_brace, for_word, to_word, do_word, switch_word, else_word, slash}
-use Rattle.ipg_syntax.specs.Written.{Toks, ExprTree, PlaceTree, anywhere, long, ends, SlotTree, CaseTree, TermTree, slot_term, set_term, test_term, repeat_term, pick_term, LocalTree, AltTree, RuleTree, what_tok, spell_expr, spell_place, spell_slot, spell_case, spell_cases, spell_term, spell_terms, spell_local_alts, spell_local, spell_locals, spell_where, spell_alt, spell_alts, spell_rule, spell, Each, TermsFit, LocalFits, AltFits, RuleFits, Fits}
+use Rattle.ipg_syntax.specs.Classes.{Tok, name, question, comma, equals, arrow, semicolon, left_paren, right_paren, right_bracket, left_brace, right_brace, for_word, to_word, do_word, switch_word, else_word, many_word, slash}
+use Rattle.ipg_syntax.specs.Written.{Toks, ExprTree, PlaceTree, anywhere, long, ends, SlotTree, CaseTree, TermTree, slot_term, set_term, test_term, repeat_term, many_term, pick_term, LocalTree, AltTree, RuleTree, what_tok, spell_expr, spell_place, spell_slot, spell_case, spell_cases, spell_term, spell_terms, spell_local_alts, spell_local, spell_locals, spell_where, spell_alt, spell_alts, spell_rule, spell, Each, TermsFit, LocalFits, AltFits, RuleFits, Fits}
 use Rattle.ipg_syntax.specs.Limits.{Size, Over, past, is_over, first_over, expr_size, place_sizes, slot_sizes, case_sizes, cases_sizes, term_sizes, terms_sizes, local_alts_sizes, locals_sizes, alt_sizes, alts_sizes, locals_in, rules_sizes, sizes}
 use Rattle.ipg_syntax.proofs.TakesExprs.{past_append}
 use Rattle.ipg_syntax.proofs.Lasts.{some_each}
@@ -100,6 +100,9 @@ term_rises at (repeat_term x a b i l r) =
     (expr_rises from a to_word (spell_expr b ++ (do_word ∷ name i ∷ spell_place (ends l r))) (expr_size second b ∷ last)
     (expr_rises second b do_word (name i ∷ spell_place (ends l r)) last
     (rising_low (past second (spell_expr b) + 1) third last (past third (spell_place (ends l r))) (one_on (past second (spell_expr b) + 1)) (place_rises third (ends l r)))))
+term_rises at (many_term span i p) =
+    rising_low at (at + 1 + 1) (place_sizes (at + 1 + 1) p) (past at (spell_term (many_term span i p))) (let less : at ≤ at + 1 + 1 = omega arith in less)
+    (place_rises (at + 1 + 1) p)
 term_rises at (pick_term span cs s) =
     let from : ℕ = at + 1 + 1 in
     let mid : ℕ = past from (spell_cases cs) in
@@ -117,6 +120,7 @@ term_begins at (set_term x e) rest = begins at left_brace (name x ∷ equals ∷
 term_begins at (test_term span e) rest = begins at (question span) (left_paren ∷ ((spell_expr e ++ (right_paren ∷ [])) ++ rest))
 term_begins at (repeat_term x a b i l r) rest =
     begins at for_word (name x ∷ equals ∷ ((spell_expr a ++ (to_word ∷ (spell_expr b ++ (do_word ∷ name i ∷ spell_place (ends l r))))) ++ rest))
+term_begins at (many_term span i p) rest = begins at (many_word span) (name i ∷ (spell_place p ++ rest))
 term_begins at (pick_term span cs s) rest =
     begins at (switch_word span) (left_brace ∷ ((spell_cases cs ++ (else_word ∷ (spell_slot s ++ (right_brace ∷ [])))) ++ rest))
 

@@ -66,3 +66,13 @@ all_forms = refl
 
 no_where_in_a_local_rule : read_of (codes "S -> A where { A -> B where { B -> C ; } ; } ;") ≡ Err (Syntax 22)
 no_where_in_a_local_rule = refl
+
+-- a repetition, with and without an interval; `many` is no name, and no string follows it
+repetitions : is_read (read_of (codes "S -> many A many A[1] many U8[1, EOI] / many A ; A -> U8 ;")) ≡ true
+repetitions = refl
+
+many_is_no_name : read_of (codes "S -> A ; many -> U8 ;") ≡ Err (Syntax 9)
+many_is_no_name = refl
+
+many_before_a_string : read_of (codes "S -> many \"a\" ;") ≡ Err (Syntax 10)
+many_before_a_string = refl

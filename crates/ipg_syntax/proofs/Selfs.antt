@@ -1,6 +1,6 @@
 -- By the actions that make trees, a tree makes itself.
 use Rattle.std.proofs.Common.{◌≡◌, List, [], ◌∷◌, ◌++◌, refl, ap, ap₂, ◌∙◌, sym, append_assoc, append-nil}
-use Rattle.ipg_syntax.specs.Written.{ExprTree, num, eoi, own, part, item, group, neg, isnt, two, choose, PlaceTree, anywhere, long, ends, SlotTree, CaseTree, TermTree, slot_term, set_term, test_term, repeat_term, pick_term, LocalTree, AltTree, RuleTree}
+use Rattle.ipg_syntax.specs.Written.{ExprTree, num, eoi, own, part, item, group, neg, isnt, two, choose, PlaceTree, anywhere, long, ends, SlotTree, CaseTree, TermTree, slot_term, set_term, test_term, repeat_term, many_term, pick_term, LocalTree, AltTree, RuleTree}
 use Rattle.ipg_syntax.specs.Making.{trees, last, expr_by, place_by, slot_by, cases_by, term_by, terms_by, local_alts_by, locals_by, alts_by, rules_by}
 
 self_expr : (e : ExprTree) → expr_by trees e ≡ e
@@ -41,6 +41,7 @@ self_term (test_term at e) = ap (test_term at) (self_expr e)
 self_term (repeat_term x a b i l r) =
     ap₂ (λ c d. repeat_term x c d i (expr_by trees l) (expr_by trees r)) (self_expr a) (self_expr b)
     ∙ ap₂ (λ c d. repeat_term x a b i c d) (self_expr l) (self_expr r)
+self_term (many_term at i p) = ap (many_term at i) (self_place p)
 self_term (pick_term at cs s) = ap₂ (pick_term at) (self_cases [] cs) (self_slot s)
 
 self_terms : (before ts : List TermTree) → terms_by trees before ts ≡ before ++ ts

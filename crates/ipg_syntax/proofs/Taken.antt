@@ -1,8 +1,8 @@
 -- The tokens that a position stands for, before those that are left, and what it keeps.
 use Rattle.std.proofs.Common.{◌≡◌, ◌≤◌, List, [], ◌∷◌, ◌++◌, Option, Some, None}
-use Rattle.ipg_syntax.specs.Classes.{level, Tok, name, sign, bang, question, colon, dot, comma, equals, arrow, left_paren, right_paren, left_bracket, left_brace, for_word, to_word, do_word, switch_word, case_word, else_word, where_word, minus, slash}
+use Rattle.ipg_syntax.specs.Classes.{level, Tok, name, sign, bang, question, colon, dot, comma, equals, arrow, left_paren, right_paren, left_bracket, left_brace, for_word, to_word, do_word, switch_word, case_word, else_word, where_word, many_word, minus, slash}
 use Rattle.ipg_syntax.specs.Written.{Toks, TermTree, what_tok, spell_expr, spell_slot, spell_cases, spell_term, spell_terms, spell_local_alts, spell_locals, spell_alts, spell, Stands, prefix_level, Each, SomeEach, SlotFits, CaseFits, TermFits, TermsFit, LocalFits, AltFits, RuleFits, Fits}
-use Rattle.ipg_syntax.specs.Machine.{Frame, neg, isnt, left, group, index, then_of, else_of, Inner, want, have, named, dotted, indexed, index_dotted, SlotUse, alone, chosen, other, Base, length_or_left, right_of, value_of, test_of, first_bound, last_bound, item_left, item_right, case_of, Part, slot_named, expr, set_open, set_named, test_open, repeat_open, repeat_named, item_due, item_named, pick_open, first_case, next_case, case_open, slot_due, pick_close, Head, Site, global, local, Pos, start, between, rule_named, local_named, before_term, in_term, after_term, where_named, before_local, after_local, after_where, State, Turn, still, done, passed}
+use Rattle.ipg_syntax.specs.Machine.{Frame, neg, isnt, left, group, index, then_of, else_of, Inner, want, have, named, dotted, indexed, index_dotted, SlotUse, alone, chosen, other, Base, length_or_left, right_of, value_of, test_of, first_bound, last_bound, item_left, item_right, many_length_or_left, many_right, case_of, Part, slot_named, expr, set_open, set_named, test_open, repeat_open, repeat_named, item_due, item_named, many_open, many_named, pick_open, first_case, next_case, case_open, slot_due, pick_close, Head, Site, global, local, Pos, start, between, rule_named, local_named, before_term, in_term, after_term, where_named, before_local, after_local, after_where, State, Turn, still, done, passed}
 use Rattle.ipg_syntax.specs.Making.{trees}
 use Rattle.ipg_syntax.proofs.Frames.{need}
 
@@ -41,6 +41,8 @@ base_before (last_bound x a) r = for_word ∷ name x ∷ equals ∷ (spell_expr 
 base_before (item_left x a b i) r = for_word ∷ name x ∷ equals ∷ (spell_expr a ++ (to_word ∷ (spell_expr b ++ (do_word ∷ name i ∷ left_bracket ∷ r))))
 base_before (item_right x a b i l) r =
     for_word ∷ name x ∷ equals ∷ (spell_expr a ++ (to_word ∷ (spell_expr b ++ (do_word ∷ name i ∷ left_bracket ∷ (spell_expr l ++ (comma ∷ r))))))
+base_before (many_length_or_left at i) r = many_word at ∷ name i ∷ left_bracket ∷ r
+base_before (many_right at i l) r = many_word at ∷ name i ∷ left_bracket ∷ (spell_expr l ++ (comma ∷ r))
 base_before (case_of at cs) r = switch_word at ∷ left_brace ∷ (spell_cases cs ++ (case_word ∷ left_paren ∷ r))
 
 abbrev pub part_before : Part trees → Toks → Toks
@@ -53,6 +55,8 @@ part_before repeat_open r = for_word ∷ r
 part_before (repeat_named x) r = for_word ∷ name x ∷ r
 part_before (item_due x a b) r = for_word ∷ name x ∷ equals ∷ (spell_expr a ++ (to_word ∷ (spell_expr b ++ (do_word ∷ r))))
 part_before (item_named x a b i) r = for_word ∷ name x ∷ equals ∷ (spell_expr a ++ (to_word ∷ (spell_expr b ++ (do_word ∷ name i ∷ r))))
+part_before (many_open at) r = many_word at ∷ r
+part_before (many_named at i) r = many_word at ∷ name i ∷ r
 part_before (pick_open at) r = switch_word at ∷ r
 part_before (first_case at) r = switch_word at ∷ left_brace ∷ r
 part_before (next_case at cs) r = switch_word at ∷ left_brace ∷ (spell_cases cs ++ r)
@@ -122,6 +126,8 @@ KeptBase (first_bound x) = Unit {0}
 KeptBase (last_bound x a) = Stands 0 a
 KeptBase (item_left x a b i) = Stands 0 a × Stands 0 b
 KeptBase (item_right x a b i l) = Stands 0 a × Stands 0 b × Stands 0 l
+KeptBase (many_length_or_left at i) = Unit {0}
+KeptBase (many_right at i l) = Stands 0 l
 KeptBase (case_of at cs) = Each CaseFits cs
 
 abbrev pub KeptPart : Part trees → Type 0
@@ -134,6 +140,8 @@ KeptPart repeat_open = Unit {0}
 KeptPart (repeat_named x) = Unit {0}
 KeptPart (item_due x a b) = Stands 0 a × Stands 0 b
 KeptPart (item_named x a b i) = Stands 0 a × Stands 0 b
+KeptPart (many_open at) = Unit {0}
+KeptPart (many_named at i) = Unit {0}
 KeptPart (pick_open at) = Unit {0}
 KeptPart (first_case at) = Unit {0}
 KeptPart (next_case at cs) = SomeEach CaseFits cs

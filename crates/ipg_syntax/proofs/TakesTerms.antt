@@ -1,13 +1,14 @@
 -- The machine takes each term.
 use Rattle.std.proofs.Common.{◌≡◌, ℕ, ◌+◌, List, [], ◌∷◌, ◌++◌, Some, Bool, true, false, true≢false, refl, ap, ◌∙◌, sym, append_assoc, le_refl, subst}
+use Rattle.ipg_ast.specs.declared.grammar.Ident.{Ident}
 use Rattle.ipg_ast.specs.declared.grammar.Span.{Span}
 use Rattle.ipg_ast.specs.declared.grammar.What.{What}
 use Rattle.ipg_ast.specs.declared.grammar.What.TheVariants.{Text, Call}
 use Rattle.ipg_syntax.specs.Classes.{Tok, name, comma, right_paren, left_bracket, right_bracket, right_brace, to_word, do_word, else_word}
-use Rattle.ipg_syntax.specs.Written.{Toks, ExprTree, PlaceTree, anywhere, long, ends, SlotTree, CaseTree, TermTree, slot_term, set_term, test_term, repeat_term, pick_term, what_tok, spell_expr, spell_place, spell_slot, spell_case, spell_cases, spell_term, spell_terms, Stands, PlaceFits, SlotFits, CaseFits, TermFits, TermsFit, Each, SomeEach}
+use Rattle.ipg_syntax.specs.Written.{Toks, ExprTree, PlaceTree, anywhere, long, ends, SlotTree, CaseTree, TermTree, slot_term, set_term, test_term, repeat_term, many_term, pick_term, what_tok, spell_expr, spell_place, spell_slot, spell_case, spell_cases, spell_term, spell_terms, Stands, PlaceFits, SlotFits, CaseFits, TermFits, TermsFit, Each, SomeEach}
 use Rattle.ipg_syntax.specs.Limits.{past}
 use Rattle.ipg_syntax.specs.Machine
-use Rattle.ipg_syntax.specs.Machine.{Acts, want, have, Base, SlotUse, alone, chosen, other, Site, State, Turn, in_term, after_term, slot_named, slot_due, next_case, pick_close, expr, turned, onward, slot_done, slot_passed, slot_move, verdict}
+use Rattle.ipg_syntax.specs.Machine.{Acts, want, have, Base, SlotUse, alone, chosen, other, Site, State, Turn, in_term, after_term, slot_named, slot_due, next_case, pick_close, expr, turned, onward, slot_done, slot_passed, slot_move, many_move, many_named, passed, verdict}
 use Rattle.ipg_syntax.specs.Making.{expr_by, place_by, slot_by, cases_by, term_by, terms_by}
 use Rattle.ipg_syntax.proofs.Frames.{Ends}
 use Rattle.ipg_syntax.proofs.TakesExprs.{takes_expr, past_append}
@@ -26,6 +27,11 @@ slot_moved : (A : Acts) (at : ℕ) (log : A.Log) (u : SlotUse A) (w : What) (spa
     → slot_move A at log u w span t ≡ slot_passed A log u (A.slot w span A.anywhere) t
 slot_moved A at log u w span left_bracket plain = absurd (true≢false plain)
 slot_moved A at log u w span t plain = refl
+
+many_moved : (A : Acts) (at : ℕ) (log : A.Log) (span : Span) (i : Ident) (t : Tok) → is_bracket t ≡ false
+    → many_move A at log span i t ≡ Some (passed log (A.many_term span i A.anywhere))
+many_moved A at log span i left_bracket plain = absurd (true≢false plain)
+many_moved A at log span i t plain = refl
 
 module _ (A : Acts) (site : Site A) (before : A.Terms) where
   abbrev pub part_state : A.Log → Machine.Part A → State A
@@ -132,6 +138,22 @@ module _ (A : Acts) (site : Site A) (before : A.Terms) where
   all_cases [] fits = tt
   all_cases (c ∷ cs) fits = fits
 
+  takes_many : (log : A.Log) (span : Span) (i : Ident) (p : PlaceTree) (at : ℕ) (rest : Toks) → PlaceFits p → NoBracket rest
+      → verdict A at (part_state log (many_named span i)) (spell_place p ++ rest)
+      ≡ verdict A (past at (spell_place p)) (term_state (log_place A at p log) (A.many_term span i (place_by A p))) rest
+  takes_many log span i anywhere at [] fits plain = refl
+  takes_many log span i anywhere at (t ∷ rest) fits plain =
+      ap (λ turn. onward at (turned A at site before t turn) (λ next. verdict A (at + 1) next rest)) (many_moved A at log span i t plain)
+  takes_many log span i (long e) at rest fits plain =
+      expr_then log (Machine.many_length_or_left span i) e (at + 1) right_bracket [] rest fits (le_refl 0, refl)
+      ∙ ap (λ n. verdict A n (term_state (log_place A at (long e) log) (A.many_term span i (place_by A (long e)))) rest) (sym (past_append (at + 1) (spell_expr e) (right_bracket ∷ [])))
+  takes_many log span i (ends l r) at rest fits plain =
+      let mid : ℕ = past (at + 1) (spell_expr l) in
+      expr_then log (Machine.many_length_or_left span i) l (at + 1) comma (spell_expr r ++ (right_bracket ∷ [])) rest fits.0 (le_refl 0, refl)
+      ∙ expr_then (log_expr A (at + 1) l log) (Machine.many_right span i (expr_by A l)) r (mid + 1) right_bracket [] rest fits.1 (le_refl 0, refl)
+      ∙ ap (λ n. verdict A n (term_state (log_place A at (ends l r) log) (A.many_term span i (place_by A (ends l r)))) rest)
+      (sym (past_append (at + 1) (spell_expr l) (comma ∷ (spell_expr r ++ (right_bracket ∷ []))) ∙ past_append (mid + 1) (spell_expr r) (right_bracket ∷ [])))
+
   -- the term's first token was taken where a term may begin
   takes_term : (log : A.Log) (t : TermTree) (at : ℕ) (rest : Toks) → TermFits t → NoBracket rest
       → verdict A at (record { log = log; pos = after_term site before }) (spell_term t ++ rest)
@@ -176,6 +198,7 @@ module _ (A : Acts) (site : Site A) (before : A.Terms) where
       ∙ past_append second (spell_expr b) (do_word ∷ name i ∷ spell_place (ends l r))
       ∙ past_append third (spell_expr l) (comma ∷ (spell_expr r ++ (right_bracket ∷ [])))
       ∙ past_append fourth (spell_expr r) (right_bracket ∷ [])))
+  takes_term log (many_term span i p) at rest fits plain = takes_many (A.saw_term before at log) span i p (at + 1 + 1) rest fits plain
   takes_term log (pick_term span cs last) at rest fits plain =
       let seen : A.Log = A.saw_term before at log in
       let from : ℕ = at + 1 + 1 in
@@ -200,6 +223,7 @@ plain_term (slot_term s) rest = plain s.what
 plain_term (set_term x e) rest = refl
 plain_term (test_term span e) rest = refl
 plain_term (repeat_term x a b i l r) rest = refl
+plain_term (many_term span i p) rest = refl
 plain_term (pick_term span cs last) rest = refl
 
 plain_terms : (ts : List TermTree) (rest : Toks) → NoBracket rest → NoBracket (spell_terms ts ++ rest)
@@ -230,6 +254,7 @@ first_as_next A site log (slot_term s) at rest = opened s.what
 first_as_next A site log (set_term x e) at rest = refl
 first_as_next A site log (test_term span e) at rest = refl
 first_as_next A site log (repeat_term x a b i l r) at rest = refl
+first_as_next A site log (many_term span i p) at rest = refl
 first_as_next A site log (pick_term span cs last) at rest = refl
 
 -- all terms of an alternative

@@ -45,6 +45,7 @@ pub data Tok : Type 0 where
   start_word : Tok
   end_word : Tok
   eoi_word : Tok
+  many_word : Span → Tok
   stray : Tok
 
 abbrev pub minus : Tok
@@ -53,7 +54,7 @@ minus = sign (op Sub)
 abbrev pub slash : Tok
 slash = sign (op Div)
 
--- `tok` and `many` stand in no grammar
+-- `tok` stands in no grammar
 abbrev pub word_class : List ℕ → Span → Tok
 word_class w at =
     if is_same w (codes "for") then for_word else
@@ -65,7 +66,8 @@ word_class w at =
     (if is_same w (codes "where") then where_word else
     (if is_same w (codes "start") then start_word else
     (if is_same w (codes "end") then end_word else
-    (if is_same w (codes "EOI") then eoi_word else stray)))))))))
+    (if is_same w (codes "EOI") then eoi_word else
+    (if is_same w (codes "many") then many_word at else stray))))))))))
 
 -- symbols of one byte
 abbrev pub single_class : ℕ → Span → Tok

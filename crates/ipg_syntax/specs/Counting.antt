@@ -61,6 +61,7 @@ counters = record {
   set_term = λ x e. tt;
   test_term = λ at e. tt;
   repeat_term = λ x a b i l r. tt;
+  many_term = λ at i p. tt;
   pick_term = λ at cs s. tt;
   no_terms = 0;
   with_term = λ n t. more Terms n;

@@ -1,5 +1,5 @@
 -- What the answer for a text is, in the words of the grammar of grammars.
-use Rattle.std.specs.Prelude.{◌≡◌, ℕ, ◌≤◌, ◌<◌, true, List, [], ◌∷◌, ◌++◌, length, Some, Ok, Err, ◌↔◌}
+use Rattle.std.specs.Prelude.{◌≡◌, ◌⊎◌, ℕ, ◌^◌, ◌≤◌, ◌<◌, true, List, [], ◌∷◌, ◌++◌, length, Some, Ok, Err, ◌↔◌}
 use Rattle.std.specs.List.{AllByRecursion}
 use Rattle.ipg_ast.specs.declared.grammar.Grammar.{Grammar}
 use Rattle.ipg_tokens.specs.Lexical.{tokens_of}
@@ -50,6 +50,15 @@ pub record PassesLimit (text : List ℕ) (which : Which) (place : ℕ) : Type 0 
   pub first : first_over (sizes tree) ≡ Some (record { which = which; at = at })
   pub is : place ≡ place_of text reads.tokens at
 
+-- why a text is refused: it has more than 2^20 bytes, its tokens have a fault, no grammar goes on, or its grammar passes a limit
+abbrev pub Refused : List ℕ → ReadFault → Type 0
+Refused text TooLong = 2 ^ 20 < length text
+Refused text (Lex at) = tokens_of text ≡ Err (Lex at)
+Refused text (Number at) = tokens_of text ≡ Err (Number at)
+Refused text (Syntax at) = Breaks text at
+Refused text (Limit which at) = PassesLimit text which at
+Refused text Memory = ⊥
+
 -- a text reads as one grammar at most
 abbrev pub OneGrammar : Type 0
 OneGrammar = (text : List ℕ) (g h : Grammar) → Reads text g → Reads text h → g ≡ h
@@ -57,6 +66,19 @@ OneGrammar = (text : List ℕ) (g h : Grammar) → Reads text g → Reads text h
 -- the answer is a grammar exactly where the text reads as it within the limits
 abbrev pub ReadsExactly : Type 0
 ReadsExactly = (text : List ℕ) (g : Grammar) → (read_of text ≡ Ok g) ↔ ReadsWithin text g
+
+-- a text that reads as no grammar within the limits is refused, for that very reason
+abbrev pub RefusedExactly : Type 0
+RefusedExactly = (text : List ℕ) (fault : ReadFault) → (read_of text ≡ Err fault) ↔ Refused text fault
+
+-- a text reads as a grammar or is refused, not both, and for one reason
+pub record OneAnswer (text : List ℕ) : Type 0 where
+  pub some : ((g : Grammar) × ReadsWithin text g) ⊎ ((fault : ReadFault) × Refused text fault)
+  pub apart : (g : Grammar) (fault : ReadFault) → ReadsWithin text g → Refused text fault → ⊥
+  pub one : (fault other : ReadFault) → Refused text fault → Refused text other → fault ≡ other
+
+abbrev pub AlwaysOneAnswer : Type 0
+AlwaysOneAnswer = (text : List ℕ) → OneAnswer text
 
 -- a fault of syntax has exactly the place up to which a grammar goes on
 abbrev pub SyntaxPlace : Type 0

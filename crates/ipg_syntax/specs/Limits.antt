@@ -2,7 +2,7 @@
 use Rattle.std.specs.Prelude.{ℕ, ◌+◌, Bool, List, [], ◌∷◌, ◌++◌, length, Option, Some, None, nat_lt, max, if◌then◌else◌}
 use Rattle.ipg_tokens.specs.declared.fault.Which.{Which}
 use Rattle.ipg_tokens.specs.declared.fault.Which.TheVariants.{Rules, Alternatives, Terms, Depth}
-use Rattle.ipg_syntax.specs.Written.{Toks, ExprTree, num, eoi, own, part, item, group, neg, isnt, two, choose, PlaceTree, anywhere, long, ends, SlotTree, CaseTree, TermTree, slot_term, set_term, test_term, repeat_term, pick_term, LocalTree, AltTree, RuleTree, spell_expr, spell_case, spell_cases, spell_term, spell_terms, spell_local, spell_alt, spell_rule}
+use Rattle.ipg_syntax.specs.Written.{Toks, ExprTree, num, eoi, own, part, item, group, neg, isnt, two, choose, PlaceTree, anywhere, long, ends, SlotTree, CaseTree, TermTree, slot_term, set_term, test_term, repeat_term, many_term, pick_term, LocalTree, AltTree, RuleTree, spell_expr, spell_case, spell_cases, spell_term, spell_terms, spell_local, spell_alt, spell_rule}
 
 abbrev pub depth : ExprTree → ℕ
 depth (num z) = 1
@@ -54,6 +54,7 @@ term_sizes at (test_term span e) = expr_size (at + 1 + 1) e ∷ []
 term_sizes at (repeat_term x a b i l r) =
     let second : ℕ = past (at + 1 + 1 + 1) (spell_expr a) + 1 in
     expr_size (at + 1 + 1 + 1) a ∷ expr_size second b ∷ place_sizes (past second (spell_expr b) + 1 + 1) (ends l r)
+term_sizes at (many_term span i p) = place_sizes (at + 1 + 1) p
 term_sizes at (pick_term span cs other) =
     cases_sizes (at + 1 + 1) cs ++ slot_sizes (past (at + 1 + 1) (spell_cases cs) + 1) other
 

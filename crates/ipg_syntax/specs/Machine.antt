@@ -7,7 +7,7 @@ use Rattle.ipg_ast.specs.declared.grammar.What.{What}
 use Rattle.ipg_ast.specs.declared.grammar.What.TheVariants.{Text as TextWhat, Call}
 use Rattle.ipg_ast.specs.declared.grammar.Field.{Field}
 use Rattle.ipg_ast.specs.declared.grammar.Field.TheVariants.{Id as Attribute, Start, End}
-use Rattle.ipg_syntax.specs.Classes.{Infix, op, level, Tok, name, number, text, sign, bang, question, colon, dot, comma, equals, arrow, semicolon, left_paren, right_paren, left_bracket, right_bracket, left_brace, right_brace, for_word, to_word, do_word, switch_word, case_word, else_word, where_word, start_word, end_word, eoi_word}
+use Rattle.ipg_syntax.specs.Classes.{Infix, op, level, Tok, name, number, text, sign, bang, question, colon, dot, comma, equals, arrow, semicolon, left_paren, right_paren, left_bracket, right_bracket, left_brace, right_brace, for_word, to_word, do_word, switch_word, case_word, else_word, where_word, start_word, end_word, eoi_word, many_word}
 
 -- what is made of each form, and a log that is told of rule heads, alternatives, terms and whole expressions
 pub record Acts : Type 1 where
@@ -42,6 +42,7 @@ pub record Acts : Type 1 where
   pub set_term : Ident → Expr → Term
   pub test_term : Span → Expr → Term
   pub repeat_term : Ident → Expr → Expr → Ident → Expr → Expr → Term
+  pub many_term : Span → Ident → Place → Term
   pub pick_term : Span → Cases → Slot → Term
   pub no_terms : Terms
   pub with_term : Terms → Term → Terms
@@ -97,6 +98,8 @@ pub data Base (A : Acts) : Type 0 where
   last_bound : Ident → A.Expr → Base A
   item_left : Ident → A.Expr → A.Expr → Ident → Base A
   item_right : Ident → A.Expr → A.Expr → Ident → A.Expr → Base A
+  many_length_or_left : Span → Ident → Base A
+  many_right : Span → Ident → A.Expr → Base A
   case_of : Span → A.Cases → Base A
 
 -- a place within a term; an expression has the number of its first token
@@ -110,6 +113,8 @@ pub data Part (A : Acts) : Type 0 where
   repeat_named : Ident → Part A
   item_due : Ident → A.Expr → A.Expr → Part A
   item_named : Ident → A.Expr → A.Expr → Ident → Part A
+  many_open : Span → Part A
+  many_named : Span → Ident → Part A
   pick_open : Span → Part A
   first_case : Span → Part A
   next_case : Span → A.Cases → Part A
@@ -251,6 +256,9 @@ ended A at log (first_bound x) e to_word = Some (still log (expr (last_bound x e
 ended A at log (last_bound x a) e do_word = Some (still log (item_due x a e))
 ended A at log (item_left x a b i) e comma = Some (still log (expr (item_right x a b i e) (at + 1) (want [])))
 ended A at log (item_right x a b i l) e right_bracket = Some (done log (A.repeat_term x a b i l e))
+ended A at log (many_length_or_left span i) e right_bracket = Some (done log (A.many_term span i (A.long e)))
+ended A at log (many_length_or_left span i) e comma = Some (still log (expr (many_right span i e) (at + 1) (want [])))
+ended A at log (many_right span i l) e right_bracket = Some (done log (A.many_term span i (A.ends l e)))
 ended A at log (case_of span cs) e right_paren = Some (still log (slot_due (chosen span cs e)))
 ended A at log base e t = None
 
@@ -294,8 +302,14 @@ abbrev pub opening : (A : Acts) → Tok → Option (Part A)
 opening A left_brace = Some set_open
 opening A (question at) = Some (test_open at)
 opening A for_word = Some repeat_open
+opening A (many_word at) = Some (many_open at)
 opening A (switch_word at) = Some (pick_open at)
 opening A t = slot_opening A alone t
+
+-- the interval of a repetition, or none
+abbrev pub many_move : (A : Acts) → ℕ → A.Log → Span → Ident → Tok → Option (Turn A)
+many_move A at log span i left_bracket = Some (still log (expr (many_length_or_left span i) (at + 1) (want [])))
+many_move A at log span i t = Some (passed log (A.many_term span i A.anywhere))
 
 abbrev pub part_move : (A : Acts) → ℕ → A.Log → Part A → Tok → Option (Turn A)
 part_move A at log (slot_named u what span) t = slot_move A at log u what span t
@@ -307,6 +321,8 @@ part_move A at log repeat_open (name x) = Some (still log (repeat_named x))
 part_move A at log (repeat_named x) equals = Some (still log (expr (first_bound x) (at + 1) (want [])))
 part_move A at log (item_due x a b) (name i) = Some (still log (item_named x a b i))
 part_move A at log (item_named x a b i) left_bracket = Some (still log (expr (item_left x a b i) (at + 1) (want [])))
+part_move A at log (many_open span) (name i) = Some (still log (many_named span i))
+part_move A at log (many_named span i) t = many_move A at log span i t
 part_move A at log (pick_open span) left_brace = Some (still log (first_case span))
 part_move A at log (first_case span) case_word = Some (still log (case_open span A.no_cases))
 part_move A at log (next_case span cs) t = case_move A log span cs t

@@ -53,6 +53,7 @@ trees = record {
   set_term = Written.set_term;
   test_term = Written.test_term;
   repeat_term = Written.repeat_term;
+  many_term = Written.many_term;
   pick_term = Written.pick_term;
   no_terms = [];
   with_term = last;
@@ -117,6 +118,7 @@ made = record {
   set_term = λ x e. T.Set x e;
   test_term = λ at e. T.Test at e;
   repeat_term = λ x a b i l r. T.Repeat x a b i l r;
+  many_term = λ at i p. T.Many at i p;
   pick_term = λ at cs s. T.Pick at cs s;
   no_terms = [];
   with_term = last;
@@ -168,6 +170,7 @@ term_by A (Written.slot_term s) = A.slot_term (slot_by A s)
 term_by A (Written.set_term x e) = A.set_term x (expr_by A e)
 term_by A (Written.test_term at e) = A.test_term at (expr_by A e)
 term_by A (Written.repeat_term x a b i l r) = A.repeat_term x (expr_by A a) (expr_by A b) i (expr_by A l) (expr_by A r)
+term_by A (Written.many_term at i p) = A.many_term at i (place_by A p)
 term_by A (Written.pick_term at cs s) = A.pick_term at (cases_by A A.no_cases cs) (slot_by A s)
 
 abbrev pub terms_by : (A : Acts) → A.Terms → List Written.TermTree → A.Terms

@@ -6,7 +6,7 @@ use Rattle.ipg_ast.specs.declared.grammar.What.{What}
 use Rattle.ipg_ast.specs.declared.grammar.What.TheVariants.{Text as TextWhat, Call}
 use Rattle.ipg_ast.specs.declared.grammar.Field.{Field}
 use Rattle.ipg_ast.specs.declared.grammar.Field.TheVariants.{Id as Attribute, Start, End}
-use Rattle.ipg_syntax.specs.Classes.{Infix, level, Tok, name, number, text, sign, bang, question, colon, dot, comma, equals, arrow, semicolon, left_paren, right_paren, left_bracket, right_bracket, left_brace, right_brace, for_word, to_word, do_word, switch_word, case_word, else_word, where_word, start_word, end_word, eoi_word, minus, slash}
+use Rattle.ipg_syntax.specs.Classes.{Infix, level, Tok, name, number, text, sign, bang, question, colon, dot, comma, equals, arrow, semicolon, left_paren, right_paren, left_bracket, right_bracket, left_brace, right_brace, for_word, to_word, do_word, switch_word, case_word, else_word, where_word, start_word, end_word, eoi_word, many_word, minus, slash}
 
 abbrev pub Toks : Type 0
 Toks = List Tok
@@ -45,6 +45,7 @@ pub data TermTree : Type 0 where
   set_term : Ident → ExprTree → TermTree
   test_term : Span → ExprTree → TermTree
   repeat_term : Ident → ExprTree → ExprTree → Ident → ExprTree → ExprTree → TermTree
+  many_term : Span → Ident → PlaceTree → TermTree
   pick_term : Span → List CaseTree → SlotTree → TermTree
 
 pub record LocalTree : Type 0 where
@@ -104,6 +105,7 @@ spell_term (set_term x e) = left_brace ∷ name x ∷ equals ∷ (spell_expr e +
 spell_term (test_term at e) = question at ∷ left_paren ∷ (spell_expr e ++ (right_paren ∷ []))
 spell_term (repeat_term x a b i l r) =
     for_word ∷ name x ∷ equals ∷ (spell_expr a ++ (to_word ∷ (spell_expr b ++ (do_word ∷ name i ∷ spell_place (ends l r)))))
+spell_term (many_term at i p) = many_word at ∷ name i ∷ spell_place p
 spell_term (pick_term at cs other) =
     switch_word at ∷ left_brace ∷ (spell_cases cs ++ (else_word ∷ (spell_slot other ++ (right_brace ∷ []))))
 
@@ -185,6 +187,7 @@ TermFits (slot_term s) = SlotFits s
 TermFits (set_term x e) = Stands 0 e
 TermFits (test_term at e) = Stands 0 e
 TermFits (repeat_term x a b i l r) = Stands 0 a × Stands 0 b × Stands 0 l × Stands 0 r
+TermFits (many_term at i p) = PlaceFits p
 TermFits (pick_term at cs other) = SomeEach CaseFits cs × SlotFits other
 
 abbrev pub TermsFit : List TermTree → Type 0

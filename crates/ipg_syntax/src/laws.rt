@@ -1,6 +1,6 @@
 //! Laws of reading, each the contract of a function that does nothing.
 
-ghost use Rattle.ipg_syntax.specs.Laws.{OneGrammar, ReadsExactly, SyntaxPlace, LimitPlace, TokensFirst, LimitIsLeast};
+ghost use Rattle.ipg_syntax.specs.Laws.{OneGrammar, ReadsExactly, RefusedExactly, AlwaysOneAnswer, SyntaxPlace, LimitPlace, TokensFirst, LimitIsLeast};
 
 /// A text reads as one grammar at most.
 pub fn one_grammar()
@@ -10,6 +10,16 @@ pub fn one_grammar()
 /// The answer is a grammar exactly where the text reads as it within the limits.
 pub fn reads_exactly()
     ensures { ReadsExactly }
+{}
+
+/// A fault is answered exactly where the text is refused for it; so no text is refused for want of memory.
+pub fn refused_exactly()
+    ensures { RefusedExactly }
+{}
+
+/// A text reads as one grammar within the limits, or is refused for one reason.
+pub fn always_one_answer()
+    ensures { AlwaysOneAnswer }
 {}
 
 /// A fault of syntax stands exactly where no grammar goes on.

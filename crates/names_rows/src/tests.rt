@@ -11,7 +11,7 @@ struct Row {
     at: u32,
 }
 
-const ROWS: [Row; 34] = [
+const ROWS: [Row; 38] = [
     Row {
         text: b"S -> \"\" ; S -> \"\" ;",
         number: 6,
@@ -182,6 +182,26 @@ const ROWS: [Row; 34] = [
         number: 0,
         at: 0,
     },
+    Row {
+        text: b"S -> many T ;",
+        number: 7,
+        at: 10,
+    },
+    Row {
+        text: b"S -> many A ?(A.n) ; A -> {n = 1} ;",
+        number: 11,
+        at: 14,
+    },
+    Row {
+        text: b"S -> many A[A(0).end, EOI] ; A -> \"\" ;",
+        number: 11,
+        at: 12,
+    },
+    Row {
+        text: b"S -> many A ?(A(0).n) ; A -> {n = 1} ;",
+        number: 0,
+        at: 0,
+    },
 ];
 
 fn told(answer: &Result<Named, NameFault>) -> (u32, u32) {
@@ -231,7 +251,7 @@ enum Meaning {
     Other,
 }
 
-const REFERENCES: [Reference; 8] = [
+const REFERENCES: [Reference; 11] = [
     Reference {
         text: b"S -> A A ?(A.n) A ; A -> {n = 1} ;",
         rule: 0,
@@ -255,6 +275,24 @@ const REFERENCES: [Reference; 8] = [
         rule: 0,
         term: 2,
         means: Meaning::Item(1),
+    },
+    Reference {
+        text: b"S -> many A many A ?(A(0).n) ; A -> {n = 1} ;",
+        rule: 0,
+        term: 2,
+        means: Meaning::Item(1),
+    },
+    Reference {
+        text: b"S -> for i = 0 to 1 do A[0,1] ?(A(0).n) many A ; A -> {n = 1} ;",
+        rule: 0,
+        term: 1,
+        means: Meaning::Item(0),
+    },
+    Reference {
+        text: b"S -> A many A ?(A.n) ; A -> {n = 1} ;",
+        rule: 0,
+        term: 2,
+        means: Meaning::Seen(0),
     },
     Reference {
         text: b"S -> {x = 1} L where { L -> {x = 2} ?(x) ; } ;",

@@ -20,7 +20,11 @@ pub const CIRCULAR: Reply<'static> = (Status::Refused, b"refused G12 Circular S 
 
 pub const RANGE: Reply<'static> = (Status::Range, b"range\n");
 
-pub const LATER: Reply<'static> = (Status::Refused, b"refused Later\n");
+pub const LOOP: Reply<'static> = (Status::Refused, b"refused G13 MayLoop EOI=0 S/0/0/0\n");
+
+pub const ACCEPTED: Reply<'static> = (Status::Done, b"accepted\n");
+
+pub const VERIFIED: Reply<'static> = (Status::Done, b"verified\n");
 
 pub const USAGE: Reply<'static> = (Status::Usage, b"usage\n");
 
@@ -139,7 +143,7 @@ pub const WHOLE: [(&[u8], &[u8], Reply<'static>); 8] = [
     (b"S -> ?(1 / EOI) Bytes ;", b"", NO_PARSE),
 ];
 
-/// Faults of names, terms without an order, and calls that don't go on to later rules, in their order.
+/// Faults of names, terms without an order and cycles of calls, in their order.
 pub const REFUSED: [(&[u8], Reply<'static>); 18] = [
     (
         b"S -> \"\" ; S -> \"\" ;",
@@ -183,12 +187,113 @@ pub const REFUSED: [(&[u8], Reply<'static>); 18] = [
         b"S -> A[B.end,EOI] B[A.end,EOI] S ; A -> U8 ; B -> U8 ;",
         CIRCULAR,
     ),
-    (b"S -> S[0, EOI] ;", LATER),
-    (b"S -> A[0, EOI] ; A -> S[0, EOI] ;", LATER),
-    (b"S -> \"ab\"[0, 2] ; A -> A[0, EOI] ;", LATER),
-    (b"S -> U8 for i = 0 to 1 do S[0, 0] ;", LATER),
-    (b"S -> switch { case (0) S else U8 } ;", LATER),
-    (b"S -> U8 ; A -> L where { L -> A ; } ;", LATER),
+    (b"S -> S[0, EOI] ;", LOOP),
+    (
+        b"S -> A[0, EOI] ; A -> S[0, EOI] ;",
+        (
+            Status::Refused,
+            b"refused G13 MayLoop EOI=0 S/0/0/0 A/0/0/0\n",
+        ),
+    ),
+    (
+        b"S -> \"ab\"[0, 2] ; A -> A[0, EOI] ;",
+        (Status::Refused, b"refused G13 MayLoop EOI=0 A/0/0/0\n"),
+    ),
+    (
+        b"S -> U8 for i = 0 to 1 do S[0, 1] ;",
+        (Status::Refused, b"refused G13 MayLoop EOI=1 S/0/1/0\n"),
+    ),
+    (
+        b"S -> switch { case (EOI > 9) U8 case (EOI == 3) S else U8 } ;",
+        (Status::Refused, b"refused G13 MayLoop EOI=3 S/0/0/1\n"),
+    ),
+    (
+        b"S -> U8 ; A -> U8 / L where { L -> A ; } ;",
+        (
+            Status::Refused,
+            b"refused G13 MayLoop EOI=0 A/1/0/0 L/0/0/0\n",
+        ),
+    ),
+];
+
+/// Grammars, and what `check` says of each.
+pub const CHECKED: [(&[u8], Reply<'static>); 12] = [
+    (
+        b"A -> A[0,EOI] / \"x\" ;",
+        (Status::Refused, b"refused G13 MayLoop EOI=0 A/0/0/0\n"),
+    ),
+    (INT, ACCEPTED),
+    (
+        b"A -> ?(EOI == 4) B[0,EOI] / \"a\" ; B -> ?(EOI == 5) A[0,EOI] / \"b\" ;",
+        ACCEPTED,
+    ),
+    (LIST, ACCEPTED),
+    (
+        b"L -> I[0,EOI] L[I.end,EOI] / \"\" ; I -> \"x\" / \"\" ;",
+        (Status::Refused, b"refused G13 MayLoop EOI=0 L/0/1/0\n"),
+    ),
+    (
+        b"A -> ?(2 * EOI == 8) A[0, EOI] / \"\" ;",
+        (Status::Refused, b"refused G13 MayLoop EOI=4 A/0/1/0\n"),
+    ),
+    (b"A -> ?(2 * EOI == 7) A[0, EOI] / \"\" ;", ACCEPTED),
+    (
+        b"S -> {k = 4} L where { L -> L[k, EOI] / U8 ; } ;",
+        ACCEPTED,
+    ),
+    (
+        b"S -> for i = 0 to 2 do P[i, EOI] S[P(1).end, EOI] / \"\" ; P -> U8 ;",
+        ACCEPTED,
+    ),
+    (
+        b"S -> for i = 0 to EOI + 1 do U8[0, 1] S / \"\" ;",
+        ACCEPTED,
+    ),
+    (b"S -> T ;", UNKNOWN),
+    (b"S -> U8 ;", ACCEPTED),
+];
+
+/// Numbers in decimal.
+pub const INT: &[u8] =
+    b"Int -> Int[0, EOI - 1] Digit[EOI - 1, EOI] / Digit[0, 1] ; Digit -> U8 ?(U8.val >= 48 && U8.val <= 57) ;";
+
+pub const INT_TREE: &[u8] =
+    b"0 Int 0 2 start=0 end=2\n1 Int 0 1 start=0 end=1\n2 Digit 0 1 start=0 end=1\n3 U8 0 1 val=52\n1 Digit 1 2 start=1 end=2\n2 U8 1 2 val=50\n";
+
+/// A list of x, whose call of itself is never on the whole part.
+pub const LIST: &[u8] = b"L -> I[0,EOI] L[I.end,EOI] / \"\" ; I -> \"x\" ;";
+
+/// Certificates for that grammar, and what `verify` says of each.
+pub const JUDGED: [(&[u8], Reply<'static>); 8] = [
+    (
+        b"ipgcert 2\ndead 1\n1 c 3 1 9 1 10 1 12\ncycles 0\n",
+        VERIFIED,
+    ),
+    (
+        b"ipgcert 2\ndead 1\n1 c 3 2 9 1 10 1 12\ncycles 0\n",
+        (Status::BadProof, b"refused C3 Unsound 0\n"),
+    ),
+    (
+        b"ipgcert 2\ndead 0\ncycles 0\n",
+        (Status::BadProof, b"refused C2 Mismatch 0\n"),
+    ),
+    (
+        b"ipgcert 2\ndead 1\n1 c 3 1 9 1 10 1 12\ncycles 1\n1 0 c 1 1 0\n",
+        (Status::BadProof, b"refused C2 Mismatch 1\n"),
+    ),
+    (
+        b"ipgcert 1\ndead 1\n1 c 3 1 9 1 10 1 12\ncycles 0\n",
+        (Status::BadProof, b"refused C1 CertText 8\n"),
+    ),
+    (
+        b"ipgcert 2\ndead 0\ncycles 0",
+        (Status::BadProof, b"refused C1 CertText 25\n"),
+    ),
+    (
+        b"ipgcert 2\ndead 0\ncycles 0\n0",
+        (Status::BadProof, b"refused C1 CertText 26\n"),
+    ),
+    (b"", (Status::BadProof, b"refused C1 CertText 0\n")),
 ];
 
 /// Texts and their canonical texts.
@@ -214,21 +319,36 @@ pub const FORMATTED: [(&[u8], &[u8]); 7] = [
     ),
 ];
 
-/// Words that are no command.
-pub const WRONG_WORDS: [&[&str]; 13] = [
+/// Words that are no command, ask for help, or have a value out of range.
+pub const WRONG_WORDS: [&[&str]; 20] = [
     &[],
     &["parse"],
     &["parse", "g"],
     &["parse", "g", "f", "f"],
-    &["parse", "g", "f", "--memo", "on"],
+    &["parse", "g", "f", "--memo", "of"],
+    &["parse", "g", "f", "--arena", "0"],
+    &["parse", "g", "f", "--help"],
     &["pars", "g", "f"],
     &["fmt"],
     &["fmt", "g", "f"],
     &["fm", "g"],
+    &["check"],
+    &["check", "g", "f"],
+    &["cert", "g", "f"],
+    &["verify", "g"],
     &["g"],
     &["table", "g"],
     &["trial", "gif", "1"],
     &["--help"],
+    &["help"],
+];
+
+/// Words by which the row is parsed.
+pub const PARSING_WORDS: [&[&str]; 4] = [
+    &["parse", "g", "f"],
+    &["parse", "g", "f", "--memo", "off"],
+    &["parse", "--arena=1", "--", "g", "f"],
+    &["parse", "--memo", "on", "g", "--arena", "4096", "f"],
 ];
 
 /// Texts that are no grammar.

@@ -1,12 +1,11 @@
 pub const TEXT: &[u8] =
     br#"Pcap -> Magic[0, 4] {le = Magic.le} {nano = Magic.nano} Head[4, 24] {link = Head.link}
-  Recs[24, EOI]
+  many Rec[24, EOI] Tail
   where {
     Half -> ?(le) U16LE {val = U16LE.val} / U16BE {val = U16BE.val} ;
     Word -> ?(le) U32LE {val = U32LE.val} / U32BE {val = U32BE.val} ;
     Head -> Half ?(Half.val == 2) Half ?(Half.val == 4) Word Word
       Word {snap = Word.val} Word {link = Word.val} ;
-    Recs -> Rec Recs / Tail ;
     Rec -> Word {sec = Word.val} Word {frac = Word.val} Word {cap = Word.val}
       Word {orig = Word.val} switch { case (link == 1) Eth[cap] else Raw[cap] } ;
   } ;

@@ -13,6 +13,6 @@ returns-in-Err-TooLarge g c =
     let before = g.F.Files.faults c.args.files.now in
     let after = g.F.Files.faults c.read_all.new.self in
     let cut = rw c.in-Err-TooLarge.field-0-is at c.in-Err-TooLarge.ensures.cut in
-    IfOk-weaker c.line-in-Err-TooLarge.result (λ s. said_of s ≡ too_large) (λ s. Settles told before after (parse_input c.args.grammar.now c.args.input.now) (said_of s))
+    IfOk-weaker c.line-in-Err-TooLarge.result (λ s. said_of s ≡ too_large) (λ s. Settles told before after (parse_input c.args.input.now c.args.grammar.now) (said_of s))
     (λ s e. goes_on told before after c.args.input.now _ (said_of s) cut.whole cut.contents (settles_by told before after (input_in cut.whole) _ (said_of s) too_large (input_too_long cut.whole cut.longer) e))
     c.line-in-Err-TooLarge.ensures

@@ -1,0 +1,26 @@
+use Rattle.std.proofs.Common.{◌≡◌, Ok, Err, refl}
+use Rattle.std.proofs.lemmas.Result.{IfOk-weaker}
+use Rattle.ipg_proof.specs.Proves.{Proves}
+use Rattle.ipg_proof.specs.Texts.{text_of}
+use Rattle.ipg_app.specs.Said.{done}
+use Rattle.ipg_app.specs.Checks.{Checks}
+use Rattle.ipg_app.specs.Reply.{cert}
+use Rattle.ipg_app.specs.Found.{Says}
+use Rattle.ipg_app.specs.Lines.{said_of}
+use Rattle.ipg_app.proofs.checks.say_cert.Goals as goal
+
+pub returns-in-Ok : goal.returns-in-Ok
+returns-in-Ok c =
+    let core = c.args.core in
+    let same = c.in-Ok.field-0-0 in
+    let certificate = c.in-Ok.certificate in
+    let checks : Checks core (Ok same) = rw c.in-Ok.is at c.in_ok-certificate.ensures.checks in
+    let proves : Proves same certificate = rw c.in-Ok.is at c.in_ok-certificate.ensures.proved in
+    IfOk-weaker c.written.result (λ s. said_of s ≡ done (text_of certificate)) (λ s. Says (cert core) (said_of s))
+    (λ s e told. (Ok same, checks, record { certificate = certificate; proves = proves; is = e })) c.written.ensures
+
+pub returns : goal.returns
+returns c =
+    let said = said_of c.in-Err.settled in
+    let checks : Checks c.args.core (Err said) = rw c.in-Err.is at c.in_ok-certificate.ensures.checks in
+    λ told. (Err said, checks, refl)

@@ -1,0 +1,28 @@
+use Rattle.std.proofs.Common.{Ok, Err}
+use Rattle.std.proofs.lemmas.Result.{IfOk-weaker}
+use Rattle.ipg_app.specs.Checks.{Checks}
+use Rattle.ipg_app.specs.Reply.{parse, parse_input}
+use Rattle.ipg_app.specs.Run.{Settles}
+use Rattle.ipg_app.specs.Lines.{said_of}
+use Rattle.ipg_app.proofs.Settling.{accepted_on, not_accepted}
+use Rattle.ipg_app.proofs.settle.parse_by.Goals as goal
+
+pub returns-in-Ok : goal.returns-in-Ok
+returns-in-Ok g c =
+    let told = g.F.Files.told c.args.files.now in
+    let before = g.F.Files.faults c.args.files.now in
+    let after = g.F.Files.faults c.parse_input.new.files in
+    let input = c.args.input.now in
+    let core = c.args.core in
+    let same = c.in-Ok.checked in
+    let checks : Checks core (Ok same) = rw c.in-Ok.is at c.in_ok-checked.ensures.checks in
+    IfOk-weaker c.parse_input.result (λ s. Settles told before after (parse_input input same) (said_of s)) (λ s. Settles told before after (parse input core) (said_of s))
+    (λ s h. accepted_on told before after core same (parse_input input) (said_of s) checks h) c.parse_input.ensures
+
+pub returns : goal.returns
+returns g c =
+    let told = g.F.Files.told c.args.files.now in
+    let counts = g.F.Files.faults c.args.files.now in
+    let said = said_of c.in-Err.settled in
+    let checks : Checks c.args.core (Err said) = rw c.in-Err.is at c.in_ok-checked.ensures.checks in
+    not_accepted told counts counts c.args.core (parse_input c.args.input.now) said checks

@@ -1,0 +1,74 @@
+//! Checks that parsing by a core grammar ends.
+ghost use Rattle.std.specs.Prelude.{◌≡◌, Ok, Err, IfOk, MatchResult};
+ghost use Rattle.ipg_proof.specs.Proves.{Proves};
+ghost use Rattle.ipg_proof.specs.Texts.{text_of};
+ghost use Rattle.ipg_term.specs.Loops.{IsReason};
+ghost use Rattle.ipg_app.specs.Said.{done};
+ghost use Rattle.ipg_app.specs.Checks.{Checks, IsLoop};
+ghost use Rattle.ipg_app.specs.Reply.{check, cert};
+ghost use Rattle.ipg_app.specs.Found.{Says};
+ghost use Rattle.ipg_app.specs.Lines.{said_of};
+
+use crate::looping::may_loop;
+use crate::said::{Settled, line};
+use crate::status::Status;
+use ipg_core::accepted::{Checked, Core};
+use ipg_proof::{Certificate, cert_text};
+use ipg_term::{TermFault, TermWhy, check};
+use std::alloc::{AllocError, Global};
+
+/// The grammar, by which parsing ends, with a certificate that proves it; or what is said of its first cycle, G13.
+pub fn accepted(
+    alloc: Global,
+    core: Core,
+) -> Result<Result<(Checked, Certificate), Settled>, AllocError>
+    ensures checks { IfOk result (λ made. MatchResult made (λ made. Checks core (Ok made.0)) (λ settled. Checks core (Err (said_of settled)))) }
+    ensures proved { IfOk result (λ made. IfOk made (λ made. Proves made.0 made.1)) }
+{
+    match check(alloc, core) {
+        Ok(made) => Ok(Ok(made)),
+        Err(TermFault { grammar, why }) => Ok(Err(refused(alloc, &grammar, &why)?)),
+    }
+}
+
+fn refused(alloc: Global, g: &Core, why: &TermWhy) -> Result<Settled, AllocError>
+    requires { IsReason g.now why.now }
+    ensures { IfOk result (λ settled. IsLoop g.now (said_of settled)) }
+{
+    match why {
+        TermWhy::MayLoop { cycle, values } => {
+            may_loop(alloc, g, cycle.as_slice(), values.as_slice())
+        }
+        TermWhy::Memory => Err(AllocError),
+    }
+}
+
+/// What `check` says.
+pub fn say_check(alloc: Global, core: Core) -> Result<Settled, AllocError>
+    ensures { IfOk result (λ settled. Says (check core) (said_of settled)) }
+{
+    match accepted(alloc, core)? {
+        Ok(_) => line(alloc, Status::Done, b"accepted"),
+        Err(settled) => Ok(settled),
+    }
+}
+
+/// What `cert` says.
+pub fn say_cert(alloc: Global, core: Core) -> Result<Settled, AllocError>
+    ensures { IfOk result (λ settled. Says (cert core) (said_of settled)) }
+{
+    match accepted(alloc, core)? {
+        Ok((_, certificate)) => written(alloc, &certificate),
+        Err(settled) => Ok(settled),
+    }
+}
+
+fn written(alloc: Global, certificate: &Certificate) -> Result<Settled, AllocError>
+    ensures { IfOk result (λ settled. said_of settled ≡ done (text_of certificate.now)) }
+{
+    let text = cert_text(alloc, certificate)?;
+    Ok(Settled {
+        status: Status::Done,
+        lines: vec![in alloc; text]?,
+    })
+}

@@ -1,0 +1,12 @@
+use Rattle.std.proofs.Common.{◌≡◌, length}
+use Rattle.ipg_read.specs.Lexemes.{tok_of}
+use Rattle.ipg_read.specs.Rowed.{rows_of}
+use Rattle.ipg_read.specs.Asked as A
+use Rattle.ipg_read.proofs.scan.advance.Given as goal
+
+abbrev pub decreases-loop-entry : goal.decreases-loop-entry
+decreases-loop-entry l = length l.due
+
+abbrev pub invariant-loop-entry : goal.invariant-loop-entry
+invariant-loop-entry l =
+    A.after_rows (rows_of l.rows.items) (A.advance l.at (tok_of l.token) l.due) ≡ A.after_rows (rows_of l.initial.rows.items) (A.advance l.at (tok_of l.token) l.initial.due)

@@ -1,0 +1,16 @@
+-- The operand stack as the code keeps it: numbers from the start of an area, the last one on top.
+use Rattle.std.specs.Prelude.{◌≡◌, ℕ, zero, suc, ◌≤◌, List, [], ◌∷◌, length, get_or, ℤ, pos}
+use Rattle.ipg_num.specs.declared.op.Answer.{Answer}
+use Rattle.ipg_table.specs.declared.value.Turn.{Turn}
+use Rattle.ipg_table.specs.declared.value.Turn.TheVariants.{On, End}
+use Rattle.ipg_table.specs.Running.{Next}
+
+-- the stack, from the top down
+abbrev pub stacked : List ℤ → ℕ → List ℤ
+stacked area zero = []
+stacked area (suc n) = get_or area n (pos 0) ∷ stacked area n
+
+-- what a row does, whatever comes next
+abbrev pub Turns : Turn → List ℤ → (Next → Answer) → Type 0
+Turns (On skip top) area does = ((next : Next) → does next ≡ next skip (stacked area top)) × (top ≤ length area)
+Turns (End answer) area does = (next : Next) → does next ≡ answer

@@ -1,0 +1,12 @@
+//! Flat tables compiled from a checked grammar.
+#![tactic(auto)]
+
+mod draft;
+mod emit;
+mod look;
+pub mod results;
+pub mod row;
+pub mod tables;
+#[cfg(test)]
+mod tests;
+mod value;

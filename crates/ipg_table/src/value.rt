@@ -1,0 +1,303 @@
+//! The value of an expression, computed from its rows on a stack that is lent.
+
+ghost use Rattle.std.specs.Prelude.{◌≡◌, ◌≤◌, [], ◌∷◌, length, not, true, false, nat_lt, pos, MatchOption, if◌then◌else◌};
+ghost use Rattle.ipg_num.specs.Number.{limited, flag, apply_of, negate_of};
+ghost use Rattle.ipg_core.specs.Eval as spec;
+ghost use Rattle.ipg_core.specs.Environment as envs;
+ghost use Rattle.ipg_table.specs.Running.{computed, on_top, run};
+ghost use Rattle.ipg_table.specs.Running as running;
+ghost use Rattle.ipg_table.specs.Stack.{stacked, Turns};
+
+use crate::look::past;
+use crate::results::Results;
+use crate::row::Op;
+use ipg_core::grammar::CoreField;
+use ipg_num::{Answer, Op2, apply, negate};
+
+/// What a row leads to: so many rows are passed over, and the stack is so high; or the answer is known.
+#[derive(Clone, Copy)]
+pub(crate) enum Turn {
+    On { skip: u32, top: usize },
+    End(Answer),
+}
+
+/// The number on top of a stack, and how high the stack is without it.
+#[derive(Clone, Copy)]
+struct Taken {
+    value: i64,
+    top: usize,
+}
+
+/// A number is within its type.
+fn kept(answer: Answer) -> Answer
+    ensures { result ≡ spec.on_value answer limited }
+{
+    answer
+}
+
+fn found(value: Option<i64>) -> Answer
+    ensures { result ≡ spec.found value }
+{
+    match value {
+        Some(value) => Answer::Val(value),
+        None => Answer::Fail,
+    }
+}
+
+fn truth(holds: bool) -> Answer
+    ensures { result ≡ flag holds }
+{
+    Answer::Val(if holds { 1 } else { 0 })
+}
+
+fn whole(number: u32) -> Answer
+    ensures { result ≡ Answer.Val (pos number) }
+{
+    Answer::Val(i64::from(number))
+}
+
+/// 1 for 0, else 0.
+fn denied(a: Taken) -> Answer
+    ensures { result ≡ flag (spec.is_zero a.value) }
+{
+    truth(a.value == 0)
+}
+
+/// 0 for 0, else 1.
+fn asserted(a: Taken) -> Answer
+    ensures { result ≡ flag (not (spec.is_zero a.value)) }
+{
+    truth(a.value != 0)
+}
+
+fn is_zero(a: Taken) -> bool
+    ensures { result ≡ spec.is_zero a.value }
+{
+    a.value == 0
+}
+
+/// Takes the number on top.
+fn take(area: &[i64], top: usize) -> Option<Taken>
+    requires { top ≤ length area.now }
+    ensures { MatchOption result (stacked area.now top ≡ []) (λ t. (stacked area.now top ≡ t.value ∷ stacked area.now t.top) × (t.top ≤ length area.now)) }
+{
+    if top == 0 {
+        return None;
+    }
+    Some(Taken {
+        value: area[top - 1],
+        top: top - 1,
+    })
+}
+
+/// Puts a number on the stack, where there is room.
+fn place(area: &mut [i64], top: usize, value: i64, skip: u32) -> Turn
+    requires { top ≤ length area.now }
+    ensures turn { Turns result area.new (λ next. if nat_lt (length (stacked area.old top)) (length area.old) then next skip (value ∷ stacked area.old top) else Answer.Fail) }
+    ensures area { length area.new ≡ length area.old }
+{
+    if top < area.len() {
+        area[top] = value;
+        Turn::On { skip, top: top + 1 }
+    } else {
+        Turn::End(Answer::Fail)
+    }
+}
+
+/// Puts a value on the stack, where it is one, and passes `skip` rows over.
+fn put(area: &mut [i64], top: usize, answer: Answer, skip: u32) -> Turn
+    requires { top ≤ length area.now }
+    ensures turn { Turns result area.new (running.put (length area.old) answer skip (stacked area.old top)) }
+    ensures area { length area.new ≡ length area.old }
+{
+    match kept(answer) {
+        Answer::Val(value) => place(area, top, value, skip),
+        Answer::Fail => Turn::End(Answer::Fail),
+        Answer::Range => Turn::End(Answer::Range),
+    }
+}
+
+fn item<R: Results>(results: &R, area: &mut [i64], top: usize, term: u32, field: CoreField) -> Turn
+    requires { top ≤ length area.now }
+    ensures turn { Turns result area.new (λ next. on_top (stacked area.old top) (λ i rest. running.put (length area.old) (spec.found (envs.field_of_item (R.environment results.now).names field (spec.item_at (envs.items_so_far (envs.done_at (R.environment results.now).done term)) i))) 0 rest next)) }
+    ensures area { length area.new ≡ length area.old }
+{
+    match take(area, top) {
+        Some(i) => put(
+            area,
+            i.top,
+            found(results.item_field(term, i.value, field)),
+            0,
+        ),
+        None => Turn::End(Answer::Fail),
+    }
+}
+
+fn end<R: Results>(results: &R, area: &mut [i64], top: usize, term: u32, skip: u32) -> Turn
+    requires { top ≤ length area.now }
+    ensures turn { Turns result area.new (running.put_end (length area.old) (spec.greatest_end (envs.items_so_far (envs.done_at (R.environment results.now).done term))) skip (stacked area.old top)) }
+    ensures area { length area.new ≡ length area.old }
+{
+    match results.greatest_end(term) {
+        Some(end) => put(area, top, whole(end), skip),
+        None => Turn::On { skip: 0, top },
+    }
+}
+
+fn neg(area: &mut [i64], top: usize) -> Turn
+    requires { top ≤ length area.now }
+    ensures turn { Turns result area.new (λ next. on_top (stacked area.old top) (λ x rest. running.put (length area.old) (negate_of x) 0 rest next)) }
+    ensures area { length area.new ≡ length area.old }
+{
+    match take(area, top) {
+        Some(a) => put(area, a.top, negate(a.value), 0),
+        None => Turn::End(Answer::Fail),
+    }
+}
+
+fn inverse(area: &mut [i64], top: usize) -> Turn
+    requires { top ≤ length area.now }
+    ensures turn { Turns result area.new (λ next. on_top (stacked area.old top) (λ x rest. running.put (length area.old) (flag (spec.is_zero x)) 0 rest next)) }
+    ensures area { length area.new ≡ length area.old }
+{
+    match take(area, top) {
+        Some(a) => put(area, a.top, denied(a), 0),
+        None => Turn::End(Answer::Fail),
+    }
+}
+
+fn two(area: &mut [i64], top: usize, op: Op2) -> Turn
+    requires { top ≤ length area.now }
+    ensures turn { Turns result area.new (λ next. on_top (stacked area.old top) (λ y rest. on_top rest (λ x rest. running.put (length area.old) (apply_of op x y) 0 rest next))) }
+    ensures area { length area.new ≡ length area.old }
+{
+    let Some(b) = take(area, top) else {
+        return Turn::End(Answer::Fail);
+    };
+    match take(area, b.top) {
+        Some(a) => put(area, a.top, apply(op, a.value, b.value), 0),
+        None => Turn::End(Answer::Fail),
+    }
+}
+
+fn both(area: &mut [i64], top: usize, skip: u32) -> Turn
+    requires { top ≤ length area.now }
+    ensures turn { Turns result area.new (λ next. on_top (stacked area.old top) (λ x rest. if spec.is_zero x then running.put (length area.old) (flag false) skip rest next else next 0 rest)) }
+    ensures area { length area.new ≡ length area.old }
+{
+    match take(area, top) {
+        Some(a) => {
+            if is_zero(a) {
+                put(area, a.top, truth(false), skip)
+            } else {
+                Turn::On {
+                    skip: 0,
+                    top: a.top,
+                }
+            }
+        }
+        None => Turn::End(Answer::Fail),
+    }
+}
+
+fn either(area: &mut [i64], top: usize, skip: u32) -> Turn
+    requires { top ≤ length area.now }
+    ensures turn { Turns result area.new (λ next. on_top (stacked area.old top) (λ x rest. if spec.is_zero x then next 0 rest else running.put (length area.old) (flag true) skip rest next)) }
+    ensures area { length area.new ≡ length area.old }
+{
+    match take(area, top) {
+        Some(a) => {
+            if is_zero(a) {
+                Turn::On {
+                    skip: 0,
+                    top: a.top,
+                }
+            } else {
+                put(area, a.top, truth(true), skip)
+            }
+        }
+        None => Turn::End(Answer::Fail),
+    }
+}
+
+fn as_truth(area: &mut [i64], top: usize) -> Turn
+    requires { top ≤ length area.now }
+    ensures turn { Turns result area.new (λ next. on_top (stacked area.old top) (λ y rest. running.put (length area.old) (flag (not (spec.is_zero y))) 0 rest next)) }
+    ensures area { length area.new ≡ length area.old }
+{
+    match take(area, top) {
+        Some(a) => put(area, a.top, asserted(a), 0),
+        None => Turn::End(Answer::Fail),
+    }
+}
+
+fn cond(area: &mut [i64], top: usize, skip: u32) -> Turn
+    requires { top ≤ length area.now }
+    ensures turn { Turns result area.new (λ next. on_top (stacked area.old top) (λ x rest. if spec.is_zero x then next skip rest else next 0 rest)) }
+    ensures area { length area.new ≡ length area.old }
+{
+    match take(area, top) {
+        Some(a) => {
+            if is_zero(a) {
+                Turn::On { skip, top: a.top }
+            } else {
+                Turn::On {
+                    skip: 0,
+                    top: a.top,
+                }
+            }
+        }
+        None => Turn::End(Answer::Fail),
+    }
+}
+
+/// One row.
+fn step<R: Results>(op: &Op, results: &R, area: &mut [i64], top: usize) -> Turn
+    requires { top ≤ length area.now }
+    ensures turn { Turns result area.new (computed (R.environment results.now) (length area.old) op.now (stacked area.old top)) }
+    ensures area { length area.new ≡ length area.old }
+{
+    match op {
+        Op::Num(value) => put(area, top, Answer::Val(*value), 0),
+        Op::Eoi => put(area, top, whole(results.eoi()), 0),
+        Op::Own(attr) => put(area, top, found(results.own(*attr)), 0),
+        Op::Outer(attr) => put(area, top, found(results.outer(*attr)), 0),
+        Op::Loop => put(area, top, found(results.item()), 0),
+        Op::Seen { term, sym, field } => {
+            put(area, top, found(results.seen(*term, sym, *field)), 0)
+        }
+        Op::Item { term, field } => item(results, area, top, *term, *field),
+        Op::After { term, skip } => end(results, area, top, *term, *skip),
+        Op::Neg => neg(area, top),
+        Op::Not => inverse(area, top),
+        Op::Two(op) => two(area, top, *op),
+        Op::Both { skip } => both(area, top, *skip),
+        Op::Either { skip } => either(area, top, *skip),
+        Op::Truth => as_truth(area, top),
+        Op::Cond { skip } => cond(area, top, *skip),
+        Op::Else { skip } => Turn::On { skip: *skip, top },
+        Op::Close => Turn::On { skip: 0, top },
+    }
+}
+
+/// What rows compute.
+pub(crate) fn evaluate<R: Results>(ops: &[Op], results: &R, area: &mut [i64]) -> Answer
+    ensures value { result ≡ run (R.environment results.now) (length area.old) 0 ops.now [] }
+    ensures area { length area.new ≡ length area.old }
+{
+    let mut left = ops;
+    let mut top = 0;
+    while !left.is_empty() {
+        match step(&left[0], results, area, top) {
+            Turn::On { skip, top: next } => {
+                left = past(left, skip as usize + 1);
+                top = next;
+            }
+            Turn::End(answer) => return answer,
+        }
+    }
+    match take(area, top) {
+        Some(taken) => Answer::Val(taken.value),
+        None => Answer::Fail,
+    }
+}

@@ -1,0 +1,14 @@
+//! Whether parsing by a grammar ends: a certificate that it does, or the first cycle of calls that may keep the whole part.
+#![tactic(auto)]
+
+mod checking;
+mod cycles;
+mod dead;
+mod fault;
+mod halving;
+pub mod laws;
+#[cfg(test)]
+mod tests;
+
+pub use checking::check;
+pub use fault::{TermFault, TermWhy};

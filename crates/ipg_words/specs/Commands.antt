@@ -1,0 +1,36 @@
+-- A simple command of `clap` for each name of the program's table, and what it gives of the words.
+use Rattle.std.specs.Prelude.{List, true, codes, Option, Some, None, if◌then◌else◌}
+use Rattle.clap.specs.Walk.{Text, Rule, Row, is_empty}
+use Rattle.clap.specs.Simple.{App, new_app, new_rule, with_rule, matches_of}
+use Rattle.clap.specs.Faults.{fault_of}
+
+-- a word that has to be there
+abbrev pub required : Text → Rule
+required id = record (new_rule id) { required = true }
+
+-- `--NAME VALUE` or `--NAME=VALUE`
+abbrev pub option : Text → Rule
+option name = record (new_rule name) { long = Some name }
+
+-- a command that takes the name of a grammar
+abbrev pub on_grammar : Text → App
+on_grammar name = with_rule (new_app name) (required (codes "G"))
+
+abbrev pub parse : App
+parse = with_rule (with_rule (with_rule (on_grammar (codes "parse")) (required (codes "FILE"))) (option (codes "memo"))) (option (codes "arena"))
+
+abbrev pub check : App
+check = on_grammar (codes "check")
+
+abbrev pub cert : App
+cert = on_grammar (codes "cert")
+
+abbrev pub verify : App
+verify = with_rule (on_grammar (codes "verify")) (required (codes "CERT"))
+
+abbrev pub fmt : App
+fmt = on_grammar (codes "fmt")
+
+-- what the words give, the command's name first, where the command takes them; it refuses words that ask for help
+abbrev pub taken : App → List Text → Option (List Row)
+taken command words = if is_empty (fault_of command words) then Some (matches_of command words) else None

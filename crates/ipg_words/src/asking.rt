@@ -1,0 +1,29 @@
+/// Whether a parse keeps what it has found.
+#[derive(Clone, Copy, Debug, PartialEq, Eq)]
+pub enum Memo {
+    On,
+    Off,
+}
+
+/// What a grammar is wanted for.
+#[derive(Clone, Copy)]
+pub enum Wanted<'a> {
+    /// Of an input, in so many MiB.
+    Parse {
+        input: &'a str,
+        memo: Memo,
+        mib: u32,
+    },
+    Check,
+    Cert,
+    Verify {
+        certificate: &'a str,
+    },
+}
+
+/// A command, with the name of its grammar.
+#[derive(Clone, Copy)]
+pub enum Asked<'a> {
+    Use { grammar: &'a str, task: Wanted<'a> },
+    Fmt { grammar: &'a str },
+}

@@ -1,0 +1,13 @@
+//! What the words of the command line ask for, as `clap` reads them.
+#![tactic(auto)]
+
+mod asking;
+mod commands;
+mod matching;
+mod requesting;
+mod settings;
+#[cfg(test)]
+mod tests;
+
+pub use asking::{Asked, Memo, Wanted};
+pub use requesting::request;

@@ -1,0 +1,47 @@
+# For `ipg`, `prove` and the checks: what the program is built from. They set `top`, the repository's folder.
+program="$top/crates/ipg_app/out/ipg_app"
+
+# the program's own crates: ipg_app and all that it stands on, by their lines of crates.txt
+own_crates() {
+  awk '
+    { sub(/#.*/, "") }
+    NF { name = $1; sub(/:$/, "", name); line[name] = $0; for (i = 2; i <= NF; i++) stands[name] = stands[name] " " $i }
+    END { add("ipg_app"); for (name in own) print line[name] }
+    function add(name,   n, i, names) {
+      if (!(name in line) || name in own) return
+      own[name] = 1
+      n = split(stands[name], names, " ")
+      for (i = 1; i <= n; i++) add(names[i])
+    }' "$top/crates.txt" | LC_ALL=C sort
+}
+
+# the folders of their sources, from the top
+own_folders() {
+  local crate part
+  own_crates | while IFS=': ' read -r crate _; do
+    for part in src specs proofs; do
+      [ -d "$top/crates/$crate/$part" ] && echo "crates/$crate/$part"
+    done
+  done
+}
+
+# these lines, and the checksum of each source
+sources() {
+  local folders
+  mapfile -t folders < <(own_folders)
+  own_crates
+  (cd "$top" && find "${folders[@]}" -type f -print0 | LC_ALL=C sort -z | xargs -0 sha256sum)
+}
+
+# whether dist/ipg was built from the sources at hand
+is_kept() {
+  [ -x "$top/dist/ipg" ] && [ -f "$top/dist/SOURCES" ] && [ "$(sources)" = "$(cat "$top/dist/SOURCES")" ]
+}
+
+# whether the program was built here, and no source is newer
+is_built() {
+  [ -x "$program" ] || return 1
+  local folders
+  mapfile -t folders < <(own_folders)
+  [ -z "$(cd "$top" && find crates.txt "${folders[@]}" -newer "$program" -type f -print -quit)" ]
+}
