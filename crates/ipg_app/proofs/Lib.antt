@@ -2,6 +2,5 @@ pub mod Written
 pub mod Settling
 pub mod Stages
 pub mod OneCore
-pub mod Flat
 pub mod OneCheck
 pub mod OneVerdict

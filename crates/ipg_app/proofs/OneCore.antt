@@ -1,9 +1,7 @@
 -- A text has one core grammar, or is refused in one way.
-use Rattle.std.proofs.Common.{◌≡◌, ℕ, zero, suc, Bool, true, false, List, [], ◌∷◌, length, Some, Result, Ok, Err, refl, sym, ap, ◌∙◌, subst}
-use Rattle.std.proofs.Common.{true≢false, slice_get}
+use Rattle.std.proofs.Common.{◌≡◌, ℕ, Some, Result, Ok, Err, sym, ap, ◌∙◌, subst, slice_get}
 use Rattle.ipg_core.specs.declared.grammar.CoreRule.{CoreRule}
 use Rattle.ipg_core.specs.Grammar.{Grammar}
-use Rattle.ipg_core.specs.MustTouch.{Marks, is_marked, AreLimit}
 use Rattle.ipg_complete.specs.Unordered as unordered
 use Rattle.ipg_complete.specs.Unordered.{Unordered}
 use Rattle.ipg_complete.specs.Completion.{completed}
@@ -12,6 +10,7 @@ use Rattle.ipg_ast.specs.declared.grammar.Grammar as written
 use Rattle.ipg_order.specs.Answer.{without_orders, IsFirstStuck}
 use Rattle.ipg_order.specs.Laws.{OrdersOnce, GoodIsNotStuck, StuckOnce}
 use Rattle.ipg_touch.specs.Loose.{loose}
+use Rattle.ipg_touch.specs.Laws.{OneLimit}
 use Rattle.ipg_app.specs.Said.{Said}
 use Rattle.ipg_app.specs.Refusal.{circular}
 use Rattle.ipg_app.specs.CoreOf.{Answer, On, grammar_in, resolved, Circles, Orders, unless_loose, Touches, OrdersAndTouches, CoreFrom}
@@ -24,29 +23,12 @@ on_once (Err x) next once one other h k = h ∙ sym k
 
 -- ---- the marks of the limit are one list
 
-same_bool : (x y : Bool) → (x ≡ true → y ≡ true) → (y ≡ true → x ≡ true) → x ≡ y
-same_bool true y to from = sym (to refl)
-same_bool false true to from = absurd (true≢false (sym (from refl)))
-same_bool false false to from = refl
-
-same_marks : (xs ys : Marks) → length xs ≡ length ys → ((r : ℕ) → is_marked xs r ≡ true → is_marked ys r ≡ true)
-    → ((r : ℕ) → is_marked ys r ≡ true → is_marked xs r ≡ true) → xs ≡ ys
-same_marks [] [] e to from = refl
-same_marks [] (y ∷ ys) e to from = absurd (cc)
-same_marks (x ∷ xs) [] e to from = absurd (cc)
-same_marks (x ∷ xs) (y ∷ ys) e to from =
-    let rest : length xs ≡ length ys = cc in
-    ap (λ b. b ∷ xs) (same_bool x y (to zero) (from zero)) ∙ ap (λ bs. y ∷ bs) (same_marks xs ys rest (λ r. to (suc r)) (λ r. from (suc r)))
-
-touches_once : (g : Grammar) (one other : Answer) → Touches g one → Touches g other → one ≡ other
-touches_once g one other h k =
-    let marks = same_marks h.marks k.marks (h.limit.size ∙ sym k.limit.size) (λ r m. (k.limit.exact r).1 ((h.limit.exact r).0 m))
-    (λ r m. (h.limit.exact r).1 ((k.limit.exact r).0 m)) in
-    h.is ∙ ap (λ m. unless_loose g (loose m g.rules)) marks ∙ sym k.is
+touches_once : OneLimit → (g : Grammar) (one other : Answer) → Touches g one → Touches g other → one ≡ other
+touches_once one_limit g one other h k = h.is ∙ ap (λ m. unless_loose g (loose m g.rules)) (one_limit g h.marks k.marks h.limit k.limit) ∙ sym k.is
 
 -- ---- the order is one, or gets stuck at one term
 
-module _ (orders_once : OrdersOnce) (good_is_not_stuck : GoodIsNotStuck) (stuck_once : StuckOnce) where
+module _ (one_limit : OneLimit) (orders_once : OrdersOnce) (good_is_not_stuck : GoodIsNotStuck) (stuck_once : StuckOnce) where
   not_both : (c : Unordered) (g : Grammar) (said : Said) → Orders c (Ok g) → Circles c said → ⊥
   not_both c g said h k = good_is_not_stuck g k.at k.term h.0 (subst (λ x. IsFirstStuck x k.at k.term) (sym h.1) k.first)
 
@@ -73,7 +55,7 @@ module _ (orders_once : OrdersOnce) (good_is_not_stuck : GoodIsNotStuck) (stuck_
   whole_once : (c : Unordered) (one other : Answer) → OrdersAndTouches c one → OrdersAndTouches c other → one ≡ other
   whole_once c one other h k =
       let same = orders_same c h.ordered k.ordered h.orders k.orders in
-      on_once k.ordered Touches touches_once one other (subst (λ r. On r Touches one) same h.touches) k.touches
+      on_once k.ordered Touches (touches_once one_limit) one other (subst (λ r. On r Touches one) same h.touches) k.touches
 
   from_once : (g : written.Grammar) (one other : Answer) → CoreFrom g one → CoreFrom g other → one ≡ other
   from_once g one other h k = on_once (resolved g) (λ (n : Resolved). OrdersAndTouches (completed n)) (λ n. whole_once (completed n)) one other h k

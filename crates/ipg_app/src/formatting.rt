@@ -1,6 +1,6 @@
 //! Writes a grammar anew.
 ghost use Rattle.std.specs.Prelude.{◌≡◌, IfOk};
-ghost use Rattle.ipg_names.specs.Readable.{IsReadable};
+ghost use Rattle.ipg_ast.specs.Shape.{IsFlat};
 ghost use Rattle.ipg_tokens.specs.Shaped.{canonical_text};
 ghost use Rattle.ipg_app.specs.Said.{done};
 ghost use Rattle.ipg_app.specs.Lines.{said_of};
@@ -11,9 +11,8 @@ use ipg_ast::{Grammar, text_of};
 use std::alloc::{AllocError, Global};
 
 /// The canonical text of a grammar.
-#[tactic(auto, using(crate::proofs::Flat::readable_flat))]
 pub fn format(alloc: Global, g: &Grammar) -> Result<Settled, AllocError>
-    requires { IsReadable g.now }
+    requires { IsFlat g.now }
     ensures { IfOk result (λ settled. said_of settled ≡ done (canonical_text g.now)) }
 {
     let text = text_of(alloc, g)?;

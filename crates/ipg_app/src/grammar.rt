@@ -1,5 +1,6 @@
 //! The grammar of a text.
 ghost use Rattle.std.specs.Prelude.{◌≡◌, Ok, Err, IfOk, MatchResult};
+ghost use Rattle.ipg_ast.specs.Shape.{IsFlat};
 ghost use Rattle.ipg_names.specs.Readable.{IsReadable};
 ghost use Rattle.ipg_app.specs.CoreOf.{grammar_in};
 ghost use Rattle.ipg_app.specs.Lines.{said_of};
@@ -11,10 +12,11 @@ use ipg_tokens::ReadFault;
 use names_rows as texts;
 use std::alloc::{AllocError, Global};
 
-/// The grammar that a text reads as, whose names can be resolved, or what is said of a text that is none.
+/// The grammar that a text reads as, whose names can be resolved and whose local rules have one level, or what is said of a text that is none.
 pub fn grammar_in(alloc: Global, text: &[u8]) -> Result<Result<Grammar, Settled>, AllocError>
     ensures read { IfOk result (λ read. MatchResult read (λ g. grammar_in text.now ≡ Ok g) (λ settled. grammar_in text.now ≡ Err (said_of settled))) }
     ensures readable { IfOk result (λ read. IfOk read IsReadable) }
+    ensures flat { IfOk result (λ read. IfOk read IsFlat) }
 {
     match texts::grammar_in(alloc, text) {
         Ok(grammar) => Ok(Ok(grammar)),

@@ -4,11 +4,13 @@ ghost use Rattle.ipg_app.specs.Laws.{OneCore, OneCheck, OneVerdict};
 
 use ipg_order::laws::{good_is_not_stuck, orders_once, stuck_once};
 use ipg_term::laws::{loops_arent_accepted, one_loops};
+use ipg_touch::laws::one_limit;
 
 /// A text has one core grammar, or is refused in one way.
 pub fn one_core()
     ensures { OneCore }
 {
+    one_limit();
     orders_once();
     good_is_not_stuck();
     stuck_once();

@@ -1,6 +1,7 @@
 //! What is to be said, settled before anything is written.
 ghost use Rattle.std.specs.Prelude.{◌≡◌, ◌≤◌, ℕ, List, map, Ok, Err, IfOk, MatchResult};
 ghost use Rattle.std.specs.String.{string_bytes};
+ghost use Rattle.ipg_ast.specs.Shape.{IsFlat};
 ghost use Rattle.ipg_names.specs.Readable.{IsReadable};
 ghost use Rattle.ipg_formats.specs.Text.{text_of};
 ghost use Rattle.ipg_app.specs.CoreOf.{CoreOf};
@@ -149,6 +150,7 @@ fn grammar_in_file<F: Files>(
 ) -> Result<Result<Grammar, Settled>, AllocError>
     ensures found { IfOk result (λ read. MatchResult read (Found (F.told files.old name.now)) (λ settled. Settles (F.told files.old) (F.faults files.old) (F.faults files.new) (grammar_in_file name.now (λ g. silence)) (said_of settled))) }
     ensures readable { IfOk result (λ read. IfOk read IsReadable) }
+    ensures flat { IfOk result (λ read. IfOk read IsFlat) }
     ensures told { (n : List ℕ) → F.told files.new n ≡ F.told files.old n }
     ensures counts { (n : List ℕ) → F.faults files.old n ≤ F.faults files.new n }
 {

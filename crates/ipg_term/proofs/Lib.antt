@@ -1,4 +1,3 @@
-pub mod Limits
 pub mod Ordered
 pub mod Narrowing
 pub mod Halves

@@ -16,13 +16,13 @@ use Rattle.ipg_cert.specs.declared.refutation.Refutation.{Refutation}
 use Rattle.ipg_proof.specs.Calls.{calls_of, joint_of, keep_of, keeps, edge_checks, cycle_checks, live_graph}
 use Rattle.ipg_proof.specs.Cycles.{LiveCyclesAreCycles, LoopsAreLive}
 use Rattle.ipg_proof.specs.Proves.{Accepts, Proves}
+use Rattle.ipg_touch.specs.Laws.{OneLimit}
 use Rattle.ipg_term.specs.Least.{IsLeast}
 use Rattle.ipg_term.specs.Loops.{CanLoop, Loops, IsReason}
 use Rattle.ipg_term.specs.Laws.{LoopsArentAccepted, OneLoops}
 use Rattle.ipg_term.specs.Refuted.{AreDead, AreRefuted, IsReasonIn}
 use Rattle.ipg_term.specs.declared.fault.TermWhy.{TermWhy}
 use Rattle.ipg_term.specs.declared.fault.TermWhy.TheVariants.{MayLoop, Memory}
-use Rattle.ipg_term.proofs.Limits.{limits_agree}
 use Rattle.ipg_term.proofs.Ordered.{is_total}
 
 all_of_map : {A : Type 0} (f : A → Bool) (xs : List A) (bs : List Bool) → AllByRecursion (λ x. IsTrue (f x)) xs → AllByRecursion IsTrue bs
@@ -112,10 +112,10 @@ can_loop : (g : Grammar) (cycle : List ℕ) (values : List ℤ) (loops : Loops g
 can_loop g cycle values loops =
     let solves = loops.first.least.solves in (assigned values, solves.1, solves.2)
 
-pub loops_arent_accepted : LoopsArentAccepted
-loops_arent_accepted g cycle values loops accepts =
+pub loops_arent_accepted : OneLimit → LoopsArentAccepted
+loops_arent_accepted one_limit g cycle values loops accepts =
     accepts.never cycle loops.first.simple
-    (subst (λ marks. CanLoop (calls_of g marks) cycle) (limits_agree g loops.marks accepts.marks loops.limit accepts.limit) (can_loop g cycle values loops))
+    (subst (λ marks. CanLoop (calls_of g marks) cycle) (one_limit g loops.marks accepts.marks loops.limit accepts.limit) (can_loop g cycle values loops))
 
 least_below : (g : Grammar) (cycle : List ℕ) (values others : List ℤ) (marks : Marks)
     → IsLeast (joint_of (calls_of g marks) cycle).0 (joint_of (calls_of g marks) cycle).1 values
@@ -125,9 +125,9 @@ least_below g cycle values others marks h k =
     let down = k.least (assigned values) h.solves.1 h.solves.2 in
     omega (arith, ints, up, down)
 
-pub one_loops : OneLoops
-one_loops g cycle other values others h k =
-    let same = limits_agree g h.marks k.marks h.limit k.limit in
+pub one_loops : OneLimit → OneLoops
+one_loops one_limit g cycle other values others h k =
+    let same = one_limit g h.marks k.marks h.limit k.limit in
     elim (is_total cycle other) [
       | inl one ↦ (
         one,

@@ -7,6 +7,7 @@ use ipg_num::List;
 use std::alloc::AllocError;
 use thiserror::Error;
 
+/// Why no certificate was made.
 #[derive(Debug, Drop, Error)]
 pub enum TermWhy {
     /// The first simple cycle of calls whose conditions can hold together, by the numbers of its edges, and values that

@@ -1,6 +1,7 @@
 //! Which rules must touch a byte, and which repetitions may not.
 #![tactic(auto)]
 
+pub mod laws;
 pub mod marks;
 pub mod repetitions;
 

@@ -363,7 +363,7 @@ pub const PLACES: [(&[u8], &[u8]); 9] = [
     (b"S -> ;", b"refused G4 Syntax 5\n"),
     (b"", b"refused G4 Syntax 0\n"),
     (b"many -> \"ab\"[0,2] ;", b"refused G4 Syntax 0\n"),
-    (b"S -> many U8 Bytes ;", b"refused G4 Syntax 5\n"),
+    (b"S -> many ;", b"refused G4 Syntax 10\n"),
     (b"S -> \"a\" [ 0 , ] ;", b"refused G4 Syntax 15\n"),
 ];
 

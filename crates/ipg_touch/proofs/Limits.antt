@@ -1,7 +1,7 @@
 -- The marks of the rules that must touch are one list.
 use Rattle.std.proofs.Common.{◌≡◌, ℕ, zero, suc, Bool, true, false, [], ◌∷◌, length, refl, sym, ap, ◌∙◌, true≢false}
-use Rattle.ipg_core.specs.Grammar.{Grammar}
-use Rattle.ipg_core.specs.MustTouch.{Marks, is_marked, AreLimit}
+use Rattle.ipg_core.specs.MustTouch.{Marks, is_marked}
+use Rattle.ipg_touch.specs.Laws.{OneLimit}
 
 same_bool : (x y : Bool) → (x ≡ true → y ≡ true) → (y ≡ true → x ≡ true) → x ≡ y
 same_bool true y to from = sym (to refl)
@@ -17,6 +17,6 @@ same_marks (x ∷ xs) (y ∷ ys) e to from =
     let rest : length xs ≡ length ys = cc in
     ap (λ b. b ∷ xs) (same_bool x y (to zero) (from zero)) ∙ ap (λ bs. y ∷ bs) (same_marks xs ys rest (λ r. to (suc r)) (λ r. from (suc r)))
 
-pub limits_agree : (g : Grammar) (one other : Marks) → AreLimit g one → AreLimit g other → one ≡ other
+pub limits_agree : OneLimit
 limits_agree g one other h k =
     same_marks one other (h.size ∙ sym k.size) (λ r m. (k.exact r).1 ((h.exact r).0 m)) (λ r m. (h.exact r).1 ((k.exact r).0 m))
