@@ -72,6 +72,24 @@ for kind in elf pe gif pcap; do
   ./ipg cert "@$kind" >"$folder/cert"
   expect 0 $'verified\n' verify "@$kind" "$folder/cert"
 done
+
+# a chain of as many rules as a text may have, each called by the one before it on its whole part
+for ((k = 0; k < 1023; k++)); do echo "R$k -> R$((k + 1)) ;"; done >"$folder/chain.ipg"
+echo 'R1023 -> "x" / "" ;' >>"$folder/chain.ipg"
+printf 'x' >"$folder/x"
+printf 'y' >"$folder/y"
+
+# chain TO START END TOKEN: the tree, by docs/TREE.md, on a part up to TO, of which each rule touches START to END
+chain() {
+  local k
+  for ((k = 0; k < 1024; k++)); do echo "$k R$k 0 $1 start=$2 end=$3"; done
+  echo "1024 tok $4"
+}
+
+expect 0 "$(chain 1 0 1 '0 1 78')"$'\n' parse "$folder/chain.ipg" "$folder/x"
+expect 0 "$(chain 1 1 0 '0 0 -')"$'\n' parse "$folder/chain.ipg" "$folder/y"
+expect 0 "$(chain 0 0 0 '0 0 -')"$'\n' parse "$folder/chain.ipg" "$folder/empty"
+
 expect 5 $'read fault\n' check @x
 expect 2 $'refused G4 Syntax 0\n' parse "$folder/empty" "$input"
 expect 2 $'refused G4 Syntax 0\n' fmt "$folder/empty"
