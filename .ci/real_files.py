@@ -4,8 +4,7 @@
 
 COMMAND parse @gif FILE (or @pe, @elf, @pcap) is run for each file of that kind that is found on this machine, for pcap for
 files that tcpdump makes of a talk of this script with itself, and then for COUNT of them that were cut or changed (300 if it
-isn't given). Ends with status 1 where something differs, and with 77 where
-the other program or enough files are missing.
+isn't given). Ends with status 1 where something differs, and with 77 where the other program or enough files are missing.
 """
 
 import hashlib
@@ -233,7 +232,7 @@ def elf_read(lines, path):
 
 def pcap_said(path):
     """Each packet's time and ports."""
-    text = said(["tcpdump", "-n", "-tt", "-r", path])
+    text = said(["tcpdump", "-n", "-tt", "-Z", "root", "-r", path])
     return [tuple(map(int, row)) for row in re.findall(r"^(\d+)\.(\d+) IP [\d.]+\.(\d+) > [\d.]+\.(\d+):", text, re.M)]
 
 

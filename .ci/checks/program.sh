@@ -2,6 +2,7 @@
 # Runs the program on real files, and compares what it prints and its exit status.
 set -u
 cd "$(dirname "$0")/../.." || exit 1
+. .ci/skips.sh
 grammar=crates/ipg_app/data/row.ipg
 input=crates/ipg_app/data/row.bin
 tree=$'0 S 0 2 start=0 end=2\n1 tok 0 2 6162\n'
@@ -39,6 +40,7 @@ echo 'S->many A[1,EOI];A->U8;' >"$folder/spaces.ipg"
 truncate -s $((2 ** 30 + 1)) "$folder/long"
 : >"$folder/closed"
 chmod 000 "$folder/closed"
+cp "$input" "$folder/"$'\xff'
 
 expect 0 "$tree" parse "$grammar" "$input"
 expect 0 "$tree" parse "$grammar" /dev/stdin < <(cat "$input")
@@ -100,11 +102,16 @@ expect 0 $'S -> Bytes ;\n' fmt /dev/stdin < <(cat "$folder/bytes.ipg")
 expect 4 $'usage\n' parse
 expect 4 $'usage\n' fmt "$grammar" "$input"
 expect 4 $'usage\n' parse --help
+# a file whose name is no UTF-8, which `main` sees to
+expect 4 $'usage\n' parse "$grammar" "$folder/"$'\xff'
 expect 4 $'usage\n' parse "$grammar" "$input" --arena 0
 expect 4 $'usage\n' parse "$grammar" "$input" --memo maybe
 expect 0 "$tree" parse --memo=off --arena 4096 "$grammar" -- "$input"
 for name in "$folder/absent" "$folder" "$folder/closed"; do
-  [ -f "$name" ] && [ -r "$name" ] && continue
+  if [ -f "$name" ] && [ -r "$name" ]; then
+    skip program-closed "a user who may not read each file"
+    continue
+  fi
   expect 5 $'read fault\n' parse "$name" "$input"
   expect 5 $'read fault\n' parse "$grammar" "$name"
   expect 5 $'read fault\n' fmt "$name"

@@ -1,5 +1,5 @@
 #!/usr/bin/env bash
-# Real files by the built-in grammars, against what other programs say of them.
+# Real files by the built-in grammars, against what other programs say of them; for pcap such that tcpdump makes here.
 set -u
 cd "$(dirname "$0")/../.." || exit 1
 . .ci/skips.sh
@@ -8,7 +8,7 @@ command -v python3 >/dev/null || {
   exit 0
 }
 failed=0
-for kind in gif pe elf; do
+for kind in gif pe elf pcap; do
   python3 .ci/real_files.py ./ipg "$kind"
   case $? in
     0) ;;
