@@ -12,7 +12,7 @@ use Rattle.ipg_table.specs.Grows.{NamesTerms, Grows}
 use Rattle.ipg_table.proofs.Growth.{grows_trans, each_map, rule_grow, finished}
 
 -- what holds at each place holds of each
-at_each : {A : Type 0} (P : A → Type 0) (xs : List A) → ((i : ℕ) (x : A) → slice_get xs i ≡ Some x → P x) → AllByRecursion P xs
+pub at_each : {A : Type 0} (P : A → Type 0) (xs : List A) → ((i : ℕ) (x : A) → slice_get xs i ≡ Some x → P x) → AllByRecursion P xs
 at_each P [] h = tt
 at_each P (x ∷ xs) h = (h zero x refl, at_each P xs (λ i y e. h (suc i) y e))
 

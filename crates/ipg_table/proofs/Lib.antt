@@ -6,3 +6,5 @@ pub mod Found
 pub mod Runs
 pub mod Stacks
 pub mod Turning
+pub mod Decoded
+pub mod OneGrammar

@@ -12,5 +12,10 @@ stacked area (suc n) = get_or area n (pos 0) ∷ stacked area n
 
 -- what a row does, whatever comes next
 abbrev pub Turns : Turn → List ℤ → (Next → Answer) → Type 0
-Turns (On skip top) area does = ((next : Next) → does next ≡ next skip (stacked area top)) × (top ≤ length area)
+Turns (On skip top) area does = (next : Next) → does next ≡ next skip (stacked area top)
 Turns (End answer) area does = (next : Next) → does next ≡ answer
+
+-- the stack that is left lies within its area
+abbrev pub StackWithin : Turn → List ℤ → Type 0
+StackWithin (On skip top) area = top ≤ length area
+StackWithin (End answer) area = Unit {0}

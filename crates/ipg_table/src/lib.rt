@@ -3,6 +3,7 @@
 
 mod draft;
 mod emit;
+pub mod laws;
 mod look;
 pub mod results;
 pub mod row;

@@ -2,8 +2,10 @@
 
 ghost use Rattle.std.specs.Prelude.{◌≡◌, ◌<◌, ◌≤◌, length, slice_get, option_map, Some, IfOk, OnOk};
 ghost use Rattle.std.specs.List.{AllByRecursion};
+ghost use Rattle.std.specs.Option.{option_copied};
 ghost use Rattle.ipg_core.specs.Grammar.{Grammar, rule_at, holder_of, name_at};
 ghost use Rattle.ipg_core.specs.declared.grammar.CoreExpr.{CoreExpr};
+ghost use Rattle.ipg_core.specs.Environment.{Environment};
 ghost use Rattle.ipg_core.specs.Eval.{eval};
 ghost use Rattle.ipg_table.specs.Rows.{rows_at, HoldsExpr, Each, Stands, HoldsRule, StandFor, Tabled};
 ghost use Rattle.ipg_table.specs.Grows.{draft_rows, Grows, NamesTerms};
@@ -152,7 +154,7 @@ impl Tables {
     /// The value of an expression. `area` is the stack of operands, of which nothing is read before it is written.
     pub fn value<R: Results>(&self, expr: Span, results: &R, area: &mut [i64]) -> Answer
         requires { self.now.depth ≤ length area.now }
-        ensures value { (e : CoreExpr) → HoldsExpr self.now expr e → result ≡ eval e (R.environment results.now) }
+        ensures value { (env : Environment) (e : CoreExpr) → R.stands results.now env → HoldsExpr self.now expr e → result ≡ eval e env }
         ensures area { length area.new ≡ length area.old }
     {
         evaluate(self.ops(expr), results, area)
@@ -171,6 +173,13 @@ impl Tables {
         ensures { slice_get self.now.syms sym ≡ Some result.now }
     {
         &self.syms[sym as usize]
+    }
+
+    /// A symbol, by its place in the list of symbols; None where there is none.
+    pub fn symbol_at(&self, sym: u32) -> Option<&Sym>
+        ensures { option_copied result ≡ slice_get self.now.syms sym }
+    {
+        item_at(self.syms.as_slice(), sym as usize)
     }
 
     /// The name of a rule.

@@ -12,9 +12,9 @@ struct Bare {
 }
 
 impl Results for Bare {
-    ghost use Rattle.std.specs.Prelude.{[], None};
+    ghost use Rattle.std.specs.Prelude.{◌≡◌, [], None};
 
-    ghost environment = { λ r. record { eoi = r.eoi; own = []; outer = []; item = None; done = []; names = [] } };
+    ghost stands = { λ r env. env ≡ record { eoi = r.eoi; own = []; outer = []; item = None; done = []; names = [] } };
 
     fn eoi(&self) -> u32 {
         self.eoi
@@ -40,7 +40,7 @@ impl Results for Bare {
         None
     }
 
-    fn greatest_end(&self, _term: u32) -> Option<u32> {
+    fn greatest_end(&self, _term: u32) -> Option<i64> {
         None
     }
 }

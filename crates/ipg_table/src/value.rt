@@ -3,10 +3,11 @@
 ghost use Rattle.std.specs.Prelude.{◌≡◌, ◌≤◌, [], ◌∷◌, length, not, true, false, nat_lt, pos, MatchOption, if◌then◌else◌};
 ghost use Rattle.ipg_num.specs.Number.{limited, flag, apply_of, negate_of};
 ghost use Rattle.ipg_core.specs.Eval as spec;
+ghost use Rattle.ipg_core.specs.Environment.{Environment};
 ghost use Rattle.ipg_core.specs.Environment as envs;
 ghost use Rattle.ipg_table.specs.Running.{computed, on_top, run};
 ghost use Rattle.ipg_table.specs.Running as running;
-ghost use Rattle.ipg_table.specs.Stack.{stacked, Turns};
+ghost use Rattle.ipg_table.specs.Stack.{stacked, Turns, StackWithin};
 
 use crate::look::past;
 use crate::results::Results;
@@ -94,6 +95,7 @@ fn take(area: &[i64], top: usize) -> Option<Taken>
 fn place(area: &mut [i64], top: usize, value: i64, skip: u32) -> Turn
     requires { top ≤ length area.now }
     ensures turn { Turns result area.new (λ next. if nat_lt (length (stacked area.old top)) (length area.old) then next skip (value ∷ stacked area.old top) else Answer.Fail) }
+    ensures within { StackWithin result area.new }
     ensures area { length area.new ≡ length area.old }
 {
     if top < area.len() {
@@ -108,6 +110,7 @@ fn place(area: &mut [i64], top: usize, value: i64, skip: u32) -> Turn
 fn put(area: &mut [i64], top: usize, answer: Answer, skip: u32) -> Turn
     requires { top ≤ length area.now }
     ensures turn { Turns result area.new (running.put (length area.old) answer skip (stacked area.old top)) }
+    ensures within { StackWithin result area.new }
     ensures area { length area.new ≡ length area.old }
 {
     match kept(answer) {
@@ -119,7 +122,8 @@ fn put(area: &mut [i64], top: usize, answer: Answer, skip: u32) -> Turn
 
 fn item<R: Results>(results: &R, area: &mut [i64], top: usize, term: u32, field: CoreField) -> Turn
     requires { top ≤ length area.now }
-    ensures turn { Turns result area.new (λ next. on_top (stacked area.old top) (λ i rest. running.put (length area.old) (spec.found (envs.field_of_item (R.environment results.now).names field (spec.item_at (envs.items_so_far (envs.done_at (R.environment results.now).done term)) i))) 0 rest next)) }
+    ensures turn { (env : Environment) → R.stands results.now env → Turns result area.new (λ next. on_top (stacked area.old top) (λ i rest. running.put (length area.old) (spec.found (envs.field_of_item env.names field (spec.item_at (envs.items_so_far (envs.done_at env.done term)) i))) 0 rest next)) }
+    ensures within { StackWithin result area.new }
     ensures area { length area.new ≡ length area.old }
 {
     match take(area, top) {
@@ -135,11 +139,13 @@ fn item<R: Results>(results: &R, area: &mut [i64], top: usize, term: u32, field:
 
 fn end<R: Results>(results: &R, area: &mut [i64], top: usize, term: u32, skip: u32) -> Turn
     requires { top ≤ length area.now }
-    ensures turn { Turns result area.new (running.put_end (length area.old) (spec.greatest_end (envs.items_so_far (envs.done_at (R.environment results.now).done term))) skip (stacked area.old top)) }
+    ensures turn { (env : Environment) → R.stands results.now env → Turns result area.new (running.put_end (length area.old) (spec.greatest_end (envs.items_so_far (envs.done_at env.done term))) skip (stacked area.old top)) }
+    ensures within { StackWithin result area.new }
     ensures area { length area.new ≡ length area.old }
 {
-    match results.greatest_end(term) {
-        Some(end) => put(area, top, whole(end), skip),
+    let end = results.greatest_end(term);
+    match end {
+        Some(_) => put(area, top, found(end), skip),
         None => Turn::On { skip: 0, top },
     }
 }
@@ -147,6 +153,7 @@ fn end<R: Results>(results: &R, area: &mut [i64], top: usize, term: u32, skip: u
 fn neg(area: &mut [i64], top: usize) -> Turn
     requires { top ≤ length area.now }
     ensures turn { Turns result area.new (λ next. on_top (stacked area.old top) (λ x rest. running.put (length area.old) (negate_of x) 0 rest next)) }
+    ensures within { StackWithin result area.new }
     ensures area { length area.new ≡ length area.old }
 {
     match take(area, top) {
@@ -158,6 +165,7 @@ fn neg(area: &mut [i64], top: usize) -> Turn
 fn inverse(area: &mut [i64], top: usize) -> Turn
     requires { top ≤ length area.now }
     ensures turn { Turns result area.new (λ next. on_top (stacked area.old top) (λ x rest. running.put (length area.old) (flag (spec.is_zero x)) 0 rest next)) }
+    ensures within { StackWithin result area.new }
     ensures area { length area.new ≡ length area.old }
 {
     match take(area, top) {
@@ -169,6 +177,7 @@ fn inverse(area: &mut [i64], top: usize) -> Turn
 fn two(area: &mut [i64], top: usize, op: Op2) -> Turn
     requires { top ≤ length area.now }
     ensures turn { Turns result area.new (λ next. on_top (stacked area.old top) (λ y rest. on_top rest (λ x rest. running.put (length area.old) (apply_of op x y) 0 rest next))) }
+    ensures within { StackWithin result area.new }
     ensures area { length area.new ≡ length area.old }
 {
     let Some(b) = take(area, top) else {
@@ -183,6 +192,7 @@ fn two(area: &mut [i64], top: usize, op: Op2) -> Turn
 fn both(area: &mut [i64], top: usize, skip: u32) -> Turn
     requires { top ≤ length area.now }
     ensures turn { Turns result area.new (λ next. on_top (stacked area.old top) (λ x rest. if spec.is_zero x then running.put (length area.old) (flag false) skip rest next else next 0 rest)) }
+    ensures within { StackWithin result area.new }
     ensures area { length area.new ≡ length area.old }
 {
     match take(area, top) {
@@ -203,6 +213,7 @@ fn both(area: &mut [i64], top: usize, skip: u32) -> Turn
 fn either(area: &mut [i64], top: usize, skip: u32) -> Turn
     requires { top ≤ length area.now }
     ensures turn { Turns result area.new (λ next. on_top (stacked area.old top) (λ x rest. if spec.is_zero x then next 0 rest else running.put (length area.old) (flag true) skip rest next)) }
+    ensures within { StackWithin result area.new }
     ensures area { length area.new ≡ length area.old }
 {
     match take(area, top) {
@@ -223,6 +234,7 @@ fn either(area: &mut [i64], top: usize, skip: u32) -> Turn
 fn as_truth(area: &mut [i64], top: usize) -> Turn
     requires { top ≤ length area.now }
     ensures turn { Turns result area.new (λ next. on_top (stacked area.old top) (λ y rest. running.put (length area.old) (flag (not (spec.is_zero y))) 0 rest next)) }
+    ensures within { StackWithin result area.new }
     ensures area { length area.new ≡ length area.old }
 {
     match take(area, top) {
@@ -234,6 +246,7 @@ fn as_truth(area: &mut [i64], top: usize) -> Turn
 fn cond(area: &mut [i64], top: usize, skip: u32) -> Turn
     requires { top ≤ length area.now }
     ensures turn { Turns result area.new (λ next. on_top (stacked area.old top) (λ x rest. if spec.is_zero x then next skip rest else next 0 rest)) }
+    ensures within { StackWithin result area.new }
     ensures area { length area.new ≡ length area.old }
 {
     match take(area, top) {
@@ -254,7 +267,8 @@ fn cond(area: &mut [i64], top: usize, skip: u32) -> Turn
 /// One row.
 fn step<R: Results>(op: &Op, results: &R, area: &mut [i64], top: usize) -> Turn
     requires { top ≤ length area.now }
-    ensures turn { Turns result area.new (computed (R.environment results.now) (length area.old) op.now (stacked area.old top)) }
+    ensures turn { (env : Environment) → R.stands results.now env → Turns result area.new (computed env (length area.old) op.now (stacked area.old top)) }
+    ensures within { StackWithin result area.new }
     ensures area { length area.new ≡ length area.old }
 {
     match op {
@@ -282,7 +296,7 @@ fn step<R: Results>(op: &Op, results: &R, area: &mut [i64], top: usize) -> Turn
 
 /// What rows compute.
 pub(crate) fn evaluate<R: Results>(ops: &[Op], results: &R, area: &mut [i64]) -> Answer
-    ensures value { result ≡ run (R.environment results.now) (length area.old) 0 ops.now [] }
+    ensures value { (env : Environment) → R.stands results.now env → result ≡ run env (length area.old) 0 ops.now [] }
     ensures area { length area.new ≡ length area.old }
 {
     let mut left = ops;

@@ -1,11 +1,35 @@
-use Rattle.std.proofs.Common.{length, subst}
-use Rattle.ipg_table.specs.Running.{put, put_end}
+use Rattle.std.proofs.Common.{◌≡◌, ℕ, List, length, refl, sym, ap, subst, ◌∙◌, Option, Some, None, option_map, ℤ, pos}
+use Rattle.std.proofs.lemmas.Option.{none-some}
+use Rattle.ipg_num.specs.declared.op.Answer.{Answer}
+use Rattle.ipg_core.specs.Environment.{done_at, items_so_far}
+use Rattle.ipg_core.specs.Eval.{found, greatest_end}
+use Rattle.ipg_table.specs.Running.{Next, put, put_end}
 use Rattle.ipg_table.specs.Stack.{stacked, Turns}
 use Rattle.ipg_table.proofs.value.end.Goals as goal
 
+-- an end is put whether it is read as a place or as a number
+an_end : (room : ℕ) (end : Option ℕ) (o : Option ℤ) (z : ℤ) (answer : Answer) (skip : ℕ) (stack : List ℤ)
+    → o ≡ option_map pos end → o ≡ Some z → answer ≡ found o → put_end room end skip stack ≡ put room answer skip stack
+an_end room None o z answer skip stack e is h = absurd (none-some z (sym e ∙ is))
+an_end room (Some n) o z answer skip stack e is h = ap (λ a. put room a skip stack) (sym (h ∙ ap found e))
+
+-- no number, no place: the next row follows
+no_end : (room : ℕ) (end : Option ℕ) (o : Option ℤ) (skip : ℕ) (stack : List ℤ) → o ≡ option_map pos end → o ≡ None
+    → (next : Next) → put_end room end skip stack next ≡ next 0 stack
+no_end room None o skip stack e is next = refl
+no_end room (Some n) o skip stack e is next = absurd (none-some (pos n) (sym is ∙ e))
+
 pub returns-in-Some-clause-turn : goal.returns-in-Some-clause-turn
-returns-in-Some-clause-turn g c =
+returns-in-Some-clause-turn g c = λ env stands.
     let room = length c.args.area.now in
     let stack = stacked c.args.area.now c.args.top in
-    subst (λ e. Turns c.put.result c.put.new.area (put_end room e c.args.skip stack)) c.in-Some.ensures
-    (subst (λ a. Turns c.put.result c.put.new.area (put room a c.args.skip stack)) c.whole.ensures c.put.ensures.turn)
+    let end = greatest_end (items_so_far (done_at env.done c.args.term)) in
+    let reads = c.greatest_end-end.ensures env stands in
+    let same = an_end room end c.greatest_end-end.result _ c.found.result c.args.skip stack reads c.in-Some.is c.found.ensures in
+    subst (Turns c.put.result c.put.new.area) (sym same) c.put.ensures.turn
+
+pub returns-in-None-clause-turn : goal.returns-in-None-clause-turn
+returns-in-None-clause-turn g c = λ env stands.
+    let end = greatest_end (items_so_far (done_at env.done c.args.term)) in
+    no_end (length c.args.area.now) end c.greatest_end-end.result c.args.skip (stacked c.args.area.now c.args.top)
+    (c.greatest_end-end.ensures env stands) c.in-None.is

@@ -1,4 +1,5 @@
 use Rattle.std.proofs.Common.{◌≡◌, ◌≤◌, [], length}
+use Rattle.ipg_core.specs.Environment.{Environment}
 use Rattle.ipg_table.specs.Running.{run}
 use Rattle.ipg_table.specs.Stack.{stacked}
 use Rattle.ipg_table.proofs.value.evaluate.Given as goal
@@ -9,5 +10,6 @@ decreases-loop-left g l = length l.left
 -- what is left computes what all rows do
 abbrev pub invariant-loop-left : goal.invariant-loop-left
 invariant-loop-left g l =
-    (run (g.R.Results.environment l.results) (length l.fn.area) 0 l.ops [] ≡ run (g.R.Results.environment l.results) (length l.fn.area) 0 l.left (stacked l.area l.top))
+    ((env : Environment) → g.R.Results.stands l.results env
+    → run env (length l.fn.area) 0 l.ops [] ≡ run env (length l.fn.area) 0 l.left (stacked l.area l.top))
     × (l.top ≤ length l.area) × (length l.area ≡ length l.fn.area)

@@ -1,0 +1,9 @@
+pub mod Asks
+pub mod Parts
+pub mod Ends
+pub mod Paths
+pub mod Known
+pub mod Running
+pub mod Meant
+pub mod Ended
+pub mod Single
