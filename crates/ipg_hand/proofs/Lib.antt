@@ -1,0 +1,4 @@
+pub mod Calling
+pub mod Slots
+pub mod Picks
+pub mod Reading
