@@ -4,6 +4,8 @@
 mod kid;
 pub mod laws;
 mod store;
+#[cfg(test)]
+mod tests;
 
 pub use ipg_region::RunId;
 pub use kid::{Head, Kid, Node};
