@@ -1,6 +1,6 @@
 //! A store of nodes.
 
-ghost use Rattle.std.specs.Prelude.{◌≡◌, ℕ, ℤ, List, ◌∷◌, [], length, slice_get, Some, IfOk, OnOk, OnErr};
+ghost use Rattle.std.specs.Prelude.{◌≡◌, ◌≤◌, ℕ, ℤ, List, ◌∷◌, [], length, slice_get, None, Some, IfOk, OnOk, OnErr};
 ghost use Rattle.ipg_nodes.specs.Stored.{nothing, with_list, with_node, before, IsMark, IsEnd};
 
 use crate::kid::{Head, Kid, Node};
@@ -107,7 +107,8 @@ impl<A: Allocator + Clone + Drop> Store<A> {
 
     /// The node at a place; None where there is none.
     pub fn node(&self, id: RunId) -> Option<Node>
-        ensures { (node : Node) → slice_get self.now.nodes id.place ≡ Some (node ∷ []) → result ≡ Some node }
+        ensures some { (node : Node) → slice_get self.now.nodes id.place ≡ Some (node ∷ []) → result ≡ Some node }
+        ensures none { length self.now.nodes ≤ id.place → result ≡ None }
     {
         if id.place < self.nodes.mark().place {
             self.nodes.read(id).first().copied()
