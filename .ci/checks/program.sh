@@ -76,15 +76,15 @@ for kind in elf pe gif pcap; do
 done
 
 # a chain of as many rules as a text may have, each called by the one before it on its whole part
-for ((k = 0; k < 1023; k++)); do echo "R$k -> R$((k + 1)) ;"; done >"$folder/chain.ipg"
-echo 'R1023 -> "x" / "" ;' >>"$folder/chain.ipg"
+for ((k = 0; k < 1023; k++)); do echo "Link$k -> Link$((k + 1)) ;"; done >"$folder/chain.ipg"
+echo 'Link1023 -> "x" / "" ;' >>"$folder/chain.ipg"
 printf 'x' >"$folder/x"
 printf 'y' >"$folder/y"
 
 # chain TO START END TOKEN: the tree, by docs/TREE.md, on a part up to TO, of which each rule touches START to END
 chain() {
   local k
-  for ((k = 0; k < 1024; k++)); do echo "$k R$k 0 $1 start=$2 end=$3"; done
+  for ((k = 0; k < 1024; k++)); do echo "$k Link$k 0 $1 start=$2 end=$3"; done
   echo "1024 tok $4"
 }
 
