@@ -26,8 +26,8 @@ pub fn touches(ends: Ends) -> bool
     ends.start < ends.end
 }
 
-/// How many bytes a number takes.
-fn width(prim: Primitive) -> u32
+/// How many bytes a number takes; 0 for raw bytes, which have no width of their own.
+pub fn width(prim: Primitive) -> u32
     ensures value { result ≡ spec.width prim }
     ensures small { result ≤ 8 }
 {

@@ -5,7 +5,8 @@ use Rattle.ipg_core.specs.Grammar.{rule_at, holder_of}
 use Rattle.ipg_core.specs.Environment.{Values}
 use Rattle.ipg_core.specs.Run.{stop, after, go_on, ◌>>=◌}
 use Rattle.ipg_core.specs.Meaning.{Frame, Place, outer_for, ask, symbol_on}
-use Rattle.ipg_hand.specs.Found.{silent, Calls}
+use Rattle.ipg_hand.specs.Found.{Calls}
+use Rattle.ipg_moves.specs.Moves.{silent}
 
 pub rule_calls : (f : Frame) (place : Place) (own : Values) (rule from to : ℕ) → Calls f own rule from to (symbol_on silent f place own from to (Rule rule))
 unfolding ask ◌>>=◌ after go_on stop

@@ -10,7 +10,7 @@ use Rattle.ipg_core.specs.Run.{NoTree, OutOfRange, Run, stop, value_of}
 use Rattle.ipg_core.specs.Meaning.{Frame, Place, State, value_in, slot_on, pick_on}
 use Rattle.ipg_table.specs.declared.row.CaseRow.{CaseRow}
 use Rattle.ipg_table.specs.Rows.{Rows, Each, HoldsCase}
-use Rattle.ipg_hand.specs.Found.{silent}
+use Rattle.ipg_moves.specs.Moves.{silent}
 use Rattle.ipg_hand.proofs.Slots.{bind_value, bind_fail, bind_range}
 
 module _ (t : Rows) (f : Frame) (place : Place) (state : State) (branches : List (CoreExpr × CoreSlot)) (last : CoreSlot) where
@@ -34,7 +34,8 @@ module _ (t : Rows) (f : Frame) (place : Place) (state : State) (branches : List
     pub each : Each (HoldsCase t) rows more
     pub same : pick_on silent f place state branches last ≡ pick_on silent f later state ((cond, slot) ∷ more) last
 
-  first_by : (row : CaseRow) (left : List CaseRow) (later : Place) (rest : List (CoreExpr × CoreSlot)) → slice_get left 0 ≡ Some row → Each (HoldsCase t) left rest
+  first_by : (row : CaseRow) (left : List CaseRow) (later : Place) (rest : List (CoreExpr × CoreSlot)) → slice_get left 0 ≡ Some row
+      → Each (HoldsCase t) left rest
       → pick_on silent f place state branches last ≡ pick_on silent f later state rest last → First row (drop 1 left)
   first_by row [] later rest e each same = absurd (cc)
   first_by row (one ∷ left) later [] e each same = absurd each
@@ -85,5 +86,6 @@ module _ (t : Rows) (f : Frame) (place : Place) (state : State) (branches : List
   empty [] e = refl
   empty (row ∷ left) e = absurd (cc)
 
-  pub at_last : (left : List CaseRow) → slice_get left 0 ≡ None → (picks : Picks left) → pick_on silent f place state branches last ≡ slot_on silent f picks.later state None last
+  pub at_last : (left : List CaseRow) → slice_get left 0 ≡ None → (picks : Picks left)
+      → pick_on silent f place state branches last ≡ slot_on silent f picks.later state None last
   at_last left e picks = picks.same ∙ none_left left picks.rest (empty left e) picks.each picks.later

@@ -16,7 +16,8 @@ use Rattle.ipg_hand.specs.Now.{IsDone, IsResult, AreResults, WithRunning, Lent, 
 
 -- the rows of a term and its result
 
-pub result_at : (src : Source) (st : Stored) (at n : ℕ) (rows : List (Option Done)) (done : List (Option core.Done)) (term : ℕ) → AreResults src st at n rows done
+pub result_at : (src : Source) (st : Stored) (at n : ℕ) (rows : List (Option Done)) (done : List (Option core.Done)) (term : ℕ)
+    → AreResults src st at n rows done
     → IsResult src st at n (row_of rows term) (done_at done term)
 result_at src st at n [] [] term h = tt
 result_at src st at n (row ∷ rows) (one ∷ done) zero h = h.0
@@ -38,7 +39,8 @@ set_other (one ∷ done) zero (suc other) d h = refl
 set_other (one ∷ done) (suc term) zero d h = refl
 set_other (one ∷ done) (suc term) (suc other) d h = set_other done term other d (λ e. h (ap suc e))
 
-other_by : (run : Running) (term : ℕ) (b : Bool) → nat_eq run.term term ≡ b → (let found : Option Running = if b then Some run else None in found ≡ None) → run.term ≢ term
+other_by : (run : Running) (term : ℕ) (b : Bool) → nat_eq run.term term ≡ b → (let found : Option Running = if b then Some run else None in found ≡ None)
+    → run.term ≢ term
 other_by run term true t e = absurd (cc)
 other_by run term false t e = λ same. let no = sym (eq-eqb run.term term same) ∙ t in absurd (cc)
 

@@ -11,7 +11,8 @@ use Rattle.ipg_core.specs.Meaning.{Frame, Place, State, value_in, symbol_on, slo
 use Rattle.ipg_nodes.specs.Stored.{Stored, Source}
 use Rattle.ipg_hand.specs.declared.found.Found.{Found}
 use Rattle.ipg_hand.specs.declared.found.Found.TheVariants as found
-use Rattle.ipg_hand.specs.Found.{IsFound, silent, slot_between, slot_from}
+use Rattle.ipg_hand.specs.Found.{IsFound, slot_between, slot_from}
+use Rattle.ipg_moves.specs.Moves.{silent}
 
 -- a run that begins with a value, or with none
 
@@ -36,7 +37,8 @@ unfolding stop ◌>>=◌ after go_on
 bind_none opt go e = ap (λ o. some_of o >>= go) e
 
 -- numbers as the code hands them on
-pub same_ends : (n size : ℕ) (l low r high : ℤ) (found : Option (ℕ × ℕ)) → n ≡ size → low ≡ l → high ≡ r → found ≡ interval size low high → interval n l r ≡ found
+pub same_ends : (n size : ℕ) (l low r high : ℤ) (found : Option (ℕ × ℕ)) → n ≡ size → low ≡ l → high ≡ r → found ≡ interval size low high
+    → interval n l r ≡ found
 same_ends n size l low r high found a b d e = ap (λ m. interval m l r) a ∙ ap (λ x. interval size x r) (sym b) ∙ ap (interval size low) (sym d) ∙ sym e
 
 module _ (src : Source) (st : Stored) (at : ℕ) (f : Frame) (place : Place) (state : State) where

@@ -1,26 +1,21 @@
 -- What a slot comes to, as rows say it: a child, a call that is to be made, or none.
-use Rattle.std.specs.Prelude.{◌≡◌, ℕ, ◌+◌, ◌≤◌, List, [], ◌∷◌, length, Err, Option, None, ℤ, if◌then◌else◌, FitsSigned}
+use Rattle.std.specs.Prelude.{◌≡◌, ℕ, ◌+◌, ◌≤◌, List, [], ◌∷◌, length, Option, ℤ, FitsSigned}
 use Rattle.std.specs.Int.{w64}
 use Rattle.ipg_num.specs.declared.op.Answer.{Answer}
 use Rattle.ipg_num.specs.declared.op.Answer.TheVariants.{Val, Fail, Range}
 use Rattle.ipg_core.specs.Grammar.{rule_at, holder_of}
 use Rattle.ipg_core.specs.Part.{part, interval}
 use Rattle.ipg_core.specs.Tree as tree
-use Rattle.ipg_core.specs.declared.grammar.CoreExpr.{CoreExpr}
 use Rattle.ipg_core.specs.declared.grammar.CoreSlot.{CoreSlot}
 use Rattle.ipg_core.specs.Environment.{Values}
-use Rattle.ipg_core.specs.Eval.{is_zero}
-use Rattle.ipg_core.specs.Run.{NoTree, OutOfRange, Deep, Asked, Run, finish, stop, some_of, ◌>>=◌}
-use Rattle.ipg_core.specs.Meaning.{Call, Frame, Place, State, outer_for, value_in, symbol_on, slot_on, pick_on}
+use Rattle.ipg_core.specs.Run.{NoTree, OutOfRange, Asked, Run, finish, stop, some_of, ◌>>=◌}
+use Rattle.ipg_core.specs.Meaning.{Frame, Place, State, outer_for, value_in, symbol_on}
+use Rattle.ipg_moves.specs.Moves.{silent}
 use Rattle.ipg_nodes.specs.declared.kid.Kid.{Kid}
 use Rattle.ipg_nodes.specs.Stored.{Stored, Source, StandsKid}
 use Rattle.ipg_table.specs.Rows.{Rows}
 use Rattle.ipg_hand.specs.declared.found.Found.{Found}
 use Rattle.ipg_hand.specs.declared.found.Found.TheVariants as found
-
--- a call isn't answered yet
-abbrev pub silent : Call
-silent r s outer = Err Deep
 
 -- the bytes stand in the input from a place on
 abbrev pub LiesAt : List ℕ → ℕ → List ℕ → Type 0
@@ -73,9 +68,3 @@ abbrev pub slot_from : Frame → Place → State → Option ℤ → CoreSlot →
 slot_from f place state item slot from = do
   to ← value_in f state item slot.to
   slot_between f place state slot from to
-
--- with a condition of a switch evaluated
-abbrev pub case_on : Frame → Place → State → ℤ → CoreSlot → List (CoreExpr × CoreSlot) → CoreSlot → Run tree.Kid
-case_on f place state x slot cases other =
-    if is_zero x then pick_on silent f (record place { branch = place.branch + 1 }) state cases other
-    else slot_on silent f place state None slot

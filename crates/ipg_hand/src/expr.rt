@@ -12,7 +12,8 @@ ghost use Rattle.ipg_core.specs.Meaning.{Frame, State, Place, environment};
 ghost use Rattle.ipg_nodes.specs.Stored.{Stored, Source};
 ghost use Rattle.ipg_table.specs.Rows.{Each, HoldsExpr, HoldsSlot, HoldsCase};
 ghost use Rattle.ipg_hand.specs.Found as found;
-ghost use Rattle.ipg_hand.specs.Found.{IsFound, IsSized, Shares, silent};
+ghost use Rattle.ipg_hand.specs.Found.{IsFound, IsSized, Shares};
+ghost use Rattle.ipg_moves.specs.Moves.{silent};
 
 use crate::found::Found;
 use crate::symbols::{interval, item_end, symbol};

@@ -10,10 +10,12 @@ ghost use Rattle.ipg_core.specs.Environment.{Values};
 ghost use Rattle.ipg_core.specs.Meaning as spec;
 ghost use Rattle.ipg_core.specs.Meaning.{Frame, Place};
 ghost use Rattle.ipg_nodes.specs.Stored.{Stored, Source};
-ghost use Rattle.ipg_hand.specs.Found.{IsFound, LiesAt, silent};
+ghost use Rattle.ipg_hand.specs.Found.{IsFound, LiesAt};
+ghost use Rattle.ipg_moves.specs.Moves.{silent};
 
 use crate::found::Found;
 use ipg_core::grammar::{Primitive, Sym};
+use ipg_fields::width;
 use ipg_nodes::Kid;
 use ipg_table::tables::Tables;
 
@@ -26,20 +28,6 @@ pub(crate) fn interval(size: u32, from: i64, to: i64) -> Option<(u32, u32)>
         Some((from as u32, to as u32))
     } else {
         None
-    }
-}
-
-/// How many bytes a number takes.
-fn width(prim: Primitive) -> u32
-    ensures value { result ≡ wide prim }
-    ensures small { result ≤ 8 }
-{
-    match prim {
-        Primitive::U8 => 1,
-        Primitive::U16LE | Primitive::U16BE => 2,
-        Primitive::U32LE | Primitive::U32BE => 4,
-        Primitive::U64LE | Primitive::U64BE => 8,
-        Primitive::Bytes => 0,
     }
 }
 

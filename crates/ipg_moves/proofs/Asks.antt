@@ -78,7 +78,8 @@ module _ (f : Frame) where
 
     -- what makes no call goes before
 
-    then_by : {B : Type 0} (answer : Result B Stop) (go : Call → B → Run A) → ((b : B) → Once (λ call. go call b)) → Once (λ call. after [] (go_on answer (go call)))
+    then_by : {B : Type 0} (answer : Result B Stop) (go : Call → B → Run A) → ((b : B) → Once (λ call. go call b))
+        → Once (λ call. after [] (go_on answer (go call)))
     unfolding after go_on stop
     then_by (Ok b) go h = h b
     then_by (Err why) go h = inl (record { answer = Err why; is = λ call. refl })
@@ -192,13 +193,15 @@ module _ (f : Frame) where
   unfolding stop
   advance_once state u entry None = quiet_stop Anything NoTree
   advance_once state u Outside (Some (Set attr e)) = value_once Anything state None e _ (λ z. quiet_finish Anything _)
-  advance_once state u Outside (Some (Test e)) = value_once Anything state None e _ (λ z. chosen_once Anything (is_zero z) _ _ (quiet_stop Anything NoTree) (quiet_finish Anything _))
+  advance_once state u Outside (Some (Test e)) =
+      value_once Anything state None e _ (λ z. chosen_once Anything (is_zero z) _ _ (quiet_stop Anything NoTree) (quiet_finish Anything _))
   advance_once state u Outside (Some (Repeat first last one from to)) =
       value_once Anything state None first _ (λ a. value_once Anything state None last _ (λ b. quiet_finish Anything _))
   advance_once state u Outside (Some (Many one from to)) =
       value_once Anything state None from _ (λ l. value_once Anything state None to _ (λ r.
       some_once Anything (interval (length f.bytes) l r) _ (λ ends. quiet_finish Anything _)))
-  advance_once state u Outside (Some (Slot slot)) = answered_once MakesSub _ (taken state u Outside (Slot slot)) refl refl (parsed_once state u Outside (Slot slot))
+  advance_once state u Outside (Some (Slot slot)) =
+      answered_once MakesSub _ (taken state u Outside (Slot slot)) refl refl (parsed_once state u Outside (Slot slot))
   advance_once state u Outside (Some (Pick cases other)) =
       answered_once MakesSub _ (taken state u Outside (Pick cases other)) refl refl (parsed_once state u Outside (Pick cases other))
   advance_once state u (Items (suc n) i items) (Some (Repeat first last one from to)) =

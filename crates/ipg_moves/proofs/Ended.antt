@@ -55,7 +55,8 @@ out_of_range : (lower : List OpenCall) (key : Key) → ended_by lower (Holds key
 out_of_range [] key = refl
 out_of_range (c ∷ lower) key = refl
 
-ends_by : (g : Grammar) (s : List ℕ) (bound : ℕ) (key : Key) (e : Evaluation) (answer : Result Tree Stop) → answer ≢ Err Deep → Arrives s bound g (Holds key) e [] answer → Ends g s bound e answer
+ends_by : (g : Grammar) (s : List ℕ) (bound : ℕ) (key : Key) (e : Evaluation) (answer : Result Tree Stop) → answer ≢ Err Deep
+    → Arrives s bound g (Holds key) e [] answer → Ends g s bound e answer
 ends_by g s bound key e (Ok tree) settled h = record { last = _; ends = refl; path = h.path }
 ends_by g s bound key e (Err NoTree) settled h = record { last = _; ends = refl; path = h.path }
 ends_by g s bound key e (Err OutOfRange) settled h =
@@ -73,7 +74,8 @@ unfolding opening
 it_ends heights lies g s known height right settled =
     let key : Key = record { rule = 0; from = 0; to = 0 + length s } in
     let some = not_none g s height settled in
-    ends_by g s height key _ _ settled ((calls_run s height heights lies g height).run 0 s 0 [] [] known _ (whole_stands s) (omega arith) (right, omega (arith, some)))
+    ends_by g s height key _ _ settled
+    ((calls_run s height heights lies g height).run 0 s 0 [] [] known _ (whole_stands s) (omega arith) (right, omega (arith, some)))
 
 -- ---- laws
 

@@ -57,7 +57,8 @@ sub_stands : (from to n : ℕ) (tree : Tree) → from ≤ to → n ≤ to - from
 unfolding moved
 sub_stands from to n (Node rule size attrs start end kids) h k within = let e = within.1.ends in record { starts = omega arith; ends = omega arith }
 
-chosen_on : (from to : ℕ) (b : Bool) (x y : Run Kid) → (b ≡ true → AllOn from to x.answer) → (b ≡ false → AllOn from to y.answer) → AllOn from to (if b then x else y).answer
+chosen_on : (from to : ℕ) (b : Bool) (x y : Run Kid) → (b ≡ true → AllOn from to x.answer) → (b ≡ false → AllOn from to y.answer)
+    → AllOn from to (if b then x else y).answer
 chosen_on from to true x y h k = h refl
 chosen_on from to false x y h k = k refl
 
@@ -74,7 +75,8 @@ number_answers from to bytes prim h k =
     chosen_on from to _ _ _ (λ e. none_on _)
     (λ e. one_on _ (number_stands from to prim _ _ h (let w : width prim ≤ length bytes = ltb-false _ _ e in omega arith)))
 
-primitive_answers : (from to : ℕ) (bytes : List ℕ) (prim : Primitive) → from ≤ to → length bytes ≤ to - from → AllOn from to (primitive_on from to bytes prim).answer
+primitive_answers : (from to : ℕ) (bytes : List ℕ) (prim : Primitive) → from ≤ to → length bytes ≤ to - from
+    → AllOn from to (primitive_on from to bytes prim).answer
 unfolding finish
 primitive_answers from to bytes Bytes h k = one_on _ (record { starts = omega arith; ends = omega arith })
 primitive_answers from to bytes prim h k = number_answers from to bytes prim h k
@@ -95,7 +97,8 @@ module _ (call : Call) (lies : LieWithin call) (f : Frame) where
   symbol_answers p own from to (Text token) h = token_answers from to _ token h (part_short f.bytes from to)
   symbol_answers p own from to (Prim prim) h = primitive_answers from to _ prim h (part_short f.bytes from to)
   symbol_answers p own from to (Rule callee) h =
-      sub_answers from to _ _ h (part_short f.bytes from to) (lies.within callee (part f.bytes from to) (outer_for f own (holder_of (rule_at f.grammar callee))))
+      sub_answers from to _ _ h (part_short f.bytes from to)
+      (lies.within callee (part f.bytes from to) (outer_for f own (holder_of (rule_at f.grammar callee))))
 
   -- an item's interval lies in that of its repetition
   record Lies (from to : ℕ) (end : Option ℕ) : Type 0 where

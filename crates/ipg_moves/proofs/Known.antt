@@ -24,17 +24,20 @@ same_by a b e =
 
 module _ (g : Grammar) (s : List ℕ) where
   found_by : (entry : Key × Result Tree Stop) (known : Known) (key : Key) (answer : Result Tree Stop) (b : Bool) → same_key entry.0 key ≡ b
-      → cond b (Some entry.1) (find known key) ≡ Some answer → IsRight g s entry → (find known key ≡ Some answer → IsRight g s (key, answer)) → IsRight g s (key, answer)
+      → cond b (Some entry.1) (find known key) ≡ Some answer → IsRight g s entry → (find known key ≡ Some answer → IsRight g s (key, answer))
+      → IsRight g s (key, answer)
   found_by entry known key answer true same e right rest =
       let is : entry.1 ≡ answer = cc in
       subst (λ a. IsRight g s (key, a)) is (subst (λ k. IsRight g s (k, entry.1)) (same_by entry.0 key same) right)
   found_by entry known key answer false same e right rest = rest e
 
-  found : (known : Known) (key : Key) (answer : Result Tree Stop) → AllByRecursion (IsRight g s) known → find known key ≡ Some answer → IsRight g s (key, answer)
+  found : (known : Known) (key : Key) (answer : Result Tree Stop) → AllByRecursion (IsRight g s) known → find known key ≡ Some answer
+      → IsRight g s (key, answer)
   found [] key answer right e = absurd (cc)
   found (entry ∷ known) key answer right e = found_by entry known key answer _ refl e right.0 (found known key answer right.1)
 
-  pub known_right : (known : Option Known) (key : Key) (answer : Result Tree Stop) → AreRight g s known → known_of known key ≡ Some answer → IsRight g s (key, answer)
+  pub known_right : (known : Option Known) (key : Key) (answer : Result Tree Stop) → AreRight g s known → known_of known key ≡ Some answer
+      → IsRight g s (key, answer)
   known_right None key answer right e = absurd (cc)
   known_right (Some known) key answer right e = found known key answer right e
 

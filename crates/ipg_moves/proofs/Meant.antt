@@ -30,7 +30,8 @@ module _ (s : List ℕ) (bound : ℕ) (g : Grammar) (lower : List OpenCall) wher
   arrives_then : {A B : Type 0} (first : Result A Stop → Highest) (make : Result B Stop → Highest) (e : Evaluation) (answer : Result A Stop) (go : A → Run B)
       → first (Err NoTree) ≡ make (Err NoTree)
       → Arrives s bound g first e lower answer
-      → ((a : A) (known : Option Known) (tally : Tally) → Fit g s bound known tally → Arrives s bound g make (evaluation lower (first (Ok a)) known tally) lower (go a).answer)
+      → ((a : A) (known : Option Known) (tally : Tally) → Fit g s bound known tally
+      → Arrives s bound g make (evaluation lower (first (Ok a)) known tally) lower (go a).answer)
       → Arrives s bound g make e lower (go_on answer go).answer
   unfolding go_on stop
   arrives_then first make e (Ok a) go none h next = arrives_after s bound g make e _ lower (go a).answer h.path (next a h.known h.tally h.right)
@@ -77,7 +78,8 @@ module _ (s : List ℕ) (bound : ℕ) (g : Grammar) (lower : List OpenCall) wher
   lifts_both make other e (Err OutOfRange) k more none next h = h
   lifts_both make other e (Err Deep) k more none next h = tt
 
-  stays_at : {A : Type 0} (make : Result A Stop → Highest) (highest : Highest) (a : A) (known : Option Known) (tally : Tally) → highest ≡ make (Ok a) → Fit g s bound known tally
+  stays_at : {A : Type 0} (make : Result A Stop → Highest) (highest : Highest) (a : A) (known : Option Known) (tally : Tally) → highest ≡ make (Ok a)
+      → Fit g s bound known tally
       → Arrives s bound g make (evaluation lower highest known tally) lower (Ok a)
   stays_at make highest a known tally e right = record {
     known = known;
@@ -96,7 +98,8 @@ runs_at : (c : OpenCall) (state next : State) (u : ℕ) (left : List ℕ) (entry
 runs_at c state next u [] entry = refl
 runs_at c state next u (v ∷ left) entry = refl
 
-turned_at : (c : OpenCall) (state : State) (u : ℕ) (left : List ℕ) (one other : Entry) (a : Advance) → turned (at c state u left one) (Ok a) ≡ turned (at c state u left other) (Ok a)
+turned_at : (c : OpenCall) (state : State) (u : ℕ) (left : List ℕ) (one other : Entry) (a : Advance)
+    → turned (at c state u left one) (Ok a) ≡ turned (at c state u left other) (Ok a)
 turned_at c state u left one other (Inside entry) = refl
 turned_at c state u left one other (Past next) = runs_at c state next u left one ∙ sym (runs_at c state next u left other)
 
@@ -126,7 +129,8 @@ interval_rises n (pos l) (pos r) ends e = rises_by n l r ends _ refl e
 interval_rises n (negsuc l) r ends e = absurd (cc)
 interval_rises n (pos l) (negsuc r) ends e = absurd (cc)
 
-module _ (s : List ℕ) (bound : ℕ) (heights : HeightsAgree) (lies : LiesWithin) (lower : List OpenCall) (c : OpenCall) (h : ℕ) (room : length lower + h < bound) where
+module _ (s : List ℕ) (bound : ℕ) (heights : HeightsAgree) (lies : LiesWithin) (lower : List OpenCall) (c : OpenCall) (h : ℕ)
+    (room : length lower + h < bound) where
   abbrev g : Grammar
   g = c.frame.grammar
 
@@ -143,9 +147,11 @@ module _ (s : List ℕ) (bound : ℕ) (heights : HeightsAgree) (lies : LiesWithi
 
     -- the answer of one move at the term
     moved_at : (entry : Entry) (known : Option Known) (tally : Tally) (term : Option CoreTerm) → slice_get c.terms u ≡ term → Fit g s bound known tally
-        → Arrives s bound g (turned (at c state u left entry)) (evaluation lower (Works (at c state u left entry)) known tally) lower (advance call c.frame state u entry term).answer
+        → Arrives s bound g (turned (at c state u left entry)) (evaluation lower (Works (at c state u left entry)) known tally) lower
+        (advance call c.frame state u entry term).answer
     moved_at entry known tally term is right =
-        subst (λ t. Arrives s bound g (turned (at c state u left entry)) (evaluation lower (Works (at c state u left entry)) known tally) lower (advance call c.frame state u entry t).answer) is
+        subst (λ t. Arrives s bound g (turned (at c state u left entry)) (evaluation lower (Works (at c state u left entry)) known tally) lower
+        (advance call c.frame state u entry t).answer) is
         (hand_runs s bound heights (at c state u left entry) lower h known tally stands right calls room)
 
     -- a term that parses one child
@@ -155,7 +161,8 @@ module _ (s : List ℕ) (bound : ℕ) (heights : HeightsAgree) (lies : LiesWithi
         → Reaches (λ next. next) (Works (at c state u left Outside)) known tally (run >>= λ kid. finish (with_kid state u is_switch kid)).answer
     unfolding ◌>>=◌ after
     child_runs run is_switch known tally h =
-        lifts s bound g lower (λ kid. with_kid state u is_switch kid) (makes c left (λ kid. with_kid state u is_switch kid)) (makes c left (λ next. next)) _ run.answer
+        lifts s bound g lower (λ kid. with_kid state u is_switch kid) (makes c left (λ kid. with_kid state u is_switch kid))
+        (makes c left (λ next. next)) _ run.answer
         (λ kid. refl) refl
         (drops s bound g lower (λ kid. Past (with_kid state u is_switch kid)) (makes c left (λ kid. with_kid state u is_switch kid))
         (turned (at c state u left Outside)) _ run.answer (λ kid. runs_at c state (with_kid state u is_switch kid) u left Outside) refl h)
@@ -170,7 +177,8 @@ module _ (s : List ℕ) (bound : ℕ) (heights : HeightsAgree) (lies : LiesWithi
       with_array items = with_kid state u false (Array one (kids_of items))
 
       items_run : (n : ℕ) (i : ℤ) (items : List Kid) (known : Option Known) (tally : Tally) → Fit g s bound known tally
-          → Reaches with_array (turned (at c state u left Outside) (Ok (array_on state u one n i items))) known tally (items_on call c.frame u state slot n i items).answer
+          → Reaches with_array (turned (at c state u left Outside) (Ok (array_on state u one n i items))) known tally
+          (items_on call c.frame u state slot n i items).answer
       unfolding items_on finish ◌>>=◌ after
       items_run zero i items known tally right =
           stays_at s bound g lower (makes c left with_array) _ items known tally (runs_at c state (with_array items) u left Outside) right
@@ -182,7 +190,8 @@ module _ (s : List ℕ) (bound : ℕ) (heights : HeightsAgree) (lies : LiesWithi
           refl
           (λ item e comes.
           arrives_after s bound g (makes c left with_array) _ _ lower _ comes.path
-          (subst (λ x. Arrives s bound g (makes c left with_array) (evaluation lower x comes.known comes.tally) lower (items_on call c.frame u state slot n (i +ℤ pos 1) (items ++ item ∷ [])).answer)
+          (subst (λ x. Arrives s bound g (makes c left with_array) (evaluation lower x comes.known comes.tally) lower
+          (items_on call c.frame u state slot n (i +ℤ pos 1) (items ++ item ∷ [])).answer)
           (turned_at c state u left Outside (Items (suc n) i items) (array_on state u one n (i +ℤ pos 1) (items ++ item ∷ [])))
           (items_run n (i +ℤ pos 1) (items ++ item ∷ []) comes.known comes.tally comes.right)))
           (moved_at (Items (suc n) i items) known tally _ is right)
@@ -192,9 +201,11 @@ module _ (s : List ℕ) (bound : ℕ) (heights : HeightsAgree) (lies : LiesWithi
       unfolding ◌>>=◌ after finish
       array_runs known tally right =
           arrives_both s bound g lower (turned (at c state u left Outside)) (makes c left (λ next. next)) _ (value_in c.frame state None first).answer _ _ refl
-          (λ a _. arrives_both s bound g lower (turned (at c state u left Outside)) (makes c left (λ next. next)) _ (value_in c.frame state None last).answer _ _ refl
+          (λ a _. arrives_both s bound g lower (turned (at c state u left Outside)) (makes c left (λ next. next)) _
+          (value_in c.frame state None last).answer _ _ refl
           (λ b _ comes.
-          lifts s bound g lower with_array (makes c left with_array) (makes c left (λ next. next)) _ (items_on call c.frame u state slot (times (b -ℤ a)) a []).answer (λ items. refl) refl
+          lifts s bound g lower with_array (makes c left with_array) (makes c left (λ next. next)) _
+          (items_on call c.frame u state slot (times (b -ℤ a)) a []).answer (λ items. refl) refl
           (arrives_after s bound g (makes c left with_array) _ _ lower _ comes.path (items_run (times (b -ℤ a)) a [] comes.known comes.tally comes.right))))
           (moved_at Outside known tally _ is right)
 
@@ -215,11 +226,14 @@ module _ (s : List ℕ) (bound : ℕ) (heights : HeightsAgree) (lies : LiesWithi
 
       abbrev Goes : ℕ → ℕ → (ℕ → List Kid → Run (List Kid)) → Kid → List Kid → Type 0
       Goes p r go item items = (known : Option Known) (tally : Tally) → Fit g s bound known tally
-          → Reaches with_turns (Works (at c state u left (Turns (ends_of item).end r (items ++ item ∷ [])))) known tally (go (ends_of item).end (items ++ item ∷ [])).answer
+          → Reaches with_turns (Works (at c state u left (Turns (ends_of item).end r (items ++ item ∷ [])))) known tally
+          (go (ends_of item).end (items ++ item ∷ [])).answer
 
       kept_one : (p r : ℕ) (items : List Kid) (e : Evaluation) (item : Kid) (go : ℕ → List Kid → Run (List Kid)) (b : Bool)
           → (b ≡ true → Goes p r go item items)
-          → Comes s bound g e lower (turned (at c state u left (Turns p r items)) (Ok (if b then Inside (Turns (ends_of item).end r (items ++ item ∷ [])) else Past (with_turns items))))
+          → Comes s bound g e lower
+          (turned (at c state u left (Turns p r items))
+          (Ok (if b then Inside (Turns (ends_of item).end r (items ++ item ∷ [])) else Past (with_turns items))))
           → Arrives s bound g (makes c left with_turns) e lower (if b then go (ends_of item).end (items ++ item ∷ []) else finish items).answer
       unfolding finish
       kept_one p r items e item go true next comes =
@@ -262,12 +276,14 @@ module _ (s : List ℕ) (bound : ℕ) (heights : HeightsAgree) (lies : LiesWithi
       some_is (Some other) ends e = let same : other ≡ ends = cc in ap Some same
 
       repetition_runs : (known : Option Known) (tally : Tally) → Fit g s bound known tally
-          → Reaches with_turns (Works (at c state u left Outside)) known tally (repetition_on call c.frame here state (record { sym = one; from = from; to = to })).answer
+          → Reaches with_turns (Works (at c state u left Outside)) known tally
+          (repetition_on call c.frame here state (record { sym = one; from = from; to = to })).answer
       unfolding repetition_on ◌>>=◌ after finish
       repetition_runs known tally right =
           arrives_both s bound g lower (turned (at c state u left Outside)) (makes c left with_turns) _ (value_in c.frame state None from).answer _ _ refl
           (λ l _. arrives_both s bound g lower (turned (at c state u left Outside)) (makes c left with_turns) _ (value_in c.frame state None to).answer _ _ refl
-          (λ r _. arrives_both s bound g lower (turned (at c state u left Outside)) (makes c left with_turns) _ (some_of (interval (length c.frame.bytes) l r)).answer _ _ refl
+          (λ r _. arrives_both s bound g lower (turned (at c state u left Outside)) (makes c left with_turns) _
+          (some_of (interval (length c.frame.bytes) l r)).answer _ _ refl
           (λ ends e comes. turns_entered ends _ (interval_rises (length c.frame.bytes) l r ends (some_is _ ends e)) comes)))
           (moved_at Outside known tally _ is right)
 
@@ -275,7 +291,8 @@ module _ (s : List ℕ) (bound : ℕ) (heights : HeightsAgree) (lies : LiesWithi
           → Reaches (λ next. next) (Works (at c state u left Outside)) known tally (term_on call c.frame state u (Some (Many one from to))).answer
       unfolding ◌>>=◌ after
       many_runs known tally right =
-          lifts s bound g lower with_turns (makes c left with_turns) (makes c left (λ next. next)) _ (repetition_on call c.frame here state (record { sym = one; from = from; to = to })).answer
+          lifts s bound g lower with_turns (makes c left with_turns) (makes c left (λ next. next)) _
+          (repetition_on call c.frame here state (record { sym = one; from = from; to = to })).answer
           (λ items. refl) refl (repetition_runs known tally right)
 
     -- ---- any term
@@ -295,7 +312,8 @@ module _ (s : List ℕ) (bound : ℕ) (heights : HeightsAgree) (lies : LiesWithi
         → Reaches (λ next. next) (Works (at c state u left Outside)) known tally (term_on call c.frame state u term).answer
     unfolding ◌>>=◌ after finish stop
     term_runs known tally None is right = moved_at Outside known tally _ is right
-    term_runs known tally (Some (Slot slot)) is right = child_runs (slot_on call c.frame here state None slot) false known tally (moved_at Outside known tally _ is right)
+    term_runs known tally (Some (Slot slot)) is right =
+        child_runs (slot_on call c.frame here state None slot) false known tally (moved_at Outside known tally _ is right)
     term_runs known tally (Some (Set attr e)) is right =
         arrives_both s bound g lower (turned (at c state u left Outside)) (makes c left (λ next. next)) _ (value_in c.frame state None e).answer _ _ refl
         (λ z _ comes. passes (with_value state attr z) _ comes)
@@ -315,7 +333,8 @@ module _ (s : List ℕ) (bound : ℕ) (heights : HeightsAgree) (lies : LiesWithi
   node_makes (Ok state) = Holds (key_at c.frame c.from) (Ok (node_of c.frame c.terms state))
   node_makes (Err why) = turned c (Err why)
 
-  pub terms_run : StandsAt s c.from c.frame.bytes → CallsRun s bound g h → (order : List ℕ) (state : State) (known : Option Known) (tally : Tally) → Fit g s bound known tally
+  pub terms_run : StandsAt s c.from c.frame.bytes → CallsRun s bound g h → (order : List ℕ) (state : State) (known : Option Known) (tally : Tally)
+      → Fit g s bound known tally
       → Arrives s bound g node_makes (evaluation lower (runs_on c state order) known tally) lower (terms_on call c.frame c.terms order state).answer
   unfolding terms_on finish ◌>>=◌ after
   terms_run stands calls [] state known tally right = stays_at s bound g lower node_makes _ state known tally refl right
@@ -345,7 +364,8 @@ module _ (s : List ℕ) (bound : ℕ) (heights : HeightsAgree) (lies : LiesWithi
     alt_or_next e (Err OutOfRange) next more leaves = leaves
     alt_or_next e (Err Deep) next more h = tt
 
-  alts_run : (f : Frame) (from h : ℕ) → length lower + h < bound → StandsAt s from f.bytes → CallsRun s bound f.grammar h → (alts : List CoreAlt) (known : Option Known) (tally : Tally) → Fit f.grammar s bound known tally
+  alts_run : (f : Frame) (from h : ℕ) → length lower + h < bound → StandsAt s from f.bytes → CallsRun s bound f.grammar h
+      → (alts : List CoreAlt) (known : Option Known) (tally : Tally) → Fit f.grammar s bound known tally
       → Arrives s bound f.grammar (Holds (key_at f from)) (evaluation lower (begins f from alts) known tally) lower (alts_on (den f.grammar h) f alts).answer
   unfolding alts_on alt_on stop or_else ◌>>=◌ after
   alts_run f from h room stands calls [] known tally right = record { known = known; tally = tally; right = right; path = stay f.grammar s bound _ right }
@@ -355,8 +375,10 @@ module _ (s : List ℕ) (bound : ℕ) (heights : HeightsAgree) (lies : LiesWithi
       (λ known tally right. alts_run (record f { alt = f.alt + 1 }) from h room stands calls alts known tally right)
       (terms_run s bound heights lies lower (fresh f from h room alt alts) h room stands calls alt.order (start (length alt.terms)) known tally right)
 
-  rule_runs : (f : Frame) (from h : ℕ) → length lower + h < bound → StandsAt s from f.bytes → CallsRun s bound f.grammar h → (rule : Option CoreRule) (known : Option Known) (tally : Tally) → Fit f.grammar s bound known tally
-      → Arrives s bound f.grammar (Holds (key_at f from)) (evaluation lower (begins f from (alts_of rule)) known tally) lower (rule_run (den f.grammar h) f rule).answer
+  rule_runs : (f : Frame) (from h : ℕ) → length lower + h < bound → StandsAt s from f.bytes → CallsRun s bound f.grammar h
+      → (rule : Option CoreRule) (known : Option Known) (tally : Tally) → Fit f.grammar s bound known tally
+      → Arrives s bound f.grammar (Holds (key_at f from)) (evaluation lower (begins f from (alts_of rule)) known tally) lower
+      (rule_run (den f.grammar h) f rule).answer
   unfolding stop
   rule_runs f from h room stands calls None known tally right = record { known = known; tally = tally; right = right; path = stay f.grammar s bound _ right }
   rule_runs f from h room stands calls (Some rule) known tally right = alts_run f from h room stands calls rule.alts known tally right
@@ -366,5 +388,6 @@ unfolding den rule_on
 calls_run s bound heights lies g zero = record { run = λ r bytes from outer lower known tally stands room right. tt }
 calls_run s bound heights lies g (suc h) = record {
   run = λ r bytes from outer lower known tally stands room right.
-      rule_runs s bound heights lies lower (record { grammar = g; rule = r; alt = 0; bytes = bytes; outer = outer }) from h (omega arith) stands (calls_run s bound heights lies g h) (rule_at g r) known tally right;
+      rule_runs s bound heights lies lower (record { grammar = g; rule = r; alt = 0; bytes = bytes; outer = outer }) from h (omega arith) stands
+      (calls_run s bound heights lies g h) (rule_at g r) known tally right;
 }

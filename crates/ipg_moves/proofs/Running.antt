@@ -7,7 +7,7 @@ use Rattle.ipg_core.specs.Environment.{Values}
 use Rattle.ipg_core.specs.Run.{Stop, NoTree, OutOfRange, Deep, Run}
 use Rattle.ipg_core.specs.Meaning.{den}
 use Rattle.ipg_core.specs.Laws.{HeightsAgree}
-use Rattle.ipg_moves.specs.Moves.{Key, OpenCall, Highest, Works, Holds, Known, Evaluation, Tally, one_opened, one_known, known_of, learn, Advance, at_hand, key_at, opened, turned, always, asked_part, asked_key, asks, works, returns, move}
+use Rattle.ipg_moves.specs.Moves.{Key, OpenCall, Highest, Works, Holds, Known, Evaluation, Tally, one_opened, one_known, known_of, learn, Advance, at_hand, key_at, opened, turned, always, silent, asked_part, asked_key, asks, works, returns, move}
 use Rattle.ipg_moves.proofs.Asks.{Quiet, Asking, Anything, hand_once}
 use Rattle.ipg_moves.proofs.Parts.{StandsAt, part_at, part_stands}
 use Rattle.ipg_moves.proofs.Paths.{Fit, Path, stay, step, join}
@@ -38,7 +38,8 @@ module _ (s : List ℕ) (bound : ℕ) where
   Arrives g make e lower (Err OutOfRange) = Leaves g e
   Arrives g make e lower (Err Deep) = Unit {0}
 
-  comes_after : (g : Grammar) (e middle : Evaluation) (lower : List OpenCall) (highest : Highest) → Path g s bound e middle → Comes g middle lower highest → Comes g e lower highest
+  comes_after : (g : Grammar) (e middle : Evaluation) (lower : List OpenCall) (highest : Highest) → Path g s bound e middle → Comes g middle lower highest
+      → Comes g e lower highest
   comes_after g e middle lower highest path comes = record {
     known = comes.known;
     tally = comes.tally;
@@ -71,7 +72,8 @@ module _ (s : List ℕ) (bound : ℕ) where
   pub record CallsRun (g : Grammar) (h : ℕ) : Type 0 where
     pub run : (r : ℕ) (bytes : List ℕ) (from : ℕ) (outer : Values) (lower : List OpenCall) (known : Option Known) (tally : Tally)
         → StandsAt s from bytes → length lower + h ≤ bound → Fit g s bound known tally
-        → Arrives g (Holds (record { rule = r; from = from; to = from + length bytes })) (evaluation lower (opened g r bytes from outer) known tally) lower (den g h r bytes outer)
+        → Arrives g (Holds (record { rule = r; from = from; to = from + length bytes })) (evaluation lower (opened g r bytes from outer) known tally) lower
+        (den g h r bytes outer)
 
 none_or_some : (n : ℕ) → (n ≡ 0) ⊎ (0 < n)
 none_or_some zero = inl refl
@@ -82,22 +84,25 @@ module _ (s : List ℕ) (bound : ℕ) (heights : HeightsAgree) where
     abbrev now : Option Known → Tally → Evaluation
     now known tally = evaluation lower (Works c) known tally
 
-    quiet_move : (known : Option Known) (tally : Tally) (quiet : Quiet (λ call. at_hand call c)) → move (now known tally) ≡ evaluation lower (turned c quiet.answer) known tally
+    quiet_move : (known : Option Known) (tally : Tally) (quiet : Quiet (λ call. at_hand call c))
+        → move (now known tally) ≡ evaluation lower (turned c quiet.answer) known tally
     unfolding move
-    quiet_move known tally quiet = ap (λ (run : Run Advance). works (now known tally) c run.answer run.asked) (quiet.is (always (Err Deep)))
+    quiet_move known tally quiet = ap (λ (run : Run Advance). works (now known tally) c run.answer run.asked) (quiet.is silent)
 
     asking_move : (known : Option Known) (tally : Tally) (one : Asking c.frame Anything (λ call. at_hand call c))
         → move (now known tally) ≡ asks (now known tally) c one.ask (known_of known (asked_key c one.ask))
     unfolding move
-    asking_move known tally one = ap (λ (run : Run Advance). works (now known tally) c run.answer run.asked) (one.is (always (Err Deep)))
+    asking_move known tally one = ap (λ (run : Run Advance). works (now known tally) c run.answer run.asked) (one.is silent)
 
     -- a move that leads to what the answer makes
-    moved : (known : Option Known) (tally later : Tally) (answer : Result Advance Stop) → Fit c.frame.grammar s bound known tally → Fit c.frame.grammar s bound known later
+    moved : (known : Option Known) (tally later : Tally) (answer : Result Advance Stop) → Fit c.frame.grammar s bound known tally
+        → Fit c.frame.grammar s bound known later
         → move (now known tally) ≡ evaluation lower (turned c answer) known later → Arrives s bound c.frame.grammar (turned c) (now known tally) lower answer
     moved known tally later answer right also e =
         let g = c.frame.grammar in
         arrives_after s bound g (turned c) (now known tally) _ lower answer
-        (step g s bound (now known tally) _ right (subst (λ next. Path g s bound next (evaluation lower (turned c answer) known later)) (sym e) (stay g s bound _ also)))
+        (step g s bound (now known tally) _ right
+        (subst (λ next. Path g s bound next (evaluation lower (turned c answer) known later)) (sym e) (stay g s bound _ also)))
         (arrived s bound g (turned c) (key_at c.frame c.from) refl lower known later answer also)
 
     module _ (h : ℕ) (stands : StandsAt s c.from c.frame.bytes) (one : Asking c.frame Anything (λ call. at_hand call c)) where
@@ -130,7 +135,8 @@ module _ (s : List ℕ) (bound : ℕ) (heights : HeightsAgree) where
           elim (deep_or_not (reply h)) [
             | inl deep ↦ subst (Arrives s bound c.frame.grammar (turned c) (now known tally) lower) (sym (ap one.made deep ∙ one.deep)) tt
             | inr settled ↦
-                let same = one_answer heights c.frame.grammar entry.height h one.ask.callee (asked_part c one.ask) one.ask.outer (λ d. entry.settled (sym is ∙ d)) settled in
+                let same = one_answer heights c.frame.grammar entry.height h one.ask.callee (asked_part c one.ask) one.ask.outer
+                (λ d. entry.settled (sym is ∙ d)) settled in
                 subst (λ a. Arrives s bound c.frame.grammar (turned c) (now known tally) lower (one.made a)) (sym is ∙ same)
                 (moved known tally (one_known tally) (one.made answer) right right (known_move known tally answer e))
           ]
@@ -139,13 +145,18 @@ module _ (s : List ℕ) (bound : ℕ) (heights : HeightsAgree) where
       abbrev key : Key
       key = asked_key c one.ask
 
-      learned : (known : Option Known) (tally : Tally) (answer : Result Tree Stop) → Fit c.frame.grammar s bound known tally → reply h ≡ answer → answer ≢ Err Deep
+      learned : (known : Option Known) (tally : Tally) (answer : Result Tree Stop) → Fit c.frame.grammar s bound known tally → reply h ≡ answer
+          → answer ≢ Err Deep
           → Fit c.frame.grammar s bound (learn c.frame.grammar known key answer) tally
-      learned known tally answer right e settled =
-          (learn_right c.frame.grammar s known key answer right.0 (λ global. record { global = global; height = h; is = global_reply h global ∙ e; settled = settled }), right.1)
+      learned known tally answer right e settled = (
+        learn_right c.frame.grammar s known key answer right.0
+            (λ global. record { global = global; height = h; is = global_reply h global ∙ e; settled = settled }),
+        right.1,
+      )
 
       back : (known : Option Known) (tally : Tally) (answer : Result Tree Stop) → Fit c.frame.grammar s bound known tally → reply h ≡ answer → answer ≢ Err Deep
-          → move (evaluation (c ∷ lower) (Holds key answer) known tally) ≡ returns (evaluation (c ∷ lower) (Holds key answer) known tally) key answer (c ∷ lower)
+          → move (evaluation (c ∷ lower) (Holds key answer) known tally) ≡ returns (evaluation (c ∷ lower) (Holds key answer) known tally) key answer
+          (c ∷ lower)
           → Arrives s bound c.frame.grammar (turned c) (evaluation (c ∷ lower) (Holds key answer) known tally) lower (one.made answer)
       back known tally answer right e settled popped =
           let g = c.frame.grammar in
@@ -163,7 +174,8 @@ module _ (s : List ℕ) (bound : ℕ) (heights : HeightsAgree) where
       returned e (Ok tree) is h =
           arrives_after s bound c.frame.grammar (turned c) e _ lower (one.made (Ok tree)) h.path (back h.known h.tally (Ok tree) h.right is (λ d. cc) refl)
       returned e (Err NoTree) is h =
-          arrives_after s bound c.frame.grammar (turned c) e _ lower (one.made (Err NoTree)) h.path (back h.known h.tally (Err NoTree) h.right is (λ d. cc) refl)
+          arrives_after s bound c.frame.grammar (turned c) e _ lower (one.made (Err NoTree)) h.path
+          (back h.known h.tally (Err NoTree) h.right is (λ d. cc) refl)
       returned e (Err OutOfRange) is h = subst (Arrives s bound c.frame.grammar (turned c) e lower) (sym one.range) h
       returned e (Err Deep) is h = subst (Arrives s bound c.frame.grammar (turned c) e lower) (sym one.deep) tt
 
@@ -174,7 +186,8 @@ module _ (s : List ℕ) (bound : ℕ) (heights : HeightsAgree) where
       room_for_one : (tally : Tally) → tally.deepest ≤ bound → length lower + h < bound → 0 < h → max tally.deepest (length lower + 2) ≤ bound
       room_for_one tally low room some = omega arith
 
-      hand_opened : (known : Option Known) (tally : Tally) → Fit c.frame.grammar s bound known tally → CallsRun s bound c.frame.grammar h → length lower + h < bound → 0 < h
+      hand_opened : (known : Option Known) (tally : Tally) → Fit c.frame.grammar s bound known tally → CallsRun s bound c.frame.grammar h
+          → length lower + h < bound → 0 < h
           → known_of known (asked_key c one.ask) ≡ None → Arrives s bound c.frame.grammar (turned c) (now known tally) lower (one.made (reply h))
       hand_opened known tally right calls room some e =
           let g = c.frame.grammar in
@@ -198,7 +211,8 @@ module _ (s : List ℕ) (bound : ℕ) (heights : HeightsAgree) where
       hand_asks known tally (Some answer) e right calls room = hand_known known tally answer right e
 
     -- the call comes to what its term at hand makes of it
-    pub hand_runs : (h : ℕ) (known : Option Known) (tally : Tally) → StandsAt s c.from c.frame.bytes → Fit c.frame.grammar s bound known tally → CallsRun s bound c.frame.grammar h → length lower + h < bound
+    pub hand_runs : (h : ℕ) (known : Option Known) (tally : Tally) → StandsAt s c.from c.frame.bytes → Fit c.frame.grammar s bound known tally
+        → CallsRun s bound c.frame.grammar h → length lower + h < bound
         → Arrives s bound c.frame.grammar (turned c) (now known tally) lower (at_hand (den c.frame.grammar h) c).answer
     hand_runs h known tally stands right calls room =
         let g = c.frame.grammar in

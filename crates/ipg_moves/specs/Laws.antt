@@ -7,7 +7,7 @@ use Rattle.ipg_core.specs.declared.grammar.CoreTerm.{CoreTerm}
 use Rattle.ipg_core.specs.Tree.{Tree, Kid, Sub}
 use Rattle.ipg_core.specs.Run.{Stop, Deep, Asked, Run}
 use Rattle.ipg_core.specs.Meaning.{Call, Frame, State, den, Means}
-use Rattle.ipg_moves.specs.Moves.{Key, Entry, Known, lifted, parsed, always, moves, opening, ended}
+use Rattle.ipg_moves.specs.Moves.{Key, Entry, Known, lifted, parsed, silent, moves, opening, ended}
 
 -- what is known of a key is the answer of its global rule on its interval of the input
 pub record IsRight (g : Grammar) (s : List ℕ) (entry : Key × Result Tree Stop) : Type 0 where
@@ -50,4 +50,4 @@ ByCalls call f (ask ∷ other ∷ more) quiet run = ⊥
 -- what is parsed next hangs on the answer of one call at most, which is known before it is answered
 abbrev pub ParsesByOneCall : Type 0
 ParsesByOneCall = (call : Call) (f : Frame) (state : State) (u : ℕ) (entry : Entry) (term : CoreTerm)
-    → (let quiet = parsed (always (Err Deep)) f state u entry term in ByCalls call f quiet.asked quiet (parsed call f state u entry term))
+    → (let quiet = parsed silent f state u entry term in ByCalls call f quiet.asked quiet (parsed call f state u entry term))

@@ -103,7 +103,8 @@ array_on state u sym (suc n) i items = Inside (Items (suc n) i items)
 -- an item that touches a byte is kept; one that touches none, or has no tree, ends the repetition
 abbrev pub repeated : State → ℕ → Sym → ℕ → List Kid → Result Kid Stop → Result Advance Stop
 repeated state u sym r items (Ok item) =
-    Ok (if touches (ends_of item) then Inside (Turns (ends_of item).end r (items ++ item ∷ [])) else Past (with_kid state u false (Repetition sym (kids_of items))))
+    Ok (if touches (ends_of item) then Inside (Turns (ends_of item).end r (items ++ item ∷ []))
+    else Past (with_kid state u false (Repetition sym (kids_of items))))
 repeated state u sym r items (Err NoTree) = Ok (Past (with_kid state u false (Repetition sym (kids_of items))))
 repeated state u sym r items (Err OutOfRange) = Err OutOfRange
 repeated state u sym r items (Err Deep) = Err Deep
@@ -191,6 +192,10 @@ turned c (Err Deep) = Holds (key_at c.frame c.from) (Err Deep)
 abbrev pub always : Result Tree Stop → Call
 always answer r s outer = answer
 
+-- whatever is called isn't answered yet
+abbrev pub silent : Call
+silent = always (Err Deep)
+
 -- the part and the key of a call that an open call makes
 abbrev pub asked_part : OpenCall → Asked → List ℕ
 asked_part c ask = part c.frame.bytes ask.from ask.to
@@ -234,7 +239,7 @@ returns e key answer (c ∷ lower) = record e {
 }
 
 abbrev pub move_by : Evaluation → Highest → Evaluation
-move_by e (Works c) = let run = at_hand (always (Err Deep)) c in works e c run.answer run.asked
+move_by e (Works c) = let run = at_hand silent c in works e c run.answer run.asked
 move_by e (Holds key (Err OutOfRange)) = e
 move_by e (Holds key answer) = returns e key answer e.lower
 
@@ -259,7 +264,3 @@ ended_by (c ∷ lower) (Holds key answer) = None
 -- the answer with which it has ended: the lowest call holds it, or a value left 64 bits
 abbrev pub ended : Evaluation → Option (Result Tree Stop)
 ended e = ended_by e.lower e.highest
-
--- how many calls are open
-abbrev pub calls : Evaluation → ℕ
-calls e = length e.lower + 1

@@ -21,7 +21,8 @@ head_same : {A : Type 0} (a b : A) → (let xs : List A = a ∷ [] in let ys : L
 head_same a b e = cc
 
 -- the nodes are one, and so all that hangs on them
-node_same : (st : Stored) (id : RunId) (h k : Head) (a b : List (ℕ × ℤ)) (x y : List Kid) (one : HasNode st id h a x) (other : HasNode st id k b y) → one.node ≡ other.node
+node_same : (st : Stored) (id : RunId) (h k : Head) (a b : List (ℕ × ℤ)) (x y : List Kid) (one : HasNode st id h a x) (other : HasNode st id k b y)
+    → one.node ≡ other.node
 node_same st id h k a b x y one other = head_same _ _ (some_same (slice_get st.nodes id.place) _ _ one.is_node other.is_node)
 
 same_head : (st : Stored) (id : RunId) (h k : Head) (a b : List (ℕ × ℤ)) (x y : List Kid) → HasNode st id h a x → HasNode st id k b y → h ≡ k
@@ -122,7 +123,8 @@ module _ (src : Source) (st : Stored) where
   mutual
     tree_once : (at : ℕ) (id : RunId) (one other : Tree) → StandsTree src st at id one → StandsTree src st at id other → one ≡ other
     tree_once at id (tree.Node rule size attrs start end kids) (tree.Node rule' size' attrs' start' end' kids') h k =
-        node_by (record { rule = rule; size = size; start = start; end = end }) (record { rule = rule'; size = size'; start = start'; end = end' }) attrs attrs' kids kids'
+        node_by (record { rule = rule; size = size; start = start; end = end })
+        (record { rule = rule'; size = size'; start = start'; end = end' }) attrs attrs' kids kids'
         (same_head st id _ _ attrs attrs' h.0 k.0 h.1 k.1)
         (same_attrs st id _ _ attrs attrs' h.0 k.0 h.1 k.1)
         (kids_once at k.0 kids kids' (subst (λ list. StandKids src st at list kids) (same_list st id _ _ attrs attrs' h.0 k.0 h.1 k.1) h.2) k.2)

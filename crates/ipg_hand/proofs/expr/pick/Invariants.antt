@@ -9,7 +9,8 @@ use Rattle.ipg_hand.proofs.expr.pick.Given as goal
 -- the branches that are left come to what all do
 abbrev pub invariant-loop-case : goal.invariant-loop-case
 invariant-loop-case g l =
-    ((f : Frame) (place : Place) (state : State) (branches : List (CoreExpr × CoreSlot)) (last : CoreSlot) → g.R.Results.stands l.results (environment f state None)
+    ((f : Frame) (place : Place) (state : State) (branches : List (CoreExpr × CoreSlot)) (last : CoreSlot)
+    → g.R.Results.stands l.results (environment f state None)
     → Each (HoldsCase l.site.tables.now) l.cases branches → Picks l.site.tables.now f place state branches last l.left)
     × (length l.area ≡ length l.fn.area)
 

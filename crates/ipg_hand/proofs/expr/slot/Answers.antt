@@ -9,7 +9,8 @@ pub returns-in-Val-clause-found : goal.returns-in-Val-clause-found
 returns-in-Val-clause-found g c src st at f place state item slot stands holds shares =
     slots.on_value src st at f place state item slot c.in-Val.from c.slot_from.result
     (c.in-Val.ensures.value f state item slot.from stands holds.from)
-    (subst (λ x. IsFound src st at f state.own c.slot_from.result (found.slot_from f place state item slot x)) (to_z-of_z w64 c.in-Val.from c.in-Val.ensures.sized)
+    (subst (λ x. IsFound src st at f state.own c.slot_from.result (found.slot_from f place state item slot x))
+    (to_z-of_z w64 c.in-Val.from c.in-Val.ensures.sized)
     (c.slot_from.ensures.found src st at f place state item slot stands holds shares))
 
 pub returns-in-Fail-clause-found : goal.returns-in-Fail-clause-found
