@@ -1,4 +1,4 @@
-ghost use Rattle.std.specs.Prelude.{◌≡◌, None, OnOk, OnErr};
+ghost use Rattle.std.specs.Prelude.{◌≡◌, OnOk, OnErr};
 ghost use Rattle.std.specs.FinMap as map;
 
 use ipg_region::RunId;
@@ -56,9 +56,8 @@ impl<A: Allocator + Clone + Drop> Memo<A> {
         self.entries.get(&key).copied()
     }
 
-    /// Gives a key that has no entry this one. Where memory runs out, nothing changes.
+    /// Gives a key this entry, in place of the one that it had, if any. Where memory runs out, nothing changes.
     pub fn put(&mut self, key: Key, entry: Entry) -> Result<(), AllocError>
-        requires { map.get self.old key ≡ None }
         ensures ok { OnOk result (self.new ≡ map.insert self.old key entry) }
         ensures err { OnErr result (self.new ≡ self.old) }
     {
