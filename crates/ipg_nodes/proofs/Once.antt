@@ -21,20 +21,20 @@ head_same : {A : Type 0} (a b : A) → (let xs : List A = a ∷ [] in let ys : L
 head_same a b e = cc
 
 -- the nodes are one, and so all that hangs on them
-node_same : (st : Stored) (id : RunId) (h k : Head) (a b : List (ℕ × ℤ)) (x y : List Kid) (one : HasNode st id h a x) (other : HasNode st id k b y)
+node_same : (st : Stored) (id : RunId) (h k : Head) (m n : ℕ) (a b : List (ℕ × ℤ)) (x y : List Kid) (one : HasNode st id h m a x) (other : HasNode st id k n b y)
     → one.node ≡ other.node
-node_same st id h k a b x y one other = head_same _ _ (some_same (slice_get st.nodes id.place) _ _ one.is_node other.is_node)
+node_same st id h k m n a b x y one other = head_same _ _ (some_same (slice_get st.nodes id.place) _ _ one.is_node other.is_node)
 
-same_head : (st : Stored) (id : RunId) (h k : Head) (a b : List (ℕ × ℤ)) (x y : List Kid) → HasNode st id h a x → HasNode st id k b y → h ≡ k
-same_head st id h k a b x y one other = sym one.is_head ∙ ap (λ (n : Node). n.head) (node_same st id h k a b x y one other) ∙ other.is_head
+same_head : (st : Stored) (id : RunId) (h k : Head) (m n : ℕ) (a b : List (ℕ × ℤ)) (x y : List Kid) → HasNode st id h m a x → HasNode st id k n b y → h ≡ k
+same_head st id h k m n a b x y one other = sym one.is_head ∙ ap (λ (n : Node). n.head) (node_same st id h k m n a b x y one other) ∙ other.is_head
 
-same_attrs : (st : Stored) (id : RunId) (h k : Head) (a b : List (ℕ × ℤ)) (x y : List Kid) → HasNode st id h a x → HasNode st id k b y → a ≡ b
-same_attrs st id h k a b x y one other =
-    some_same _ _ _ one.are_attrs (ap (λ (n : Node). slice_get st.attrs n.attrs.place) (node_same st id h k a b x y one other) ∙ other.are_attrs)
+same_attrs : (st : Stored) (id : RunId) (h k : Head) (m n : ℕ) (a b : List (ℕ × ℤ)) (x y : List Kid) → HasNode st id h m a x → HasNode st id k n b y → a ≡ b
+same_attrs st id h k m n a b x y one other =
+    some_same _ _ _ one.are_attrs (ap (λ (n : Node). slice_get st.attrs n.attrs.place) (node_same st id h k m n a b x y one other) ∙ other.are_attrs)
 
-same_list : (st : Stored) (id : RunId) (h k : Head) (a b : List (ℕ × ℤ)) (x y : List Kid) → HasNode st id h a x → HasNode st id k b y → x ≡ y
-same_list st id h k a b x y one other =
-    some_same _ _ _ one.are_kids (ap (λ (n : Node). slice_get st.kids n.kids.place) (node_same st id h k a b x y one other) ∙ other.are_kids)
+same_list : (st : Stored) (id : RunId) (h k : Head) (m n : ℕ) (a b : List (ℕ × ℤ)) (x y : List Kid) → HasNode st id h m a x → HasNode st id k n b y → x ≡ y
+same_list st id h k m n a b x y one other =
+    some_same _ _ _ one.are_kids (ap (λ (n : Node). slice_get st.kids n.kids.place) (node_same st id h k m n a b x y one other) ∙ other.are_kids)
 
 node_by : (h k : Head) (a b : List (ℕ × ℤ)) (x y : Kids) → h ≡ k → a ≡ b → x ≡ y
     → tree.Node h.rule h.size a h.start h.end x ≡ tree.Node k.rule k.size b k.start k.end y
@@ -125,9 +125,9 @@ module _ (src : Source) (st : Stored) where
     tree_once at id (tree.Node rule size attrs start end kids) (tree.Node rule' size' attrs' start' end' kids') h k =
         node_by (record { rule = rule; size = size; start = start; end = end })
         (record { rule = rule'; size = size'; start = start'; end = end' }) attrs attrs' kids kids'
-        (same_head st id _ _ attrs attrs' h.0 k.0 h.1 k.1)
-        (same_attrs st id _ _ attrs attrs' h.0 k.0 h.1 k.1)
-        (kids_once at k.0 kids kids' (subst (λ list. StandKids src st at list kids) (same_list st id _ _ attrs attrs' h.0 k.0 h.1 k.1) h.2) k.2)
+        (same_head st id _ _ _ _ attrs attrs' h.0 k.0 h.1 k.1)
+        (same_attrs st id _ _ _ _ attrs attrs' h.0 k.0 h.1 k.1)
+        (kids_once at k.0 kids kids' (subst (λ list. StandKids src st at list kids) (same_list st id _ _ _ _ attrs attrs' h.0 k.0 h.1 k.1) h.2) k.2)
 
     kids_once : (at : ℕ) (list : List Kid) (one other : Kids) → StandKids src st at list one → StandKids src st at list other → one ≡ other
     kids_once at [] no_kids no_kids h k = refl

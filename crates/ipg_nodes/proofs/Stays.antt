@@ -18,18 +18,20 @@ get_grown : {A : Type 0} (xs ys : List A) (n : ℕ) (a : A) → (rest : List A) 
 get_grown xs ys n a more e = subst (λ zs. slice_get zs n ≡ Some a) more.1 (get_more xs more.0 n a e)
 
 module _ (src : Source) (st more : Stored) (grows : Grows st more) where
-  node_stays : (id : RunId) (head : Head) (attrs : List (ℕ × ℤ)) (list : List Kid) → HasNode st id head attrs list → HasNode more id head attrs list
-  node_stays id head attrs list has = record {
+  node_stays : (id : RunId) (head : Head) (levels : ℕ) (attrs : List (ℕ × ℤ)) (list : List Kid) → HasNode st id head levels attrs list
+      → HasNode more id head levels attrs list
+  node_stays id head levels attrs list has = record {
     node = has.node;
     is_node = get_grown st.nodes more.nodes id.place _ grows.nodes has.is_node;
     is_head = has.is_head;
+    are_levels = has.are_levels;
     are_attrs = get_grown st.attrs more.attrs has.node.attrs.place _ grows.attrs has.are_attrs;
     are_kids = get_grown st.kids more.kids has.node.kids.place _ grows.kids has.are_kids;
   }
 
   mutual
     tree_stays : (at : ℕ) (id : RunId) (one : Tree) → StandsTree src st at id one → StandsTree src more at id one
-    tree_stays at id (tree.Node rule size attrs start end kids) h = (h.0, node_stays id _ attrs h.0 h.1, kids_stay_in at h.0 kids h.2)
+    tree_stays at id (tree.Node rule size attrs start end kids) h = (h.0, node_stays id _ _ attrs h.0 h.1, kids_stay_in at h.0 kids h.2)
 
     kids_stay_in : (at : ℕ) (list : List Kid) (ones : Kids) → StandKids src st at list ones → StandKids src more at list ones
     kids_stay_in at [] no_kids h = tt

@@ -1,5 +1,5 @@
 -- What a store of nodes holds, and which tree of the meaning stands at a place of it.
-use Rattle.std.specs.Prelude.{◌≡◌, ℕ, ◌+◌, ◌≤◌, List, [], ◌∷◌, ◌++◌, take, length, slice_get, Some, ℤ}
+use Rattle.std.specs.Prelude.{◌≡◌, ℕ, ◌+◌, ◌≤◌, List, [], ◌∷◌, ◌++◌, take, length, max, slice_get, Some, ℤ}
 use Rattle.ipg_core.specs.declared.grammar.Sym.{Sym}
 use Rattle.ipg_core.specs.declared.grammar.Sym.TheVariants.{Text}
 use Rattle.ipg_core.specs.Part.{part}
@@ -26,9 +26,9 @@ abbrev pub with_list : Stored → List Kid → Stored
 with_list st list = record st { kids = st.kids ++ list ∷ [] }
 
 -- one node more, with its attributes and its children
-abbrev pub with_node : Stored → Head → List (ℕ × ℤ) → List Kid → Stored
-with_node st head attrs kids = record {
-  nodes = st.nodes ++ (record { head = head; attrs = record { place = length st.attrs }; kids = record { place = length st.kids } } ∷ []) ∷ [];
+abbrev pub with_node : Stored → Head → ℕ → List (ℕ × ℤ) → List Kid → Stored
+with_node st head levels attrs kids = record {
+  nodes = st.nodes ++ (record { head = head; levels = levels; attrs = record { place = length st.attrs }; kids = record { place = length st.kids } } ∷ []) ∷ [];
   kids = st.kids ++ kids ∷ [];
   attrs = st.attrs ++ attrs ∷ [];
 }
@@ -56,11 +56,29 @@ pub record Source : Type 0 where
   pub syms : List Sym
   pub input : List ℕ
 
--- the node at a place has this head, these attributes and these children
-pub record HasNode (st : Stored) (id : RunId) (head : Head) (attrs : List (ℕ × ℤ)) (list : List Kid) : Type 0 where
+-- how many lists of children and of items lie within one another at most in a tree, in a child, in children
+abbrev mutual
+  pub tree_levels : Tree → ℕ
+  tree_levels (tree.Node rule size attrs start end kids) = kids_levels kids + 1
+
+  pub kid_levels : tree.Kid → ℕ
+  kid_levels (tree.Sub from to sub) = tree_levels sub
+  kid_levels (tree.Token from to bytes) = 0
+  kid_levels (tree.Number from to prim high low) = 0
+  kid_levels (tree.Raw from to bytes) = 0
+  kid_levels (tree.Array one items) = kids_levels items + 1
+  kid_levels (tree.Many one items) = kids_levels items + 1
+
+  pub kids_levels : Kids → ℕ
+  kids_levels no_kids = 0
+  kids_levels (kid one more) = max (kid_levels one) (kids_levels more)
+
+-- the node at a place has this head, room for these levels, these attributes and these children
+pub record HasNode (st : Stored) (id : RunId) (head : Head) (levels : ℕ) (attrs : List (ℕ × ℤ)) (list : List Kid) : Type 0 where
   pub node : Node
   pub is_node : slice_get st.nodes id.place ≡ Some (node ∷ [])
   pub is_head : node.head ≡ head
+  pub are_levels : levels ≤ node.levels
   pub are_attrs : slice_get st.attrs node.attrs.place ≡ Some attrs
   pub are_kids : slice_get st.kids node.kids.place ≡ Some list
 
@@ -68,7 +86,8 @@ abbrev mutual
   -- the tree stands at a node whose part begins at the place `at` of the input
   pub StandsTree : Source → Stored → ℕ → RunId → Tree → Type 0
   StandsTree src st at id (tree.Node rule size attrs start end kids) =
-      (list : List Kid) × HasNode st id (record { rule = rule; size = size; start = start; end = end }) attrs list × StandKids src st at list kids
+      (list : List Kid) × HasNode st id (record { rule = rule; size = size; start = start; end = end }) (kids_levels kids + 1) attrs list
+      × StandKids src st at list kids
 
   -- the child stands in a row, in a part that begins there
   pub StandsKid : Source → Stored → ℕ → Kid → tree.Kid → Type 0

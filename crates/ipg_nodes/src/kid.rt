@@ -51,10 +51,12 @@ pub struct Head {
     pub end: u32,
 }
 
-/// A node, with the places of its attributes and of its children.
+/// A node, with the places of its attributes and of its children. At most `levels` lists of children and of items lie
+/// within one another in it.
 #[derive(Clone, Copy, Debug, PartialEq, Eq)]
 pub struct Node {
     pub head: Head,
+    pub levels: u32,
     pub attrs: RunId,
     pub kids: RunId,
 }

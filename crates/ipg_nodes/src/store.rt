@@ -1,7 +1,7 @@
 //! A store of nodes.
 
-ghost use Rattle.std.specs.Prelude.{◌≡◌, ◌≤◌, ℕ, ℤ, List, ◌∷◌, [], length, slice_get, None, Some, IfOk, OnOk, OnErr};
-ghost use Rattle.ipg_nodes.specs.Stored.{nothing, with_list, with_node, before, IsMark, IsEnd};
+ghost use Rattle.std.specs.Prelude.{◌≡◌, ◌≤◌, ℕ, ℤ, List, ◌∷◌, [], length, take, slice_get, None, Some, IfOk, OnOk, OnErr};
+ghost use Rattle.ipg_nodes.specs.Stored.{nothing, with_list, with_node, before, IsEnd};
 
 use crate::kid::{Head, Kid, Node};
 use ipg_region::{Region, RunId};
@@ -45,6 +45,15 @@ fn count(rows: usize) -> Result<u32, AllocError>
     }
 }
 
+/// Takes the runs from a place on away, if there are any.
+fn cut_to<T: Copy, A: Allocator + Clone + Drop>(region: &mut Region<T, A>, to: RunId)
+    ensures { region.new.runs ≡ take to.place region.old.runs }
+{
+    if to.place < region.mark().place {
+        region.cut(to);
+    }
+}
+
 impl<A: Allocator + Clone + Drop> Store<A> {
     /// A store without nodes.
     pub fn new(alloc: A) -> Result<Store<A>, AllocError>
@@ -69,12 +78,11 @@ impl<A: Allocator + Clone + Drop> Store<A> {
 
     /// Takes what was stored behind the mark away.
     pub fn cut(&mut self, mark: Mark)
-        requires { IsMark self.old mark }
         ensures { self.new ≡ before self.old mark }
     {
-        self.nodes.cut(mark.nodes);
-        self.kids.cut(mark.kids);
-        self.attrs.cut(mark.attrs);
+        cut_to(&mut self.nodes, mark.nodes);
+        cut_to(&mut self.kids, mark.kids);
+        cut_to(&mut self.attrs, mark.attrs);
     }
 
     /// Stores a list of children or items, and gives its place.
@@ -86,15 +94,16 @@ impl<A: Allocator + Clone + Drop> Store<A> {
         self.kids.place(kids)
     }
 
-    /// Stores a node with its attributes and children, and gives its place. Where memory runs out nothing is stored.
+    /// Stores a node with its levels, attributes and children, and gives its place. Where memory runs out nothing is stored.
     pub fn add_node(
         &mut self,
         head: Head,
+        levels: u32,
         attrs: &[(u32, i64)],
         kids: &[Kid],
     ) -> Result<RunId, AllocError>
         ensures id { IfOk result (λ id. id.place ≡ length self.old.nodes) }
-        ensures stored { OnOk result (self.new ≡ with_node self.old head attrs.now kids.now) }
+        ensures stored { OnOk result (self.new ≡ with_node self.old head levels attrs.now kids.now) }
         ensures err { OnErr result (self.new ≡ self.old) }
     {
         self.attrs.reserve(1, count(attrs.len())?)?;
@@ -102,7 +111,12 @@ impl<A: Allocator + Clone + Drop> Store<A> {
         self.nodes.reserve(1, 1)?;
         let attrs = self.attrs.place(attrs)?;
         let kids = self.kids.place(kids)?;
-        self.nodes.place(&[Node { head, attrs, kids }])
+        self.nodes.place(&[Node {
+            head,
+            levels,
+            attrs,
+            kids,
+        }])
     }
 
     /// The node at a place; None where there is none.

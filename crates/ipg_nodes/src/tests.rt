@@ -20,12 +20,13 @@ fn stores_reads_and_cuts<A: Allocator + Clone + Drop>(
         start: 0,
         end: 2,
     };
-    let id = store.add_node(head, &[(7, -1)], &[array])?;
+    let id = store.add_node(head, 2, &[(7, -1)], &[array])?;
     let Some(node) = store.node(id) else {
         assert!(rt; false, "the node is there");
         return Ok(());
     };
     assert_eq!(rt; node.head, head);
+    assert_eq!(rt; node.levels, 2);
     assert!(rt; store.attrs(node.attrs) == [(7, -1)].as_slice());
     assert!(rt; store.kids(node.kids) == [array].as_slice());
     assert!(rt; store.kids(items) == [raw, raw].as_slice());
