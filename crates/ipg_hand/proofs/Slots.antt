@@ -28,11 +28,11 @@ pub bind_range : {A : Type 0} (run : Run ℤ) (go : ℤ → Run A) → run ≡ v
 unfolding stop ◌>>=◌ after go_on
 bind_range run go e = ap (λ r. r >>= go) e
 
-bind_some : {A B : Type 0} (opt : Option A) (a : A) (go : A → Run B) → opt ≡ Some a → (some_of opt >>= go) ≡ go a
+pub bind_some : {A B : Type 0} (opt : Option A) (a : A) (go : A → Run B) → opt ≡ Some a → (some_of opt >>= go) ≡ go a
 unfolding finish ◌>>=◌ after go_on
 bind_some opt a go e = ap (λ o. some_of o >>= go) e
 
-bind_none : {A B : Type 0} (opt : Option A) (go : A → Run B) → opt ≡ None → (some_of opt >>= go) ≡ stop NoTree
+pub bind_none : {A B : Type 0} (opt : Option A) (go : A → Run B) → opt ≡ None → (some_of opt >>= go) ≡ stop NoTree
 unfolding stop ◌>>=◌ after go_on
 bind_none opt go e = ap (λ o. some_of o >>= go) e
 

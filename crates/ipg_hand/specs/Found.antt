@@ -1,11 +1,12 @@
 -- What a slot comes to, as rows say it: a child, a call that is to be made, or none.
-use Rattle.std.specs.Prelude.{◌≡◌, ℕ, ◌+◌, ◌≤◌, List, [], ◌∷◌, length, Option, ℤ, FitsSigned}
+use Rattle.std.specs.Prelude.{◌≡◌, ℕ, ◌+◌, ◌≤◌, List, [], ◌∷◌, length, Option, ℤ, FitsSigned, false}
 use Rattle.std.specs.Int.{w64}
 use Rattle.ipg_num.specs.declared.op.Answer.{Answer}
 use Rattle.ipg_num.specs.declared.op.Answer.TheVariants.{Val, Fail, Range}
 use Rattle.ipg_core.specs.Grammar.{rule_at, holder_of}
 use Rattle.ipg_core.specs.Part.{part, interval}
 use Rattle.ipg_core.specs.Tree as tree
+use Rattle.ipg_core.specs.Within.{KidWithin}
 use Rattle.ipg_core.specs.declared.grammar.CoreSlot.{CoreSlot}
 use Rattle.ipg_core.specs.Environment.{Values}
 use Rattle.ipg_core.specs.Run.{NoTree, OutOfRange, Asked, Run, finish, stop, some_of, ◌>>=◌}
@@ -13,6 +14,7 @@ use Rattle.ipg_core.specs.Meaning.{Frame, Place, State, outer_for, value_in, sym
 use Rattle.ipg_moves.specs.Moves.{silent}
 use Rattle.ipg_nodes.specs.declared.kid.Kid.{Kid}
 use Rattle.ipg_nodes.specs.Stored.{Stored, Source, StandsKid}
+use Rattle.ipg_fields.specs.Flat.{has_items}
 use Rattle.ipg_table.specs.Rows.{Rows}
 use Rattle.ipg_hand.specs.declared.found.Found.{Found}
 use Rattle.ipg_hand.specs.declared.found.Found.TheVariants as found
@@ -27,25 +29,29 @@ pub record Shares (src : Source) (at : ℕ) (f : Frame) (t : Rows) (bytes : List
   pub part : f.bytes ≡ bytes
   pub lies : LiesAt src.input at bytes
 
--- the run makes one call, of this rule on this interval, with the holder's attributes that are due
-pub record Calls (f : Frame) (own : Values) (rule from to : ℕ) (run : Run tree.Kid) : Type 0 where
+-- one call is made, of this rule on this interval of the part, with the holder's attributes that are due
+pub record Calls (f : Frame) (own : Values) (rule from to : ℕ) (asked : List Asked) : Type 0 where
   pub ask : Asked
-  pub asked : run.asked ≡ ask ∷ []
+  pub is_asked : asked ≡ ask ∷ []
   pub is_rule : ask.callee ≡ rule
   pub is_from : ask.from ≡ from
   pub is_to : ask.to ≡ to
   pub is_outer : ask.outer ≡ outer_for f own (holder_of (rule_at f.grammar rule))
+  pub valid : from ≤ to
+  pub inside : to ≤ length f.bytes
 
--- the run makes no call, and its child stands in a row
-pub record Gives (src : Source) (st : Stored) (at : ℕ) (k : Kid) (run : Run tree.Kid) : Type 0 where
+-- the run makes no call, and its child, which lies in a part of n bytes and is no array and no repetition, stands in a row
+pub record Gives (src : Source) (st : Stored) (at n : ℕ) (k : Kid) (run : Run tree.Kid) : Type 0 where
   pub one : tree.Kid
   pub is : run ≡ finish one
   pub stands : StandsKid src st at k one
+  pub within : KidWithin n one
+  pub single : has_items one ≡ false
 
 -- what was found is what the run comes to
 abbrev pub IsFound : Source → Stored → ℕ → Frame → Values → Found → Run tree.Kid → Type 0
-IsFound src st at f own (found.Kid k) run = Gives src st at k run
-IsFound src st at f own (found.Call rule from to) run = Calls f own rule from to run
+IsFound src st at f own (found.Kid k) run = Gives src st at (length f.bytes) k run
+IsFound src st at f own (found.Call rule from to) run = Calls f own rule from to run.asked
 IsFound src st at f own found.NoTree run = run ≡ stop NoTree
 IsFound src st at f own found.Range run = run ≡ stop OutOfRange
 

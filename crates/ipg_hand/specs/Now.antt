@@ -7,17 +7,19 @@ use Rattle.ipg_core.specs.Environment as core
 use Rattle.ipg_core.specs.Environment.{Environment}
 use Rattle.ipg_core.specs.Within.{KidWithin, KidsWithin}
 use Rattle.ipg_nodes.specs.Stored.{Stored, Source, StandsKid, StandKids}
+use Rattle.ipg_fields.specs.Flat.{AreItems}
 use Rattle.ipg_table.specs.Rows.{Rows, Each, StandFor}
 use Rattle.ipg_nodes.specs.declared.kid.Kid.{Kid}
 use Rattle.ipg_hand.specs.declared.now.Now as now
 use Rattle.ipg_hand.specs.declared.now.Done.{Done}
 use Rattle.ipg_hand.specs.declared.now.Running.{Running}
 
--- the result of a term, which lies in a part of n bytes
+-- the result of a term, which lies in a part of n bytes; its items are no arrays and no repetitions
 pub record IsDone (src : Source) (st : Stored) (at n : ℕ) (row : Done) (done : core.Done) : Type 0 where
   pub switch : row.is_switch ≡ done.is_switch
   pub stands : StandsKid src st at row.kid done.kid
   pub within : KidWithin n done.kid
+  pub flat : AreItems (tree.items_of done.kid)
 
 abbrev pub IsResult : Source → Stored → ℕ → ℕ → Option Done → Option core.Done → Type 0
 IsResult src st at n None None = Unit {0}

@@ -90,7 +90,8 @@ pub fn slot<R: Results>(site: &Site<'_>, results: &R, row: SlotRow, area: &mut [
     }
 }
 
-fn is_zero(value: i64) -> bool
+/// Whether a condition doesn't hold.
+pub fn is_zero(value: i64) -> bool
     ensures { result ≡ zero value }
 {
     value == 0

@@ -35,6 +35,7 @@ pub struct Running<'m> {
 }
 
 /// An open call on a part of `size` bytes: its attributes so far, its holder's, and the results of its terms by number.
+#[derive(Drop)]
 pub struct Now<'m, A: Allocator> {
     pub tables: &'m Tables,
     pub store: &'m Store<A>,

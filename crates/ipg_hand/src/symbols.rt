@@ -6,6 +6,7 @@ ghost use Rattle.ipg_core.specs.declared.grammar.Sym.{Sym};
 ghost use Rattle.ipg_core.specs.declared.grammar.Sym.TheVariants.{Text, Prim, Rule};
 ghost use Rattle.ipg_core.specs.Part as part;
 ghost use Rattle.ipg_core.specs.Touch.{width as wide};
+ghost use Rattle.ipg_core.specs.Within.{IsInterval};
 ghost use Rattle.ipg_core.specs.Environment.{Values};
 ghost use Rattle.ipg_core.specs.Meaning as spec;
 ghost use Rattle.ipg_core.specs.Meaning.{Frame, Place};
@@ -20,7 +21,7 @@ use ipg_nodes::Kid;
 use ipg_table::tables::Tables;
 
 /// The ends of an interval as places, where it is valid.
-pub(crate) fn interval(size: u32, from: i64, to: i64) -> Option<(u32, u32)>
+pub fn interval(size: u32, from: i64, to: i64) -> Option<(u32, u32)>
     ensures valid { result ≡ part.interval size from to }
     ensures inside { IfSome result (λ ends. (ends.0 ≤ ends.1) × (ends.1 ≤ size)) }
 {
@@ -108,7 +109,7 @@ fn halves(prim: Primitive, bytes: &[u8]) -> (u32, u32)
 /// A terminal, the symbol of that number, where the bytes begin with it.
 #[tactic(auto, unfolding(ipg_core::specs::Meaning::token_on, ipg_core::specs::Run::finish, ipg_core::specs::Run::stop))]
 fn token(sym: u32, ends: (u32, u32), bytes: &[u8], token: &[u8]) -> Found
-    ensures { (src : Source) (st : Stored) (at : ℕ) (f : Frame) (own : Values) → slice_get src.syms sym ≡ Some (Text token.now) → IsFound src st at f own result (spec.token_on ends.0 ends.1 bytes.now token.now) }
+    ensures { (src : Source) (st : Stored) (at : ℕ) (f : Frame) (own : Values) → slice_get src.syms sym ≡ Some (Text token.now) → IsInterval (length f.bytes) ends.0 ends.1 → length bytes.now ≡ ends.1 - ends.0 → IsFound src st at f own result (spec.token_on ends.0 ends.1 bytes.now token.now) }
 {
     if bytes.starts_with(token) {
         Found::Kid(Kid::Text {
@@ -124,7 +125,7 @@ fn token(sym: u32, ends: (u32, u32), bytes: &[u8], token: &[u8]) -> Found
 /// A number, where there are enough bytes.
 #[tactic(auto, unfolding(ipg_core::specs::Meaning::number_on, ipg_core::specs::Run::finish, ipg_core::specs::Run::stop))]
 fn number(prim: Primitive, ends: (u32, u32), bytes: &[u8]) -> Found
-    ensures { (src : Source) (st : Stored) (at : ℕ) (f : Frame) (own : Values) → IsFound src st at f own result (spec.number_on ends.0 ends.1 bytes.now prim) }
+    ensures { (src : Source) (st : Stored) (at : ℕ) (f : Frame) (own : Values) → IsInterval (length f.bytes) ends.0 ends.1 → length bytes.now ≡ ends.1 - ends.0 → IsFound src st at f own result (spec.number_on ends.0 ends.1 bytes.now prim) }
 {
     if bytes.len() < width(prim) as usize {
         return Found::NoTree;
@@ -142,7 +143,7 @@ fn number(prim: Primitive, ends: (u32, u32), bytes: &[u8]) -> Found
 /// A number, or all the bytes unread.
 #[tactic(auto, unfolding(ipg_core::specs::Run::finish))]
 fn primitive(prim: Primitive, ends: (u32, u32), bytes: &[u8]) -> Found
-    ensures { (src : Source) (st : Stored) (at : ℕ) (f : Frame) (own : Values) → part.part src.input (at + ends.0) (at + ends.1) ≡ bytes.now → IsFound src st at f own result (spec.primitive_on ends.0 ends.1 bytes.now prim) }
+    ensures { (src : Source) (st : Stored) (at : ℕ) (f : Frame) (own : Values) → part.part src.input (at + ends.0) (at + ends.1) ≡ bytes.now → IsInterval (length f.bytes) ends.0 ends.1 → length bytes.now ≡ ends.1 - ends.0 → IsFound src st at f own result (spec.primitive_on ends.0 ends.1 bytes.now prim) }
 {
     match prim {
         Primitive::Bytes => Found::Kid(Kid::Raw {
@@ -162,7 +163,7 @@ fn primitive(prim: Primitive, ends: (u32, u32), bytes: &[u8]) -> Found
 /// A call that is to be made.
 #[tactic(auto, using(crate::proofs::Calling::rule_calls))]
 fn call(rule: u32, ends: (u32, u32)) -> Found
-    ensures { (src : Source) (st : Stored) (at : ℕ) (f : Frame) (place : Place) (own : Values) → IsFound src st at f own result (spec.symbol_on silent f place own ends.0 ends.1 (Rule rule)) }
+    ensures { (src : Source) (st : Stored) (at : ℕ) (f : Frame) (place : Place) (own : Values) → IsInterval (length f.bytes) ends.0 ends.1 → IsFound src st at f own result (spec.symbol_on silent f place own ends.0 ends.1 (Rule rule)) }
 {
     Found::Call {
         rule,
