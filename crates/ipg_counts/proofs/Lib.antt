@@ -1,0 +1,13 @@
+pub mod Follows
+pub mod Plain
+pub mod Once
+pub mod Stays
+pub mod Settled
+pub mod Alone
+pub mod Parts
+pub mod Heights
+pub mod Grown
+pub mod Least
+pub mod Landed
+pub mod Shared
+pub mod Whole

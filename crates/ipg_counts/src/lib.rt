@@ -1,0 +1,4 @@
+//! What the counts of an open evaluation come to.
+#![tactic(auto)]
+
+pub mod laws;
