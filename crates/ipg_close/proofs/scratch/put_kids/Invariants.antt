@@ -1,0 +1,7 @@
+use Rattle.std.proofs.Common.{◌≡◌, ◌++◌, drop}
+use Rattle.ipg_close.specs.Kept.{rows_done}
+use Rattle.ipg_close.proofs.scratch.put_kids.Given as goal
+
+-- so far, and what is left
+abbrev pub invariant-loop-result : goal.invariant-loop-result
+invariant-loop-result g l = l.kids.items ++ rows_done (drop l.result-index l.done) ≡ rows_done l.done

@@ -1,0 +1,78 @@
+//! The node of a call whose terms have all run.
+
+ghost use Rattle.std.specs.Prelude.{◌≡◌, ℕ, List, min, IfOk, OnOk, OnErr};
+ghost use Rattle.ipg_core.specs.declared.grammar.CoreTerm.{CoreTerm};
+ghost use Rattle.ipg_core.specs.Within.{KidsWithin, TreeWithin};
+ghost use Rattle.ipg_core.specs.Meaning.{Frame, State, node_of};
+ghost use Rattle.ipg_nodes.specs.Stored.{Source, StandsTree};
+ghost use Rattle.ipg_nodes.specs.Laws.{Grows};
+ghost use Rattle.ipg_fields.specs.Flat.{AreFlat};
+ghost use Rattle.ipg_fields.specs.Standing.{OfKids};
+ghost use Rattle.ipg_close.specs.Closes.{Closes, head_of};
+
+use crate::laws::grows_on;
+use crate::levels::levels_over;
+use crate::scratch::{Scratch, put_attrs, put_kids};
+use ipg_fields::touched;
+use ipg_hand::Done;
+use ipg_nodes::laws::kids_stay;
+use ipg_nodes::{Head, Kid, RunId, Store};
+use ipg_table::tables::Tables;
+use std::alloc::{AllocError, Allocator};
+
+/// An alternative whose terms have all run, on a part of `size` bytes: the attributes that it sets in text order, those
+/// with their values, and the results of its terms.
+#[derive(Clone, Copy)]
+pub struct Closing<'m> {
+    pub rule: u32,
+    pub size: u32,
+    pub sets: &'m [u32],
+    pub own: &'m [(u32, i64)],
+    pub done: &'m [Option<Done>],
+}
+
+/// A place, as one of a part of so many bytes.
+fn within(place: u64, size: u32) -> u32
+    ensures { result ≡ min place size }
+{
+    place.min(u64::from(size)) as u32
+}
+
+/// The head of the node of these children.
+fn head<A: Allocator + Clone + Drop>(
+    tables: &Tables,
+    store: &Store<A>,
+    kids: &[Kid],
+    call: &Closing<'_>,
+) -> Head
+    ensures { OfKids tables.now store.now kids.now (λ ones. AreFlat ones → KidsWithin call.now.size ones → result ≡ head_of call.now.rule call.now.size ones) }
+{
+    let ends = touched(store, tables, kids, call.size);
+    Head {
+        rule: call.rule,
+        size: call.size,
+        start: within(ends.start, call.size),
+        end: within(ends.end, call.size),
+    }
+}
+
+/// The node of an alternative whose terms have all run, stored.
+pub fn close<A: Allocator + Clone + Drop>(
+    tables: &Tables,
+    store: &mut Store<A>,
+    scratch: &mut Scratch<A>,
+    call: &Closing<'_>,
+) -> Result<RunId, AllocError>
+    ensures tree { IfOk result (λ id. (src : Source) (at : ℕ) (f : Frame) (terms : List CoreTerm) (state : State) → Closes src store.old at tables.now call.now f terms state → StandsTree src store.new at id (node_of f terms state) × TreeWithin call.now.size (node_of f terms state)) }
+    ensures grows { OnOk result (Grows store.old store.new) }
+    ensures err { OnErr result (store.new ≡ store.old) }
+{
+    grows_on();
+    kids_stay();
+    put_attrs(&mut scratch.attrs, call.sets, call.own)?;
+    put_kids(&mut scratch.kids, call.done)?;
+    let kids = scratch.kids.as_slice();
+    let head = head(tables, store, kids, call);
+    let levels = levels_over(store, kids)?;
+    store.add_node(head, levels, scratch.attrs.as_slice(), kids)
+}
