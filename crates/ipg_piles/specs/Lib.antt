@@ -1,0 +1,2 @@
+-- what open calls have come to, one call's on top of another's
+pub mod Piled
