@@ -1,0 +1,58 @@
+-- What a walk has left to visit, by its levels.
+use Rattle.std.specs.Prelude.{◌≡◌, ℕ, ◌+◌, ◌*◌, ◌^◌, ◌<◌, ◌≤◌, List, [], ◌∷◌, ◌++◌, drop, length, slice_get, Option, Some, None}
+use Rattle.ipg_core.specs.Tree as tree
+use Rattle.ipg_core.specs.Tree.{Kids, no_kids}
+use Rattle.ipg_nodes.specs.declared.kid.Kid.{Kid}
+use Rattle.ipg_nodes.specs.Stored.{Stored, Source, StandsKid, StandKids, kid_levels, kids_levels}
+use Rattle.ipg_parsed.specs.declared.stack.Level.{Level}
+use Rattle.ipg_parsed.specs.declared.walk.Visit.{Visit}
+use Rattle.ipg_parsed.specs.declared.walk.Taken.{Taken}
+use Rattle.ipg_parsed.specs.Visits.{Seen, kids_visits, kids_in, place_in, from_of, to_of}
+
+-- the visit says what was seen
+pub record Shows (src : Source) (st : Stored) (visit : Visit) (one : Seen) : Type 0 where
+  pub depth : visit.depth ≡ one.depth
+  pub from : visit.from ≡ one.at + from_of one.child
+  pub to : visit.to ≡ one.at + to_of one.child
+  -- each place of its part is a number of 64 bits
+  pub small : visit.from + 2 ^ 32 ≤ 2 ^ 64
+  pub stands : StandsKid src st one.at visit.kid one.child
+
+-- these are what the level has left
+pub record Holds (src : Source) (st : Stored) (level : Level) (kids : Kids) : Type 0 where
+  pub rows : List Kid
+  pub are_rows : slice_get st.kids level.list.place ≡ Some rows
+  pub stand : StandKids src st level.at (drop level.next rows) kids
+
+-- the row is the next in the level, and the rest is what the level is behind it
+pub record Takes (st : Stored) (level : Level) (taken : Taken) : Type 0 where
+  pub next : (rows : List Kid) → slice_get st.kids level.list.place ≡ Some rows → slice_get rows level.next ≡ Some taken.kid
+  pub rest : taken.rest ≡ record level { next = level.next + 1 }
+  pub counts : level.next + 1 < 2 ^ 64
+
+abbrev pub TakesIf : Stored → Level → Option Taken → Type 0
+TakesIf st level None = (rows : List Kid) → slice_get st.kids level.list.place ≡ Some rows → slice_get rows level.next ≡ None
+TakesIf st level (Some taken) = Takes st level taken
+
+-- these are what a level has left that has so many around it, and in the room there is a level for each list in them
+pub record IsOpen (src : Source) (st : Stored) (room around : ℕ) (level : Level) (kids : Kids) : Type 0 where
+  pub holds : Holds src st level kids
+  pub fits : around + 1 + kids_levels kids ≤ room
+  pub near : level.at ≤ around * 2 ^ 32
+
+-- the levels have these visits left, those of the innermost first
+abbrev pub Leave : Source → Stored → ℕ → List Level → List Seen → Type 0
+Leave src st room [] left = left ≡ []
+Leave src st room (level ∷ around) left =
+    (kids : Kids) × (more : List Seen) × IsOpen src st room (length around) level kids × Leave src st room around more
+    × (kids_visits (length around + 1) level.at kids ++ more ≡ left)
+
+-- the level of what lies in a child of a part that begins at `at`
+pub record Enters (src : Source) (st : Stored) (level : Level) (at : ℕ) (one : tree.Kid) : Type 0 where
+  pub place : level.at ≡ place_in at one
+  pub holds : Holds src st level (kids_in one)
+  pub deeper : kids_levels (kids_in one) + 1 ≤ kid_levels one
+
+abbrev pub EntersIf : Source → Stored → Option Level → ℕ → tree.Kid → Type 0
+EntersIf src st None at one = kids_in one ≡ no_kids
+EntersIf src st (Some level) at one = Enters src st level at one

@@ -1,0 +1,10 @@
+-- what a walk over a tree visits
+pub mod Visits
+-- the levels of a walk, and the room for them
+pub mod Stack
+-- what a walk has left to visit
+pub mod Left
+-- how often it can go on at most
+pub mod Steps
+-- a parsed tree, and a walk over it
+pub mod Parse

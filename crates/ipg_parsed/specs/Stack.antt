@@ -1,0 +1,17 @@
+-- The levels of a walk, and the room for them.
+use Rattle.std.specs.Prelude.{ℕ, ◌<◌, ◌≤◌, ◌^◌, List, reverse, vec_capacity}
+use Rattle.ipg_parsed.specs.declared.stack.Level.{Level}
+use Rattle.ipg_parsed.specs.declared.stack.Stack.TheInside.{Inside}
+
+-- the levels, the innermost first, and how many there may be
+pub record Stacked : Type 0 where
+  pub levels : List Level
+  pub room : ℕ
+
+module _ {A : Type 0} where
+  abbrev pub stacked : Inside A → Stacked
+  stacked s = record { levels = reverse s.levels.items; room = s.room }
+
+  -- there is memory for the room
+  abbrev pub IsRoomy : Inside A → Type 0
+  IsRoomy s = (s.room ≤ vec_capacity s.levels) × (s.room < 2 ^ 32)

@@ -1,0 +1,12 @@
+//! A parsed tree: what is asked of it, and a walk over it.
+#![tactic(auto)]
+
+mod bytes;
+mod parsed;
+mod stack;
+#[cfg(test)]
+mod tests;
+mod walk;
+
+pub use parsed::{Counts, Ends, Parsed};
+pub use walk::Visit;
