@@ -1,0 +1,77 @@
+-- The lines of a tree are those of its visits, and a walk over it gives them one by one.
+use Rattle.std.proofs.Common.{◌≡◌, ℕ, ◌+◌, List, [], ◌∷◌, ◌++◌, map, length, refl, sym, ap, ◌∙◌, subst, Option, Some, None, add-one, flat_map}
+use Rattle.std.specs.Prelude.{codes}
+use Rattle.std.proofs.lemmas.List.{map-append, length-map}
+use Rattle.ipg_core.specs.Grammar.{Grammar}
+use Rattle.ipg_core.specs.Lines.{items_line, tree_lines, kid_lines, kids_lines, lines}
+use Rattle.ipg_core.specs.Tree as tree
+use Rattle.ipg_core.specs.Tree.{Tree, Kids, no_kids, kid, count_of}
+use Rattle.ipg_nodes.specs.declared.kid.Kid.{Kid}
+use Rattle.ipg_nodes.specs.Stored.{Stored, Source, StandKids}
+use Rattle.ipg_parsed.specs.declared.walk.Visit.{Visit}
+use Rattle.ipg_parsed.specs.Visits.{Seen, kid_visits, kids_visits, visits}
+use Rattle.ipg_parsed.specs.Left.{Shows}
+use Rattle.ipg_parsed.specs.Parse.{Walked, Left}
+use Rattle.ipg_outside.specs.Sink.{Output}
+use Rattle.ipg_tree.proofs.Putting.{Progress, begun}
+use Rattle.ipg_tree.specs.Line.{line_of, lines_of, head_line}
+
+module _ (g : Grammar) where
+  mutual
+    kid_seen : (depth at : ℕ) (k : tree.Kid) → kid_lines g depth at k ≡ map (line_of g) (kid_visits depth at k)
+    kid_seen depth at (tree.Sub from to (tree.Node rule size attrs start end kids)) =
+        ap (λ ls. head_line g depth (at + from) (tree.Node rule size attrs start end kids) ∷ ls) (kids_seen (depth + 1) (at + from) kids)
+    kid_seen depth at (tree.Token from to bytes) = refl
+    kid_seen depth at (tree.Number from to prim high low) = refl
+    kid_seen depth at (tree.Raw from to bytes) = refl
+    kid_seen depth at (tree.Array sym items) = ap (λ ls. items_line g depth (codes "for") sym items ∷ ls) (kids_seen (depth + 1) at items)
+    kid_seen depth at (tree.Many sym items) = ap (λ ls. items_line g depth (codes "many") sym items ∷ ls) (kids_seen (depth + 1) at items)
+
+    kids_seen : (depth at : ℕ) (ks : Kids) → kids_lines g depth at ks ≡ map (line_of g) (kids_visits depth at ks)
+    kids_seen depth at no_kids = refl
+    kids_seen depth at (kid k ks) =
+        ap (λ ls. ls ++ kids_lines g depth at ks) (kid_seen depth at k) ∙ ap (λ ls. map (line_of g) (kid_visits depth at k) ++ ls) (kids_seen depth at ks)
+        ∙ sym (map-append (line_of g) (kid_visits depth at k) (kids_visits depth at ks))
+
+  all_seen : (one : Tree) → tree_lines g 0 0 one ≡ map (line_of g) (visits one)
+  all_seen (tree.Node rule size attrs start end kids) = kid_seen 0 0 (tree.Sub 0 size (tree.Node rule size attrs start end kids))
+
+  flat_of : (seen : List Seen) → flat_map (λ l. l) (map (line_of g) seen) ≡ lines_of g seen
+  flat_of [] = refl
+  flat_of (one ∷ seen) = ap (λ t. line_of g one ++ t) (flat_of seen)
+
+  all_lines : (one : Tree) → lines g one 0 ≡ lines_of g (visits one)
+  all_lines one = ap (flat_map (λ l. l)) (all_seen one) ∙ flat_of (visits one)
+
+  pub starts : (one : Tree) (a : Option Output) (m : ℕ) → Progress (lines g one 0) (lines_of g (visits one)) a m a m
+  starts one a m = subst (λ t. Progress (lines g one 0) t a m a m) (all_lines one) (begun (lines g one 0) a m)
+
+  pub count_lines : (one : Tree) → length (tree_lines g 0 0 one) ≡ length (visits one)
+  count_lines one = ap length (all_seen one) ∙ length-map (visits one) (line_of g)
+
+-- what was left began with the visit
+pub record Began (src : Source) (p next : Walked) (visit : Visit) (left : List Seen) : Type 0 where
+  pub first : Seen
+  pub more : List Seen
+  pub is : left ≡ first ∷ more
+  pub shows : Shows src p.parse.store visit first
+  pub behind : Left src next more
+
+pub began : (src : Source) (p next : Walked) (visit : Visit) (left : List Seen) → (Left src p [] → Some visit ≡ None)
+    → ((one : Seen) (more : List Seen) → Left src p (one ∷ more) → Shows src p.parse.store visit one × Left src next more)
+    → Left src p left → Began src p next visit left
+began src p next visit [] end go h = let no = end h in absurd (cc)
+began src p next visit (one ∷ more) end go h = let both = go one more h in record { first = one; more = more; is = refl; shows = both.0; behind = both.1 }
+
+-- where no visit comes nothing was left
+pub ended_at : (src : Source) (p next : Walked) (left : List Seen) → ((one : Seen) (more : List Seen) → Left src p (one ∷ more) → ⊥ × Left src next more)
+    → Left src p left → left ≡ []
+ended_at src p next [] go h = refl
+ended_at src p next (one ∷ more) go h = absurd (go one more h).0
+
+-- there are as many rows as children
+pub count_rows : (src : Source) (st : Stored) (at : ℕ) (rows : List Kid) (kids : Kids) → StandKids src st at rows kids → length rows ≡ count_of kids
+count_rows src st at [] no_kids h = refl
+count_rows src st at (row ∷ rows) (kid one kids) h = sym (add-one (length rows)) ∙ ap (λ n. n + 1) (count_rows src st at rows kids h.1)
+count_rows src st at [] (kid one kids) h = absurd h
+count_rows src st at (row ∷ rows) no_kids h = absurd h

@@ -1,0 +1,8 @@
+-- a text that was put into a sink
+pub mod Puts
+-- the words of a line
+pub mod Words
+-- what a printed tree is printed by and from
+pub mod Shares
+-- the line of each visit
+pub mod Line

@@ -1,0 +1,26 @@
+-- The line of each visit of a tree.
+use Rattle.std.specs.Prelude.{ℕ, ◌+◌, List, [], ◌∷◌, flat_map, codes}
+use Rattle.ipg_core.specs.Grammar.{Grammar}
+use Rattle.ipg_core.specs.Lines.{node_line, leaf_line, items_line, hex, short_hex, primitive_name, number_words}
+use Rattle.ipg_core.specs.Tree.{Tree, Node, Kid, Sub, Token, Number, Raw, Array, Many}
+use Rattle.ipg_parsed.specs.Visits.{Seen}
+
+-- the line of a tree alone, whose part begins at `at`
+abbrev pub head_line : Grammar → ℕ → ℕ → Tree → List ℕ
+head_line g depth at (Node rule size attrs start end kids) = node_line g depth at rule size start end attrs
+
+-- the line of a child alone
+abbrev pub child_line : Grammar → ℕ → ℕ → Kid → List ℕ
+child_line g depth at (Sub from to sub) = head_line g depth (at + from) sub
+child_line g depth at (Token from to bytes) = leaf_line depth at (codes "tok") from to (hex bytes ∷ [])
+child_line g depth at (Number from to prim high low) = leaf_line depth at (primitive_name prim) from to (number_words prim high low)
+child_line g depth at (Raw from to bytes) = leaf_line depth at (codes "Bytes") from to (short_hex bytes ∷ [])
+child_line g depth at (Array sym items) = items_line g depth (codes "for") sym items
+child_line g depth at (Many sym items) = items_line g depth (codes "many") sym items
+
+abbrev pub line_of : Grammar → Seen → List ℕ
+line_of g one = child_line g one.depth one.at one.child
+
+-- the lines of visits, one after another
+abbrev pub lines_of : Grammar → List Seen → List ℕ
+lines_of g seen = flat_map (line_of g) seen

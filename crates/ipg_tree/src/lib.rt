@@ -1,0 +1,12 @@
+//! The printed tree: a line for each visit of a walk, written without memory.
+#![tactic(auto)]
+
+mod leaf;
+mod line;
+mod names;
+mod printing;
+#[cfg(test)]
+mod tests;
+mod words;
+
+pub use printing::{lines, print};

@@ -1,0 +1,43 @@
+use crate::leaf::{put_leaf, put_value};
+use crate::words::Word;
+use ipg_core::grammar::Primitive;
+use ipg_nodes::Kid;
+use ipg_outside::{MemSink, SinkFault};
+use ipg_parsed::Visit;
+use std::test::Fail;
+
+fn at(depth: u64, from: u64, to: u64) -> Visit {
+    Visit {
+        depth,
+        from,
+        to,
+        kid: Kid::Raw { from: 0, to: 0 },
+    }
+}
+
+#[test]
+fn lines_of_leaves(rt: HostRuntime) -> Result<(), Fail> {
+    let mut out = MemSink::new(rt.alloc(), 1 << 10, &[])?;
+    let bytes = [0xabu8; 33];
+    let wrote = [
+        put_leaf(&mut out, at(3, 1, 3), b"tok", Word::Bytes(b"\x00\xff")),
+        put_leaf(&mut out, at(1, 9, 9), b"Bytes", Word::Start(b"")),
+        put_leaf(&mut out, at(2, 0, 33), b"Bytes", Word::Start(&bytes)),
+        put_value(&mut out, at(1, 0, 8), Primitive::U64LE, 1, 2),
+        put_value(&mut out, at(12, 8, 9), Primitive::U8, 0, 255),
+    ];
+    assert_eq!(rt; wrote, [Ok(()); 5]);
+    let want =
+        b"3 tok 1 3 00ff\n1 Bytes 9 9 -\n2 Bytes 0 33 abababababababababababababababababababababababababababababababab+1\n1 U64LE 0 8 hi=1 lo=2\n12 U8 8 9 val=255\n";
+    assert_eq!(rt; out.bytes(), want.as_slice());
+    Ok(())
+}
+
+#[test]
+fn a_write_fails_in_mid_line(rt: HostRuntime) -> Result<(), Fail> {
+    let mut out = MemSink::new(rt.alloc(), 1 << 10, &[3])?;
+    let wrote = put_leaf(&mut out, at(3, 1, 3), b"tok", Word::Bytes(b"\x00\xff"));
+    assert_eq!(rt; wrote, Err(SinkFault::Failed));
+    assert_eq!(rt; out.bytes(), b"3 tok ".as_slice());
+    Ok(())
+}
