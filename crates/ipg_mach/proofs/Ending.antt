@@ -1,0 +1,35 @@
+-- Moves one after another, and what they end with.
+use Rattle.std.proofs.Common.{◌≡◌, ℕ, zero, suc, refl, sym, subst, Option, Some, None, Result, List}
+use Rattle.ipg_core.specs.Grammar.{Grammar}
+use Rattle.ipg_core.specs.Tree.{Tree}
+use Rattle.ipg_core.specs.Run.{Stop}
+use Rattle.ipg_moves.specs.Moves.{Evaluation, moves, move, ended}
+use Rattle.ipg_moves.specs.Laws.{AreRight}
+use Rattle.ipg_nodes.specs.Stored.{Source}
+use Rattle.ipg_mach.specs.declared.machine.Remember.{Remember}
+use Rattle.ipg_mach.specs.declared.machine.Remember.TheVariants.{Nothing, Answers}
+use Rattle.ipg_mach.specs.declared.machine.Turn.TheVariants.{Done}
+use Rattle.ipg_mach.specs.Outcome.{Ends}
+use Rattle.ipg_mach.specs.Stage.{Stage, IsAt}
+use Rattle.ipg_mach.specs.Turning.{known_at, turn_of}
+
+pub one_more : (n : ℕ) (e : Evaluation) → moves (suc n) e ≡ move (moves n e)
+unfolding moves
+one_more zero e = refl
+one_more (suc n) e = one_more n (move e)
+
+done_by : (ends : Option (Result Tree Stop)) → Done ≡ turn_of ends → (answer : Result Tree Stop) × (ends ≡ Some answer)
+done_by None e = absurd (cc)
+done_by (Some answer) e = (answer, refl)
+
+-- one move more, with which it has ended
+pub done : (src : Source) (s : Stage) (e : Evaluation) (n : ℕ) → IsAt src s (move (moves n e)) → Done ≡ turn_of (ended (move (moves n e))) → Ends src s e
+done src s e n at turn =
+    let one = done_by (ended (move (moves n e))) turn in
+    let same = sym (one_more n e) in
+    record { moved = suc n; answer = one.0; at = subst (IsAt src s) same at; ends = subst (λ x. ended x ≡ Some one.0) same one.1 }
+
+-- nothing that is remembered at first is wrong
+pub knows_nothing : (g : Grammar) (s : List ℕ) (remember : Remember) → AreRight g s (known_at remember)
+knows_nothing g s Nothing = tt
+knows_nothing g s Answers = tt

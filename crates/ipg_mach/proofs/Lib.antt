@@ -1,0 +1,10 @@
+pub mod Rows
+pub mod Stores
+pub mod Working
+pub mod Waiting
+pub mod Answered
+pub mod Reading
+pub mod Stepping
+pub mod Knowing
+pub mod Remembering
+pub mod Ending

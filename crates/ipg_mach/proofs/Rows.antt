@@ -1,0 +1,99 @@
+-- Rows that stand one by one for what an open call has left.
+use Rattle.std.proofs.Common.{◌≡◌, ℕ, zero, suc, ◌-◌, ◌≤◌, arith, inl, inr, take, refl, sym, ap, ◌∙◌, subst, List, [], ◌∷◌, ◌++◌, drop, length, Some, None}
+use Rattle.std.specs.Prelude.{slice_get, slice_set}
+use Rattle.std.proofs.lemmas.Bool.{cases_lt}
+use Rattle.std.proofs.lemmas.List.{take-append-drop, take-append-le, drop-append-le, length-drop}
+use Rattle.ipg_piles.specs.Piled.{between}
+use Rattle.ipg_core.specs.declared.grammar.CoreTerm.{CoreTerm}
+use Rattle.ipg_table.specs.declared.row.Instr.{Instr}
+use Rattle.ipg_core.specs.declared.grammar.CoreRule.{CoreRule}
+use Rattle.ipg_moves.specs.Moves.{alts_of}
+use Rattle.ipg_table.specs.declared.row.RuleRow.{RuleRow}
+use Rattle.ipg_table.specs.Rows.{Rows, Each, HoldsInstr, HoldsAlt, HoldsRule, rows_at}
+use Rattle.ipg_mach.specs.Calls.{term_at_hand}
+
+pub first_term : (t : Rows) (terms : List CoreTerm) (rows : List Instr) (left : List ℕ) (instr : Instr) → Each (HoldsInstr t terms) rows left
+    → slice_get rows 0 ≡ Some instr → instr.term ≡ term_at_hand left
+first_term t terms [] left instr each e = absurd (cc)
+first_term t terms (row ∷ rows) [] instr each e = absurd each
+first_term t terms (row ∷ rows) (u ∷ left) instr each e =
+    let is : row ≡ instr = cc in ap (λ (i : Instr). i.term) (sym is) ∙ each.0.number
+
+pub no_term : (t : Rows) (terms : List CoreTerm) (rows : List Instr) (left : List ℕ) → Each (HoldsInstr t terms) rows left
+    → slice_get rows 0 ≡ None → 0 ≡ term_at_hand left
+no_term t terms [] [] each e = refl
+no_term t terms [] (u ∷ left) each e = absurd each
+no_term t terms (row ∷ rows) left each e = absurd (cc)
+
+pub each_drop : {A B : Type 0} (R : A → B → Type 0) (xs : List A) (ys : List B) → Each R xs ys → Each R (drop 1 xs) (drop 1 ys)
+each_drop R [] [] each = tt
+each_drop R (x ∷ xs) (y ∷ ys) each = each.1
+each_drop R [] (y ∷ ys) each = absurd each
+each_drop R (x ∷ xs) [] each = absurd each
+
+pub none_left : {A B : Type 0} (R : A → B → Type 0) (xs : List A) (ys : List B) → Each R xs ys → slice_get xs 0 ≡ None → ys ≡ []
+none_left R [] [] each e = refl
+none_left R [] (y ∷ ys) each e = absurd each
+none_left R (x ∷ xs) ys each e = absurd (cc)
+
+pub some_left : {A B : Type 0} (R : A → B → Type 0) (xs : List A) (ys : List B) (x : A) → Each R xs ys → slice_get xs 0 ≡ Some x
+    → (y : B) × R x y × (ys ≡ y ∷ drop 1 ys)
+some_left R [] ys x each e = absurd (cc)
+some_left R (x' ∷ xs) [] x each e = absurd each
+some_left R (x' ∷ xs) (y ∷ ys) x each e =
+    let is : x' ≡ x = cc in (y, subst (λ r. R r y) is each.0, refl)
+
+pub set_length : {A : Type 0} (xs : List A) (n : ℕ) (x : A) → length (slice_set xs n x) ≡ length xs
+set_length [] n x = refl
+set_length (y ∷ xs) zero x = refl
+set_length (y ∷ xs) (suc n) x = ap suc (set_length xs n x)
+
+-- ---- alternatives of a rule
+
+module _ (t : Rows) where
+  pub alts_there : (rows : List RuleRow) (rules : List CoreRule) (n : ℕ) (row : RuleRow) → Each (HoldsRule t) rows rules → slice_get rows n ≡ Some row
+      → Each (HoldsAlt t) (rows_at t.alts row.alts) (alts_of (slice_get rules n))
+  alts_there [] [] n row each e = absurd (cc)
+  alts_there (r ∷ rows) (rule ∷ rules) zero row each e =
+      let is : r ≡ row = cc in subst (λ (x : RuleRow). Each (HoldsAlt t) (rows_at t.alts x.alts) rule.alts) is each.0.alts.each
+  alts_there (r ∷ rows) (rule ∷ rules) (suc n) row each e = alts_there rows rules n row each.1 e
+  alts_there [] (rule ∷ rules) n row each e = absurd each
+  alts_there (r ∷ rows) [] n row each e = absurd each
+
+  pub alts_past : (rows : List RuleRow) (rules : List CoreRule) (n : ℕ) → Each (HoldsRule t) rows rules → slice_get rows n ≡ None
+      → Each (HoldsAlt t) [] (alts_of (slice_get rules n))
+  alts_past [] [] n each e = tt
+  alts_past (r ∷ rows) (rule ∷ rules) zero each e = absurd (cc)
+  alts_past (r ∷ rows) (rule ∷ rules) (suc n) each e = alts_past rows rules n each.1 e
+  alts_past [] (rule ∷ rules) n each e = absurd each
+  alts_past (r ∷ rows) [] n each e = absurd each
+
+-- the last of a list and those before it are each one
+pub last_same : {A : Type 0} (xs ys : List A) (x y : A) → xs ++ x ∷ [] ≡ ys ++ y ∷ [] → (xs ≡ ys) × (x ≡ y)
+last_same [] [] x y e = (refl, cc)
+last_same [] (b ∷ []) x y e = absurd (cc)
+last_same [] (b ∷ c ∷ ys) x y e = absurd (cc)
+last_same (a ∷ []) [] x y e = absurd (cc)
+last_same (a ∷ c ∷ xs) [] x y e = absurd (cc)
+last_same (a ∷ xs) (b ∷ ys) x y e =
+    let head : a ≡ b = cc in
+    let tail : xs ++ x ∷ [] ≡ ys ++ y ∷ [] = cc in
+    let same = last_same xs ys x y tail in
+    (ap (λ z. z ∷ xs) head ∙ ap (λ zs. b ∷ zs) same.0, same.1)
+
+-- what lies between two places of the first rows lies there in all
+module _ {A : Type 0} (xs : List A) (b from to : ℕ) (inside : to ≤ length (take b xs)) where
+  nothing_between : (ys zs : List A) → to ≤ from → between ys from to ≡ between zs from to
+  nothing_between ys zs h = let none : to - from ≡ 0 = omega arith in
+      ap (λ n. take n (drop from ys)) none ∙ sym (ap (λ n. take n (drop from zs)) none)
+
+  rows_between : from ≤ to → between (take b xs) from to ≡ between xs from to
+  rows_between h =
+      let first = take b xs in
+      let dropped = length-drop from first in
+      sym (ap (λ ys. between ys from to) (sym (take-append-drop b xs))
+      ∙ ap (take (to - from)) (drop-append-le from first (drop b xs) (omega arith))
+      ∙ take-append-le (to - from) (drop from first) (drop b xs) (omega arith))
+
+  pub between_below : between (take b xs) from to ≡ between xs from to
+  between_below = elim (cases_lt from to) [ inl h ↦ rows_between (omega arith) | inr h ↦ nothing_between (take b xs) xs (omega arith) ]

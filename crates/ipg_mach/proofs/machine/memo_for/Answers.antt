@@ -1,0 +1,12 @@
+use Rattle.std.proofs.Common.{sym, ap, ◌∙◌, subst, Some, None}
+use Rattle.std.specs.FinMap as map
+use Rattle.ipg_memo.specs.Keyed.{key_cmp, Entries}
+use Rattle.ipg_mach.specs.Known.{IsKnown, IsEntryOf}
+use Rattle.ipg_mach.specs.Turning.{known_at}
+use Rattle.ipg_mach.proofs.machine.memo_for.Goals as goal
+
+pub returns-in-Answers : goal.returns-in-Answers
+returns-in-Answers g c src st =
+    subst (λ remember. IsKnown src st (Some c.new.result) (known_at remember)) (sym c.in-Answers.is)
+    (λ key. subst (λ found. IsEntryOf src st key found None)
+    (sym (ap (λ (m : Entries). map.get m key) c.new.ensures ∙ map.get-empty key_cmp key)) tt)

@@ -1,0 +1,13 @@
+use Rattle.std.proofs.Common.{◌≡◌, ℕ}
+use Rattle.ipg_moves.specs.Moves.{Evaluation, moves}
+use Rattle.ipg_nodes.specs.Stored.{Source}
+use Rattle.ipg_mach.specs.Stage.{staged, IsAt}
+use Rattle.ipg_mach.proofs.parsing.run.Given as goal
+
+abbrev pub invariant-loop-left : goal.invariant-loop-left
+invariant-loop-left g l =
+    ((src : Source) (e : Evaluation) → IsAt src (staged l.fn.machine.work) e → (n : ℕ) × IsAt src (staged l.machine.work) (moves n e))
+    × (l.machine.tables ≡ l.fn.machine.tables) × (l.machine.input ≡ l.fn.machine.input)
+
+abbrev pub decreases-loop-left : goal.decreases-loop-left
+decreases-loop-left g l = l.left

@@ -1,0 +1,29 @@
+use Rattle.std.proofs.Common.{refl, sym, ◌∙◌, subst, Ok}
+use Rattle.ipg_core.specs.Within.{TreeWithin}
+use Rattle.ipg_core.specs.Meaning.{node_of}
+use Rattle.ipg_hand.specs.Now.{AreResults}
+use Rattle.ipg_mach.specs.declared.frame.Held.TheVariants.{Node}
+use Rattle.ipg_mach.specs.Calls.{shown, size_of}
+use Rattle.ipg_mach.proofs.Working as working
+use Rattle.ipg_mach.proofs.top.Top.close.Goals as goal
+
+pub returns-clause-holds : goal.returns-clause-holds
+returns-clause-holds g c src frames lower items call work =
+    let t = c.args.tables.now in
+    let s = shown c.args.self.now in
+    let grown = working.grown t src s frames lower items call work c.results_stay.ensures c.items_stay.ensures c.close.new.store c.in_ok-id.ensures.grows in
+    let one = node_of call.frame call.terms call.state in
+    let size = c.size.ensures in
+    let tree = c.in_ok-id.ensures.tree src s.frame.from call.frame call.terms call.state (record {
+      syms = work.is_open.call.syms;
+      rule = work.is_open.call.rule;
+      size = working.part_size t src s.frame _ call.frame call.from work.is_open.call ∙ sym size;
+      sets = work.is_open.sets;
+      own = work.is_open.attrs ∙ sym c.own.ensures;
+      done = subst (λ n. AreResults src s.store s.frame.from n c.done.result.now call.state.done) (sym size)
+          (subst (λ rows. AreResults src s.store s.frame.from (size_of s.frame) rows call.state.done) (sym c.done.ensures) work.is_open.done);
+    }) in
+    working.holds_so t src (record s { store = c.close.new.store }) frames lower call.frame call.from
+    (working.ready_of t src (record s { store = c.close.new.store }) frames lower items call grown)
+    (shown c.hold.new.self) (Node c.in_ok-id.id) (Ok one) (c.hold.ensures.shown work.base)
+    (one, refl, tree.0, subst (λ n. TreeWithin n one) size tree.1)

@@ -1,0 +1,12 @@
+-- open calls as frames hold them
+pub mod Calls
+-- what is known of calls
+pub mod Known
+-- what has been counted
+pub mod Counted
+-- the machine as an open evaluation
+pub mod Stage
+-- what a machine remembers at first, and whether it goes on
+pub mod Turning
+-- what a parse comes to
+pub mod Outcome

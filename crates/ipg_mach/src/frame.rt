@@ -1,0 +1,48 @@
+//! Frames of open calls.
+
+use ipg_advance::Entry;
+use ipg_nodes::{Mark, RunId};
+use ipg_piles::Bases;
+use ipg_table::row::{AltRow, Instr};
+
+/// Where the attributes of a call's holder stand in the pile of attributes.
+#[derive(Clone, Copy, Debug, PartialEq, Eq)]
+pub struct Outer {
+    pub from: usize,
+    pub to: usize,
+}
+
+/// An open call: its rule and the number of its alternative, its interval of the input, the alternatives after this one,
+/// the attributes that this one sets in text order, its instructions left, and where what it comes to begins.
+#[derive(Clone, Copy)]
+pub struct Frame<'m> {
+    pub rule: u32,
+    pub alt: u32,
+    pub from: u32,
+    pub to: u32,
+    pub alts: &'m [AltRow],
+    pub sets: &'m [u32],
+    pub left: &'m [Instr],
+    pub entry: Entry,
+    pub outer: Outer,
+    pub base: Bases,
+    /// The end of the store when the call was made.
+    pub mark: Mark,
+}
+
+/// The answer that a call holds.
+#[derive(Clone, Copy, Debug, PartialEq, Eq)]
+pub enum Held {
+    Node(RunId),
+    NoTree,
+    Range,
+}
+
+/// A call that is to be made: of a rule, on an interval of the input, with its holder's attributes.
+#[derive(Clone, Copy, Debug, PartialEq, Eq)]
+pub struct NewCall {
+    pub rule: u32,
+    pub from: u32,
+    pub to: u32,
+    pub outer: Outer,
+}

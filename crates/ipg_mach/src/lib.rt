@@ -1,0 +1,18 @@
+//! The machine: the open evaluation of a grammar on rows, move by move.
+#![tactic(auto)]
+
+mod calls;
+mod counted;
+mod frame;
+mod known;
+mod lent;
+mod machine;
+mod parsing;
+mod reader;
+mod remembered;
+mod top;
+mod work;
+
+pub use ipg_parsed::{Counts, Parsed};
+pub use machine::{Machine, Remember, Turn};
+pub use parsing::{Outcome, parse};

@@ -1,0 +1,206 @@
+//! The machine, step by step.
+
+ghost use Rattle.std.specs.Prelude.{◌≡◌, ◌≤◌, ◌+◌, ◌^◌, [], ℕ, List, length, Result, IfOk, IsErr, OnErr, Some, true};
+ghost use Rattle.ipg_core.specs.Grammar.{Grammar};
+ghost use Rattle.ipg_core.specs.Tree.{Tree};
+ghost use Rattle.ipg_core.specs.Run.{Stop};
+ghost use Rattle.ipg_moves.specs.Moves.{Evaluation, opening, opened, move, ended};
+ghost use Rattle.ipg_nodes.specs.Stored.{Stored, Source, IsMark};
+ghost use Rattle.ipg_table.specs.Rows.{StandFor};
+ghost use Rattle.ipg_mach.specs.Calls.{shown, IsHighest};
+ghost use Rattle.ipg_mach.specs.Known.{IsKnown};
+ghost use Rattle.ipg_mach.specs.Outcome.{IsOutcome};
+ghost use Rattle.ipg_mach.specs.Stage.{staged, source, IsAt};
+ghost use Rattle.ipg_mach.specs.Turning.{known_at, turn_of};
+
+use crate::counted;
+use crate::frame::{Frame, NewCall, Outer};
+use crate::parsing::{Outcome, end_with};
+use crate::reader::Reader;
+use crate::top::Top;
+use crate::work::Work;
+use ipg_advance::Entry;
+use ipg_close::Scratch;
+use ipg_memo::Memo;
+use ipg_nodes::{Mark, Store};
+use ipg_piles::{Bases, Piles};
+use ipg_table::tables::Tables;
+use std::alloc::{AllocError, Allocator};
+
+/// What is remembered of calls.
+#[derive(Clone, Copy, Debug, PartialEq, Eq)]
+pub enum Remember {
+    Nothing,
+    /// The answers of global rules.
+    Answers,
+}
+
+/// Whether the evaluation goes on.
+#[derive(Clone, Copy, Debug, PartialEq, Eq)]
+pub enum Turn {
+    More,
+    Done,
+}
+
+/// So many zeros.
+fn numbers<A: Allocator>(alloc: A, count: u32) -> Result<Vec<i64, A>, AllocError>
+    ensures { IfOk result (λ numbers. length numbers.items ≡ count) }
+{
+    let mut numbers = Vec::with_capacity(alloc, count as usize)?;
+    for _ in 0..count {
+        numbers.push(0)?;
+    }
+    Ok(numbers)
+}
+
+/// A memo without entries, where answers are remembered.
+fn memo_for<A: Allocator + Clone + Drop>(alloc: A, remember: Remember) -> Option<Memo<A>>
+    ensures { (src : Source) (st : Stored) → IsKnown src st result (known_at remember) }
+{
+    match remember {
+        Remember::Nothing => None,
+        Remember::Answers => Some(Memo::new(alloc)),
+    }
+}
+
+/// The start of the input, before a call is made.
+fn nowhere<'m>(mark: Mark) -> Frame<'m> {
+    Frame {
+        rule: 0,
+        alt: 0,
+        from: 0,
+        to: 0,
+        alts: &[],
+        sets: &[],
+        left: &[],
+        entry: Entry::Outside,
+        outer: Outer { from: 0, to: 0 },
+        base: Bases {
+            done: 0,
+            own: 0,
+            items: 0,
+        },
+        mark,
+    }
+}
+
+/// The first rule, called on the whole input.
+fn first_call<'m, A: Allocator + Clone + Drop>(
+    alloc: A,
+    tables: &'m Tables,
+    size: u32,
+) -> Result<Top<'m, A>, AllocError>
+    ensures { IfOk result (λ top. (g : Grammar) (input : List ℕ) → StandFor tables.now g → length input ≡ size → IsHighest tables.now (source tables.now input) (shown top) [] [] (opened g 0 input 0 []) × IsMark top.store top.floor) }
+{
+    let store = Store::new(alloc.clone()?)?;
+    let mark = store.mark();
+    let mut top = Top {
+        store,
+        piles: Piles::new(alloc.clone()?)?,
+        scratch: Scratch::new(alloc)?,
+        frame: nowhere(mark),
+        answer: None,
+        floor: mark,
+    };
+    top.open(
+        tables,
+        NewCall {
+            rule: 0,
+            from: 0,
+            to: size,
+            outer: Outer { from: 0, to: 0 },
+        },
+    )?;
+    Ok(top)
+}
+
+/// An open evaluation of the first rule of a grammar on an input.
+#[derive(Drop)]
+pub struct Machine<'m, A: Allocator> {
+    pub work: Work<'m, A>,
+    pub tables: &'m Tables,
+    pub input: &'m [u8],
+    pub alloc: A,
+    /// Memory ran out in the midst of a move.
+    pub is_spoiled: bool,
+}
+
+impl<'m, A: Allocator + Clone + Drop> Machine<'m, A> {
+    /// The first rule is called on the whole input, and its first alternative begins.
+    pub fn new(
+        alloc: A,
+        tables: &'m Tables,
+        input: &'m [u8],
+        remember: Remember,
+    ) -> Result<Machine<'m, A>, AllocError>
+        requires { length input.now ≤ 2 ^ 30 }
+        ensures given { IfOk result (λ machine. (machine.tables.now ≡ tables.now) × (machine.input.now ≡ input.now)) }
+        ensures opened { IfOk result (λ machine. (g : Grammar) → StandFor tables.now g → IsAt (source tables.now input.now) (staged machine.work) (opening g input.now (known_at remember))) }
+    {
+        let numbers = numbers(alloc.clone()?, tables.depth())?;
+        let top = first_call(alloc.clone()?, tables, input.len() as u32)?;
+        let work = Work {
+            reader: Reader {
+                tables,
+                input,
+                numbers,
+            },
+            top,
+            frames: Vec::new(alloc.clone()?),
+            memo: memo_for(alloc.clone()?, remember),
+            counts: counted::opening(),
+        };
+        Ok(Machine {
+            work,
+            tables,
+            input,
+            alloc,
+            is_spoiled: false,
+        })
+    }
+
+    /// One move. Where memory runs out, every later step answers so.
+    pub fn step(&mut self) -> Result<Turn, AllocError>
+        ensures moved { (src : Source) (e : Evaluation) → IsAt src (staged self.old.work) e → IfOk result (λ turn. IsAt src (staged self.new.work) (move e) × (turn ≡ turn_of (ended (move e)))) }
+        ensures tables { self.new.tables ≡ self.old.tables }
+        ensures input { self.new.input ≡ self.old.input }
+        ensures spoiled { OnErr result (self.new.is_spoiled ≡ true) }
+        ensures stays { self.old.is_spoiled ≡ true → IsErr result }
+    {
+        if self.is_spoiled {
+            return Err(AllocError);
+        }
+        match self.work.step() {
+            Ok(()) => Ok(self.work.turn()),
+            Err(fault) => {
+                self.is_spoiled = true;
+                Err(fault)
+            }
+        }
+    }
+
+    /// How many calls are open.
+    pub fn frames(&self) -> u64
+        ensures { (src : Source) (e : Evaluation) → IsAt src (staged self.now.work) e → result ≡ length e.lower + 1 }
+    {
+        self.work.frames.len() as u64 + 1
+    }
+
+    /// What the evaluation has come to, once it has ended. The room for a walk over the tree is taken here.
+    pub fn finish(self) -> Result<Outcome<'m, A>, AllocError>
+        ensures { IfOk result (λ outcome. (e : Evaluation) (answer : Result Tree Stop) → IsAt (source self.entry.tables.now self.entry.input.now) (staged self.entry.work) e → ended e ≡ Some answer → IsOutcome self.entry.tables.now self.entry.input.now outcome answer e.tally) }
+    {
+        let Machine {
+            work,
+            tables,
+            input,
+            alloc,
+            ..
+        } = self;
+        let Work { top, counts, .. } = work;
+        match top.answer {
+            Some(held) => end_with(alloc, tables, input, top.store, held, counts),
+            None => Err(AllocError),
+        }
+    }
+}

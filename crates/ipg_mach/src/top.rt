@@ -1,0 +1,280 @@
+//! The highest call.
+
+ghost use Rattle.std.specs.Prelude.{◌≡◌, ℕ, ◌+◌, ◌++◌, ◌∷◌, [], ◌-◌, drop, max, false, List, Result, IfOk, OnOk, Some, slice_get, Ok};
+ghost use Rattle.ipg_core.specs.declared.grammar.CoreAlt.{CoreAlt};
+ghost use Rattle.ipg_core.specs.declared.grammar.CoreTerm.{CoreTerm};
+ghost use Rattle.ipg_core.specs.declared.grammar.Sym.{Sym};
+ghost use Rattle.ipg_core.specs.Tree as tree;
+ghost use Rattle.ipg_core.specs.Tree.{kids_of};
+ghost use Rattle.ipg_core.specs.Environment as core;
+ghost use Rattle.ipg_core.specs.Run.{Stop};
+ghost use Rattle.ipg_core.specs.Meaning as meaning;
+ghost use Rattle.ipg_core.specs.Meaning.{node_of, with_kid, with_value};
+ghost use Rattle.ipg_moves.specs.Moves as moves;
+ghost use Rattle.ipg_moves.specs.Moves.{OpenCall, turned, begins, runs_on, key_at};
+ghost use Rattle.ipg_nodes.specs.Stored.{Source, IsMark};
+ghost use Rattle.ipg_table.specs.Rows.{Rows, Each, HoldsAlt, HoldsInstr};
+ghost use Rattle.ipg_advance.specs.Advance.{IsAdvance, IsItem};
+ghost use Rattle.ipg_hand.specs.Now.{IsDone};
+ghost use Rattle.ipg_piles.specs.Piled.{IsBase, below};
+ghost use Rattle.ipg_advance.specs.declared.entry.Entry.TheVariants.{Outside};
+ghost use Rattle.ipg_mach.specs.Calls.{shown, IsAtWork, IsWorking, IsHolding, IsHighest, IsReady, Keeps, items_in, term_at_hand};
+ghost use Rattle.ipg_mach.specs.Calls as calls;
+ghost use Rattle.ipg_mach.specs.declared.frame.Frame.{Frame};
+
+use crate::frame::{Frame, Held};
+use crate::lent::{behind_first, first};
+use ipg_advance::{Advance, Entry};
+use ipg_close::laws::{
+    before_before, items_stay, none_has_run, one_more, result_set, results_stay,
+};
+use ipg_close::{Closing, Scratch, array, close, repetition};
+use ipg_hand::Done;
+use ipg_nodes::{Kid, Mark, RunId, Store};
+use ipg_piles::Piles;
+use ipg_table::row::{AltRow, Instr};
+use ipg_table::tables::Tables;
+use std::alloc::{AllocError, Allocator};
+
+/// The highest call, with what all open calls have come to and the nodes stored so far. What was stored before `floor`
+/// is kept for the memo.
+#[derive(Drop)]
+pub struct Top<'m, A: Allocator> {
+    pub store: Store<A>,
+    pub piles: Piles<A>,
+    pub scratch: Scratch<A>,
+    pub frame: Frame<'m>,
+    pub answer: Option<Held>,
+    pub floor: Mark,
+}
+
+/// The number of the first term; 0 where there is none.
+fn first_term(rows: &[Instr]) -> u32
+    ensures { (terms : List CoreTerm) (t : Rows) (left : List ℕ) → Each (HoldsInstr t terms) rows.now left → result ≡ term_at_hand left }
+{
+    match first(rows) {
+        Some(instr) => instr.term,
+        None => 0,
+    }
+}
+
+/// The later of two ends of a store.
+fn later(a: Mark, b: Mark) -> Mark
+    ensures nodes { result.nodes.place ≡ max a.nodes.place b.nodes.place }
+    ensures kids { result.kids.place ≡ max a.kids.place b.kids.place }
+    ensures attrs { result.attrs.place ≡ max a.attrs.place b.attrs.place }
+{
+    Mark {
+        nodes: RunId {
+            place: a.nodes.place.max(b.nodes.place),
+        },
+        kids: RunId {
+            place: a.kids.place.max(b.kids.place),
+        },
+        attrs: RunId {
+            place: a.attrs.place.max(b.attrs.place),
+        },
+    }
+}
+
+/// The length of a call's part.
+fn size(frame: &Frame<'_>) -> u32
+    ensures { result ≡ calls.size_of frame.now }
+{
+    frame.to.saturating_sub(frame.from)
+}
+
+/// The number of the next alternative; 2^32 count as want of memory.
+fn behind(alt: u32) -> Result<u32, AllocError>
+    ensures { IfOk result (λ next. next ≡ alt + 1) }
+{
+    match alt.checked_add(1) {
+        Some(next) => Ok(next),
+        None => Err(AllocError),
+    }
+}
+
+impl<'m, A: Allocator + Clone + Drop> Top<'m, A> {
+    /// An attribute has its value.
+    fn add_value(&mut self, tables: &Tables, attr: u32, value: i64) -> Result<(), AllocError>
+        ensures work { (src : Source) (frames : List Frame) (lower : List OpenCall) (items : List tree.Kid) (c : OpenCall) → IsAtWork tables.now src (shown self.old) frames lower items c → OnOk result (IsAtWork tables.now src (shown self.new) frames lower items (record c { state = with_value c.state attr value })) }
+        ensures keeps { IsMark self.old.store self.old.floor → OnOk result (Keeps (shown self.old) (shown self.new)) }
+    {
+        self.piles.add_own(attr, value)
+    }
+
+    /// The term at hand has its result.
+    fn set_result(&mut self, tables: &Tables, done: Done)
+        ensures work { (src : Source) (frames : List Frame) (lower : List OpenCall) (items : List tree.Kid) (c : OpenCall) (one : core.Done) → IsAtWork tables.now src (shown self.old) frames lower items c → IsDone src self.old.store self.old.frame.from (calls.size_of self.old.frame) done one → IsAtWork tables.now src (shown self.new) frames lower items (record c { state = with_kid c.state (term_at_hand c.left) one.is_switch one.kid }) }
+        ensures keeps { IsMark self.old.store self.old.floor → Keeps (shown self.old) (shown self.new) }
+    {
+        result_set();
+        self.piles
+            .set_done(self.frame.base, first_term(self.frame.left), done);
+    }
+
+    /// One item more.
+    fn add_item(&mut self, tables: &Tables, item: Kid) -> Result<(), AllocError>
+        ensures work { (src : Source) (frames : List Frame) (lower : List OpenCall) (items : List tree.Kid) (c : OpenCall) (one : tree.Kid) → IsAtWork tables.now src (shown self.old) frames lower items c → IsItem src self.old.store self.old.frame.from (calls.size_of self.old.frame) item one → OnOk result (IsAtWork tables.now src (shown self.new) frames lower (items ++ one ∷ []) c) }
+        ensures keeps { IsMark self.old.store self.old.floor → OnOk result (Keeps (shown self.old) (shown self.new)) }
+        ensures frame { self.new.frame ≡ self.old.frame }
+    {
+        one_more();
+        self.piles.add_item(item)
+    }
+
+    /// The items so far are the array of the term at hand.
+    fn set_array(&mut self, tables: &Tables, sym: u32) -> Result<(), AllocError>
+        ensures work { (src : Source) (frames : List Frame) (lower : List OpenCall) (items : List tree.Kid) (c : OpenCall) (one : Sym) → IsAtWork tables.now src (shown self.old) frames lower items c → slice_get src.syms sym ≡ Some one → OnOk result (IsAtWork tables.now src (shown self.new) frames lower items (record c { state = with_kid c.state (term_at_hand c.left) false (tree.Array one (kids_of items)) })) }
+        ensures keeps { IsMark self.old.store self.old.floor → OnOk result (Keeps (shown self.old) (shown self.new)) }
+    {
+        items_stay();
+        results_stay();
+        let done = array(&mut self.store, sym, self.piles.items(self.frame.base))?;
+        self.set_result(tables, done);
+        Ok(())
+    }
+
+    /// The items so far are the repetition of the term at hand.
+    fn set_repetition(&mut self, tables: &Tables, sym: u32) -> Result<(), AllocError>
+        ensures work { (src : Source) (frames : List Frame) (lower : List OpenCall) (items : List tree.Kid) (c : OpenCall) (one : Sym) → IsAtWork tables.now src (shown self.old) frames lower items c → slice_get src.syms sym ≡ Some one → OnOk result (IsAtWork tables.now src (shown self.new) frames lower items (record c { state = with_kid c.state (term_at_hand c.left) false (tree.Many one (kids_of items)) })) }
+        ensures keeps { IsMark self.old.store self.old.floor → OnOk result (Keeps (shown self.old) (shown self.new)) }
+    {
+        items_stay();
+        results_stay();
+        let done = repetition(&mut self.store, sym, self.piles.items(self.frame.base))?;
+        self.set_result(tables, done);
+        Ok(())
+    }
+
+    /// The call holds its answer.
+    fn hold(&mut self, held: Held)
+        ensures shown { IsBase self.old.piles self.old.frame.base → shown self.new ≡ record (shown self.old) { piles = below self.old.piles self.old.frame.base; answer = Some held } }
+        ensures store { self.new.store ≡ self.old.store }
+        ensures floor { self.new.floor ≡ self.old.floor }
+    {
+        self.piles.cut(self.frame.base);
+        self.answer = Some(held);
+    }
+
+    /// All terms have run: the call holds its node.
+    fn close(&mut self, tables: &Tables) -> Result<(), AllocError>
+        ensures holds { (src : Source) (frames : List Frame) (lower : List OpenCall) (items : List tree.Kid) (c : OpenCall) → IsAtWork tables.now src (shown self.old) frames lower items c → OnOk result (IsHolding tables.now src (shown self.new) frames lower (key_at c.frame c.from) (Ok (node_of c.frame c.terms c.state))) }
+        ensures keeps { IsMark self.old.store self.old.floor → OnOk result (Keeps (shown self.old) (shown self.new)) }
+    {
+        items_stay();
+        results_stay();
+        let base = self.frame.base;
+        let call = Closing {
+            rule: self.frame.rule,
+            size: size(&self.frame),
+            sets: self.frame.sets,
+            own: self.piles.own(base),
+            done: self.piles.done(base),
+        };
+        let id = close(tables, &mut self.store, &mut self.scratch, &call)?;
+        self.hold(Held::Node(id));
+        Ok(())
+    }
+
+    /// The terms left run, or the call is closed.
+    fn run_on(&mut self, tables: &Tables) -> Result<(), AllocError>
+        ensures highest { (src : Source) (frames : List Frame) (lower : List OpenCall) (c : OpenCall) → IsAtWork tables.now src (shown self.old) frames lower [] c → self.old.frame.entry ≡ Outside → OnOk result (IsHighest tables.now src (shown self.new) frames lower (runs_on c c.state c.left)) }
+        ensures keeps { IsMark self.old.store self.old.floor → OnOk result (Keeps (shown self.old) (shown self.new)) }
+    {
+        match first(self.frame.left) {
+            Some(_) => Ok(()),
+            None => self.close(tables),
+        }
+    }
+
+    /// The term at hand is past.
+    fn pass(&mut self, tables: &Tables) -> Result<(), AllocError>
+        ensures highest { (src : Source) (frames : List Frame) (lower : List OpenCall) (items : List tree.Kid) (c : OpenCall) → IsAtWork tables.now src (shown self.old) frames lower items c → OnOk result (IsHighest tables.now src (shown self.new) frames lower (runs_on c c.state (drop 1 c.left))) }
+        ensures keeps { IsMark self.old.store self.old.floor → OnOk result (Keeps (shown self.old) (shown self.new)) }
+    {
+        self.piles.clear_items(self.frame.base);
+        self.frame.left = behind_first(self.frame.left);
+        self.frame.entry = Entry::Outside;
+        self.run_on(tables)
+    }
+
+    /// The first of these alternatives begins; where there is none, the call holds that there is no tree.
+    pub fn begin(&mut self, tables: &'m Tables, alts: &'m [AltRow]) -> Result<(), AllocError>
+        ensures highest { (src : Source) (frames : List Frame) (lower : List OpenCall) (f : meaning.Frame) (from : ℕ) (those : List CoreAlt) → IsReady tables.now src (shown self.old) frames lower f from → Each (HoldsAlt tables.now) alts.now those → OnOk result (IsHighest tables.now src (shown self.new) frames lower (begins f from those)) }
+        ensures keeps { IsMark self.old.store self.old.floor → OnOk result (Keeps (shown self.old) (shown self.new)) }
+    {
+        match first(alts) {
+            Some(alt) => {
+                self.frame.alts = behind_first(alts);
+                self.frame.sets = tables.sets(&alt);
+                self.frame.left = tables.instrs(&alt);
+                self.frame.entry = Entry::Outside;
+                none_has_run();
+                self.piles.begin(self.frame.base, alt.terms)?;
+                self.run_on(tables)
+            }
+            None => {
+                self.hold(Held::NoTree);
+                Ok(())
+            }
+        }
+    }
+
+    /// The alternative has no tree: the next one begins.
+    fn begin_next(&mut self, tables: &'m Tables) -> Result<(), AllocError>
+        ensures highest { (src : Source) (frames : List Frame) (lower : List OpenCall) (items : List tree.Kid) (c : OpenCall) → IsMark self.old.store self.old.floor → IsAtWork tables.now src (shown self.old) frames lower items c → OnOk result (IsHighest tables.now src (shown self.new) frames lower (begins (record c.frame { alt = c.frame.alt + 1 }) c.from c.alts)) }
+        ensures keeps { IsMark self.old.store self.old.floor → IsMark self.old.store self.old.frame.mark → OnOk result (Keeps (shown self.old) (shown self.new)) }
+    {
+        self.frame.alt = behind(self.frame.alt)?;
+        before_before();
+        self.store.cut(later(self.frame.mark, self.floor));
+        let alts = self.frame.alts;
+        self.begin(tables, alts)
+    }
+
+    /// The term at hand has come to this: the call goes on, with its next alternative where there is no tree.
+    pub fn turned(&mut self, tables: &'m Tables, adv: Advance) -> Result<(), AllocError>
+        ensures highest { (src : Source) (frames : List Frame) (lower : List OpenCall) (c : OpenCall) (answer : Result moves.Advance Stop) → IsMark self.old.store self.old.floor → IsWorking tables.now src (shown self.old) frames lower c → IsAdvance src self.old.store self.old.frame.from (calls.size_of self.old.frame) (term_at_hand c.left) c.state (items_in c.entry) adv answer → OnOk result (IsHighest tables.now src (shown self.new) frames lower (turned c answer)) }
+        ensures keeps { IsMark self.old.store self.old.floor → IsMark self.old.store self.old.frame.mark → OnOk result (Keeps (shown self.old) (shown self.new)) }
+    {
+        match adv {
+            Advance::Value { attr, value } => {
+                self.add_value(tables, attr, value)?;
+                self.pass(tables)
+            }
+            Advance::Passed => self.pass(tables),
+            Advance::Result(done) => {
+                self.set_result(tables, done);
+                self.pass(tables)
+            }
+            Advance::Array { sym } => {
+                self.set_array(tables, sym)?;
+                self.pass(tables)
+            }
+            Advance::Last { sym, item } => {
+                self.add_item(tables, item)?;
+                self.set_array(tables, sym)?;
+                self.pass(tables)
+            }
+            Advance::Many { sym } => {
+                self.set_repetition(tables, sym)?;
+                self.pass(tables)
+            }
+            Advance::Inside(entry) => {
+                self.frame.entry = entry;
+                Ok(())
+            }
+            Advance::Item { item, entry } => {
+                self.add_item(tables, item)?;
+                self.frame.entry = entry;
+                Ok(())
+            }
+            Advance::NoTree => self.begin_next(tables),
+            Advance::Range => {
+                self.hold(Held::Range);
+                Ok(())
+            }
+        }
+    }
+}
