@@ -1,0 +1,2 @@
+-- what is answered of an input
+pub mod Answered
