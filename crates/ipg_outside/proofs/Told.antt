@@ -2,15 +2,29 @@
 use Rattle.std.proofs.Common.{◌≡◌, ℕ, suc, ◌+◌, ◌<◌, Bool, true, false, cond, List, [], ◌∷◌, ◌++◌, length, get_or, drop, map, refl, sym, ap, subst, ◌∙◌, add-one, drop-cons}
 use Rattle.std.specs.Str.{bytes_eq}
 use Rattle.std.specs.String.{string_bytes}
-use Rattle.ipg_outside.specs.Files.{Told, holds}
-use Rattle.ipg_outside.specs.Shelf.{told_in_from, told_after}
+use Rattle.ipg_outside.specs.Files.{Told, absent, holds}
+use Rattle.ipg_outside.specs.Shelf.{told_in, told_in_from, told_after, bytes_told, bytes_in}
 use Rattle.ipg_outside.specs.Stored.{name_and_bytes}
-use Rattle.ipg_outside.specs.declared.mem_files.StoredFile.{StoredFile}
+use Rattle.ipg_outside.specs.declared.stored.StoredFile.{StoredFile}
 
 -- the last file goes first
 pub told-append : (name : List ℕ) (others : Told) (files : List (List ℕ × List ℕ)) (file : List ℕ × List ℕ) → told_in_from name others (files ++ file ∷ []) ≡ told_after name (told_in_from name others files) file
 told-append name others [] file = refl
 told-append name others (f ∷ files) file = told-append name (told_after name others f) files file
+
+-- a file was added
+pub told-added : (name : List ℕ) (before after : List (List ℕ × List ℕ)) (file : List ℕ × List ℕ) → after ≡ before ++ file ∷ []
+    → told_in name after ≡ told_after name (told_in name before) file
+told-added name before after file e = ap (told_in name) e ∙ told-append name absent before file
+
+-- either the new bytes or those of before
+pub bytes-chosen : (b : Bool) (bytes : List ℕ) (others : Told) → bytes_told (cond b (holds bytes) others) ≡ cond b bytes (bytes_told others)
+bytes-chosen true bytes others = refl
+bytes-chosen false bytes others = refl
+
+pub bytes-added : (name : List ℕ) (before after : List (List ℕ × List ℕ)) (file : List ℕ × List ℕ) → after ≡ before ++ file ∷ []
+    → bytes_in name after ≡ cond (bytes_eq name file.0) file.1 (bytes_in name before)
+bytes-added name before after file e = ap bytes_told (told-added name before after file e) ∙ bytes-chosen (bytes_eq name file.0) file.1 (told_in name before)
 
 -- one file more is read
 pub told-step : (name : List ℕ) (others : Told) (files : List StoredFile) (i : ℕ) (file : StoredFile) → i < length files → file ≡ get_or files i file

@@ -28,6 +28,16 @@ told_in_from name others (file ∷ files) = told_in_from name (told_after name o
 abbrev pub told_in : List ℕ → List (List ℕ × List ℕ) → Told
 told_in name files = told_in_from name absent files
 
+-- the bytes that are told
+abbrev pub bytes_told : Told → List ℕ
+bytes_told untold = []
+bytes_told absent = []
+bytes_told (holds bytes) = bytes
+
+-- the bytes under a name, none where no file has it
+abbrev pub bytes_in : List ℕ → List (List ℕ × List ℕ) → List ℕ
+bytes_in name files = bytes_told (told_in name files)
+
 -- the bytes under a name, if any
 abbrev pub told_found : Option (List ℕ) → Told
 told_found None = absent

@@ -1,7 +1,7 @@
 -- What a contract sees of a stored file.
 use Rattle.std.specs.Prelude.{ℕ, List}
 use Rattle.std.specs.String.{string_bytes}
-use Rattle.ipg_outside.specs.declared.mem_files.StoredFile.{StoredFile}
+use Rattle.ipg_outside.specs.declared.stored.StoredFile.{StoredFile}
 
 -- its name and its bytes
 abbrev pub name_and_bytes : StoredFile → List ℕ × List ℕ

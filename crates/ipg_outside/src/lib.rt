@@ -8,6 +8,9 @@ mod mem_files;
 mod mem_sink;
 mod sink;
 mod std_sink;
+mod stored;
+mod sure_files;
+mod sure_sink;
 #[cfg(test)]
 mod tests;
 
@@ -17,3 +20,5 @@ pub use mem_files::MemFiles;
 pub use mem_sink::MemSink;
 pub use sink::{Sink, SinkFault};
 pub use std_sink::StdSink;
+pub use sure_files::SureFiles;
+pub use sure_sink::SureSink;

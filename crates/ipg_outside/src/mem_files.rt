@@ -1,27 +1,18 @@
 //! Files in memory, some of whose readings fail.
-ghost use Rattle.std.specs.Prelude.{◌≡◌, ℕ, ◌^◌, ◌<◌, ◌≤◌, List, [], ◌∷◌, ◌++◌, if◌then◌else◌, map, IfOk, OnOk, OnErr, IfErr, IsErrOf};
-ghost use Rattle.std.specs.Option.{option_copied};
+ghost use Rattle.std.specs.Prelude.{◌≡◌, ℕ, ◌^◌, ◌<◌, ◌≤◌, List, [], ◌∷◌, ◌++◌, if◌then◌else◌, IfOk, OnOk, OnErr};
 ghost use Rattle.std.specs.Str.{bytes_eq};
-ghost use Rattle.ipg_outside.specs.Shelf.{told_in, told_found, reading, reading_of, Gives, counted, is_failed_of};
 ghost use Rattle.ipg_outside.specs.Files.{holds};
-ghost use Rattle.ipg_outside.specs.Stored.{name_and_bytes};
+ghost use Rattle.ipg_outside.specs.Shelf.{told_in, reading, Gives, counted, is_failed_of};
 
 use crate::files::{FileFault, Files};
+use crate::stored::{StoredFiles, read_limited};
 use std::alloc::{AllocError, Global};
 use std::marker::Model;
-
-#[derive(Drop)]
-struct StoredFile {
-    name: String,
-    bytes: Vec<u8>,
-}
 
 /// Files in memory. The readings of given numbers fail.
 #[derive(Drop)]
 pub struct MemFiles {
-    alloc: Global,
-    // The last file of a name counts.
-    files: Vec<StoredFile>,
+    files: StoredFiles,
     fail: Vec<u64>,
     calls: u64,
     faults: u64,
@@ -29,12 +20,10 @@ pub struct MemFiles {
 
 impl Model for MemFiles {
     ghost use Rattle.ipg_outside.specs.Shelf.{Shelf};
-    ghost use Rattle.std.specs.Prelude.{map};
-    ghost use Rattle.ipg_outside.specs.Stored.{name_and_bytes};
 
     ghost Value = { Shelf };
 
-    ghost view = { λ s. record { files = map name_and_bytes s.files.items; fail = s.fail.items; calls = s.calls; faults = s.faults } };
+    ghost view = { λ s. record { files = s.files; fail = s.fail.items; calls = s.calls; faults = s.faults } };
 }
 
 impl MemFiles {
@@ -43,8 +32,7 @@ impl MemFiles {
         ensures { IfOk result (λ shelf. shelf ≡ record { files = []; fail = fail.now; calls = 0; faults = 0 }) }
     {
         Ok(MemFiles {
-            alloc,
-            files: Vec::new(alloc),
+            files: StoredFiles::new(alloc),
             fail: Vec::from_slice(alloc, fail)?,
             calls: 0,
             faults: 0,
@@ -57,36 +45,7 @@ impl MemFiles {
         ensures told { OnOk result ((n : List ℕ) → told_in n self.new.files ≡ (if bytes_eq n name.now then holds bytes.now else told_in n self.old.files)) }
         ensures refused { OnErr result (self.new ≡ self.old) }
     {
-        let file = StoredFile {
-            name: String::from_str(self.alloc, name)?,
-            bytes: Vec::from_slice(self.alloc, bytes)?,
-        };
-        self.files.push(file)?;
-        Ok(())
-    }
-}
-
-fn find<'a>(files: &'a [StoredFile], name: &str) -> Option<&'a [u8]>
-    ensures { told_found (option_copied result) ≡ told_in name.now (map name_and_bytes files.now) }
-{
-    let mut found = None;
-    for file in files {
-        if name == file.name.as_str() {
-            found = Some(file.bytes.as_slice());
-        }
-    }
-    found
-}
-
-fn read_limited(alloc: Global, bytes: &[u8], limit: u64) -> Result<Vec<u8>, FileFault>
-    requires { limit < 2 ^ 62 }
-    ensures { Gives result (reading_of (holds bytes.now) limit) }
-{
-    let limit = limit as usize;
-    if bytes.len() <= limit {
-        Ok(Vec::from_slice(alloc, bytes)?)
-    } else {
-        Err(FileFault::TooLarge(Vec::from_slice(alloc, &bytes[..limit + 1])?))
+        self.files.add(name, bytes)
     }
 }
 
@@ -98,7 +57,7 @@ impl MemFiles {
         if self.fail.contains(&self.calls) {
             return Err(FileFault::Failed);
         }
-        match find(&self.files, name) {
+        match self.files.find(name) {
             None => Err(FileFault::Failed),
             Some(bytes) => read_limited(alloc, bytes, limit),
         }

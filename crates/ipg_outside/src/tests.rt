@@ -1,5 +1,7 @@
 //! Happy calls of each public function, and the adapters over readers and writers that fail.
-use crate::{DiskFiles, FileFault, Files, MemFiles, MemSink, Sink, SinkFault, StdSink};
+use crate::{
+    DiskFiles, FileFault, Files, MemFiles, MemSink, Sink, SinkFault, StdSink, SureFiles, SureSink,
+};
 use std::{fs, io};
 
 fn answer(read: &Result<Vec<u8>, FileFault>) -> (&str, &[u8]) {
@@ -27,6 +29,33 @@ fn reads_files_in_memory(rt: HostRuntime) -> anyhow::Result<()> {
         let read = files.read_all(alloc, name, limit);
         assert_eq!(rt; answer(&read), want, "{name} up to {limit}");
     }
+    Ok(())
+}
+
+#[test]
+fn reads_files_without_fail(rt: HostRuntime) -> anyhow::Result<()> {
+    let alloc = rt.alloc();
+    let mut files = SureFiles::new(alloc);
+    files.add("g", b"old")?;
+    files.add("g", b"abc")?;
+    for (name, limit, want) in [
+        ("g", 3, ("whole", b"abc" as &[u8])),
+        ("g", 1, ("too large", b"ab")),
+        ("h", 0, ("whole", b"")),
+        ("g", 3, ("whole", b"abc")),
+    ] {
+        let read = files.read_all(alloc, name, limit);
+        assert_eq!(rt; answer(&read), want, "{name} up to {limit}");
+    }
+    Ok(())
+}
+
+#[test]
+fn writes_without_fail(rt: HostRuntime) -> anyhow::Result<()> {
+    let mut sink = SureSink::new();
+    assert_eq!(rt; sink.write(b"ab"), Ok(()));
+    assert_eq!(rt; sink.write(b""), Ok(()));
+    assert_eq!(rt; sink.flush(), Ok(()));
     Ok(())
 }
 

@@ -1,0 +1,6 @@
+use Rattle.std.proofs.lemmas.Result.{on_ok_weaker}
+use Rattle.ipg_outside.proofs.Told.{bytes-added}
+use Rattle.ipg_outside.proofs.sure_files.SureFiles.add.Goals as goal
+
+pub returns-clause-told : goal.returns-clause-told
+returns-clause-told c = rw (← c.self.view_is) (on_ok_weaker c.add.result (λ e n. bytes-added n _ _ _ e) c.add.ensures.stored)
