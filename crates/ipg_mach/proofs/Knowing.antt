@@ -23,10 +23,11 @@ use Rattle.ipg_mach.specs.Known.{key_of, IsEntryOf, IsKnown}
 -- ---- what is known stays known as the store grows
 
 module _ (stays : TreesStay) (src : Source) (st more : Stored) (grows : Grows st more) where
-  entry_stays : (key : Key) (held : Option Entry) (answer : Option (Result Tree Stop)) → IsEntryOf src st key held answer → IsEntryOf src more key held answer
+  pub entry_stays : (key : Key) (held : Option Entry) (answer : Option (Result Tree Stop)) → IsEntryOf src st key held answer
+      → IsEntryOf src more key held answer
   entry_stays key None None h = tt
   entry_stays key (Some entry.NoTree) (Some answer) h = h
-  entry_stays key (Some (entry.Node id)) (Some answer) h = (h.0, h.1, stays src st more key.from id h.0 grows h.2, h.3, h.4)
+  entry_stays key (Some (entry.Node id)) (Some answer) h = (h.0, h.1, stays src st more key.from id h.0 grows h.2, h.3)
   entry_stays key None (Some answer) h = h
   entry_stays key (Some held) None h = h
 

@@ -1,6 +1,8 @@
 -- What is read of the highest call stands for its environment.
-use Rattle.std.proofs.Common.{◌≡◌, ℕ, zero, suc, ◌+◌, ◌-◌, ◌^◌, ◌<◌, arith, refl, sym, ap, ◌∙◌, subst, List, [], ◌∷◌, drop, take, length, Some, None, false, ℤ, Bor}
+use Rattle.std.proofs.Common.{◌≡◌, ℕ, suc, ◌+◌, ◌-◌, ◌^◌, ◌<◌, arith, refl, sym, ap, ◌∙◌, subst, List, drop, take, length, Some, None, false, ℤ, Bor}
 use Rattle.std.specs.Prelude.{slice_get, slice_set, option_map}
+use Rattle.std.proofs.lemmas.List.{drop-drop}
+use Rattle.std.proofs.lemmas.Option.{slice_get_within}
 use Rattle.ipg_core.specs.declared.grammar.CoreTerm.{CoreTerm}
 use Rattle.ipg_core.specs.declared.grammar.Sym.{Sym}
 use Rattle.ipg_core.specs.Within.{KidsWithin}
@@ -30,29 +32,13 @@ use Rattle.ipg_mach.specs.declared.frame.Frame.{Frame}
 use Rattle.ipg_mach.specs.Calls.{IsOpen, size_of, running_in, running_at}
 use Rattle.ipg_mach.proofs.Rows.{between_below}
 
-nothing : {A : Type 0} (m n : ℕ) → (let xs : List A = [] in drop m xs ≡ drop n xs)
-nothing zero zero = refl
-nothing zero (suc n) = refl
-nothing (suc m) zero = refl
-nothing (suc m) (suc n) = refl
-
-drop_drop : {A : Type 0} (l n : ℕ) (xs : List A) → drop l (drop n xs) ≡ drop (n + l) xs
-drop_drop l zero xs = ap (λ n. drop n xs) (let e : l ≡ 0 + l = omega arith in e)
-drop_drop l (suc n) [] = nothing l (suc n + l)
-drop_drop l (suc n) (x ∷ xs) = drop_drop l n xs ∙ ap (λ m. drop m (x ∷ xs)) (let e : suc (n + l) ≡ suc n + l = omega arith in e)
-
 -- a part of a part lies in the input
 pub lies : (input : List ℕ) (from to : ℕ) → LiesAt input from (part input from to)
 lies input from to l r valid inside =
     let count : from + r - (from + l) ≡ r - l = omega arith in
     ap (λ n. take n (drop (from + l) input)) count
-    ∙ ap (take (r - l)) (sym (drop_drop l from input))
+    ∙ ap (take (r - l)) (sym (drop-drop l from input))
     ∙ sym (between_below (drop from input) (to - from) l r inside)
-
-inside_of : {A : Type 0} (xs : List A) (n : ℕ) (x : A) → slice_get xs n ≡ Some x → n < length xs
-inside_of [] n x e = absurd (cc)
-inside_of (y ∷ xs) zero x e = omega arith
-inside_of (y ∷ xs) (suc n) x e = let h = inside_of xs n x e in omega arith
 
 -- the call is lent, its items in these rows
 pub record IsLent (t : Rows) (st : Stored) (frame : Frame) (under above : Piled) (l : Lent) : Type 0 where
@@ -127,14 +113,15 @@ module _ (t : Rows) (src : Source) (st : Stored) (frame : Frame) (under own : Pi
 
   module _ (instr : Instr) (u : ℕ) (term : CoreTerm) (is_term : slice_get c.terms u ≡ Some term) (number : instr.term ≡ u) (rows : Bor (List Kid))
       (is_rows : rows.now ≡ own.items) where
-    at_array : (item : ℤ) (first last : Span) (row : SlotRow) (k : ℕ) → l.running ≡ Some (record { term = instr.term; sym = row.sym; items = rows; item = item })
-        → HoldsTerm t (action.Repeat first last row) term → Stands l (environment_at c.frame c.state u (moves.Items (suc k) item items) term)
+    at_array : (item : ℤ) (first last : Span) (row : SlotRow) (k : ℕ)
+        → l.running ≡ Some (record { term = instr.term; sym = row.sym; items = rows; item = item }) → HoldsTerm t (action.Repeat first last row) term
+        → Stands l (environment_at c.frame c.state u (moves.Items (suc k) item items) term)
     at_array item first last row k run holds =
         let slot = holds.2 in
         subst (λ one. Stands l (environment_at c.frame c.state u (moves.Items (suc k) item items) one)) (sym holds.3)
         (running u row.sym slot.sym item rows (run ∙ ap (λ n. Some (record { term = n; sym = row.sym; items = rows; item = item })) number) is_rows
         (ap (λ syms. slice_get syms row.sym) is.call.syms ∙ holds.6.sym)
-        (let inside = inside_of c.terms u term is_term in let e = is.count in omega arith))
+        (let inside = slice_get_within c.terms u term is_term in let e = is.count in omega arith))
 
     at_item : (item : ℤ) (act : Action) (k : ℕ) → l.running ≡ running_at instr.term item rows act → HoldsTerm t act term
         → Stands l (environment_at c.frame c.state u (moves.Items (suc k) item items) term)

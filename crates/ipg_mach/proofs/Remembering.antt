@@ -1,5 +1,6 @@
 -- What is remembered stands in what is kept for it.
-use Rattle.std.proofs.Common.{◌≡◌, ℕ, zero, suc, arith, refl, sym, ap, subst, List, [], ◌∷◌, length, take, Option, Some, None, Result}
+use Rattle.std.proofs.Common.{◌≡◌, ℕ, arith, refl, sym, ap, subst, Option, Some, None, Result}
+use Rattle.std.proofs.lemmas.List.{take_all}
 use Rattle.ipg_core.specs.Tree.{Tree}
 use Rattle.ipg_core.specs.Run.{Stop}
 use Rattle.ipg_core.specs.Grammar.{Grammar, rule_at, holder_of}
@@ -17,16 +18,10 @@ use Rattle.ipg_mach.specs.Stage.{IsRaised, Remembers}
 use Rattle.ipg_mach.proofs.Knowing as knowing
 use Rattle.ipg_mach.proofs.Stores.{same_stored}
 
-pub take_all : {A : Type 0} (xs : List A) (n : ℕ) → n ≡ length xs → take n xs ≡ xs
-take_all [] zero e = refl
-take_all [] (suc n) e = refl
-take_all (x ∷ xs) zero e = absurd (omega (arith, e))
-take_all (x ∷ xs) (suc n) e = ap (λ ys. x ∷ ys) (take_all xs n (omega arith))
-
 pub before_end : (st : Stored) (mark : Mark) → IsEnd st mark → before st mark ≡ st
 before_end st mark end =
-    same_stored (before st mark) st (take_all st.nodes mark.nodes.place end.nodes) (take_all st.kids mark.kids.place end.kids)
-    (take_all st.attrs mark.attrs.place end.attrs)
+    same_stored (before st mark) st (take_all mark.nodes.place st.nodes (let e = end.nodes in omega arith))
+    (take_all mark.kids.place st.kids (let e = end.kids in omega arith)) (take_all mark.attrs.place st.attrs (let e = end.attrs in omega arith))
 
 pub end_is_mark : (st : Stored) (mark : Mark) → IsEnd st mark → IsMark st mark
 end_is_mark st mark end = record {

@@ -1,6 +1,6 @@
 -- Rows that stand one by one for what an open call has left.
-use Rattle.std.proofs.Common.{◌≡◌, ℕ, zero, suc, ◌-◌, ◌≤◌, arith, inl, inr, take, refl, sym, ap, ◌∙◌, subst, List, [], ◌∷◌, ◌++◌, drop, length, Some, None}
-use Rattle.std.specs.Prelude.{slice_get, slice_set}
+use Rattle.std.proofs.Common.{◌≡◌, ℕ, zero, suc, ◌-◌, ◌≤◌, arith, inl, inr, take, refl, sym, ap, ◌∙◌, subst, List, [], ◌∷◌, drop, length, Some, None}
+use Rattle.std.specs.Prelude.{slice_get}
 use Rattle.std.proofs.lemmas.Bool.{cases_lt}
 use Rattle.std.proofs.lemmas.List.{take-append-drop, take-append-le, drop-append-le, length-drop}
 use Rattle.ipg_piles.specs.Piled.{between}
@@ -43,11 +43,6 @@ some_left R (x' ∷ xs) [] x each e = absurd each
 some_left R (x' ∷ xs) (y ∷ ys) x each e =
     let is : x' ≡ x = cc in (y, subst (λ r. R r y) is each.0, refl)
 
-pub set_length : {A : Type 0} (xs : List A) (n : ℕ) (x : A) → length (slice_set xs n x) ≡ length xs
-set_length [] n x = refl
-set_length (y ∷ xs) zero x = refl
-set_length (y ∷ xs) (suc n) x = ap suc (set_length xs n x)
-
 -- ---- alternatives of a rule
 
 module _ (t : Rows) where
@@ -67,19 +62,6 @@ module _ (t : Rows) where
   alts_past (r ∷ rows) (rule ∷ rules) (suc n) each e = alts_past rows rules n each.1 e
   alts_past [] (rule ∷ rules) n each e = absurd each
   alts_past (r ∷ rows) [] n each e = absurd each
-
--- the last of a list and those before it are each one
-pub last_same : {A : Type 0} (xs ys : List A) (x y : A) → xs ++ x ∷ [] ≡ ys ++ y ∷ [] → (xs ≡ ys) × (x ≡ y)
-last_same [] [] x y e = (refl, cc)
-last_same [] (b ∷ []) x y e = absurd (cc)
-last_same [] (b ∷ c ∷ ys) x y e = absurd (cc)
-last_same (a ∷ []) [] x y e = absurd (cc)
-last_same (a ∷ c ∷ xs) [] x y e = absurd (cc)
-last_same (a ∷ xs) (b ∷ ys) x y e =
-    let head : a ≡ b = cc in
-    let tail : xs ++ x ∷ [] ≡ ys ++ y ∷ [] = cc in
-    let same = last_same xs ys x y tail in
-    (ap (λ z. z ∷ xs) head ∙ ap (λ zs. b ∷ zs) same.0, same.1)
 
 -- what lies between two places of the first rows lies there in all
 module _ {A : Type 0} (xs : List A) (b from to : ℕ) (inside : to ≤ length (take b xs)) where

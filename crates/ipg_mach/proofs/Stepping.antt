@@ -2,6 +2,7 @@
 use Rattle.std.proofs.Common.{◌≡◌, ◌≢◌, ℕ, ◌+◌, ◌-◌, ◌≤◌, arith, refl, sym, ap, ◌∙◌, subst, List, [], ◌∷◌, ◌++◌, length, Option, Some, None, Result, Ok, Err, OnOk}
 use Rattle.std.specs.Prelude.{slice_get}
 use Rattle.std.proofs.lemmas.List.{length-append}
+use Rattle.std.proofs.lemmas.Option.{none-some, same_Some}
 use Rattle.ipg_core.specs.Part.{part}
 use Rattle.ipg_core.specs.Tree.{Tree}
 use Rattle.ipg_core.specs.Within.{TreeWithin}
@@ -15,7 +16,6 @@ use Rattle.ipg_memo.specs.declared.memo.Entry.TheVariants as entry
 use Rattle.ipg_nodes.specs.declared.kid.Kid.TheVariants as kid
 use Rattle.ipg_advance.specs.Advance.{EndsBy}
 use Rattle.ipg_nodes.specs.Stored.{Stored, Source, StandsTree, IsMark, before}
-use Rattle.ipg_nodes.specs.Laws.{Grows, TreesStay}
 use Rattle.ipg_table.specs.Rows.{Rows}
 use Rattle.ipg_piles.specs.Piled.{Piled, below, between}
 use Rattle.ipg_mach.specs.declared.frame.Frame.{Frame}
@@ -29,16 +29,9 @@ use Rattle.ipg_parsed.specs.declared.parsed.Counts.{Counts}
 use Rattle.ipg_mach.specs.Calls.{Shown, IsHighest, IsHolding, IsKey, IsAnswer, IsWorking, IsNew, IsSub, Wait, Keeps, size_of}
 use Rattle.ipg_mach.specs.Known.{IsEntryOf, IsKnown, key_of}
 use Rattle.ipg_mach.specs.Counted.{IsTally}
-use Rattle.ipg_mach.specs.Outcome.{IsFinal}
 use Rattle.ipg_mach.specs.Stage.{Stage, IsAt, IsAsking, Remembers, kid_of, key_in}
 use Rattle.ipg_mach.proofs.Reading.{lies}
 use Rattle.ipg_mach.proofs.Working as working
-
-some_none : {A : Type 0} {a : A} → Some a ≡ None → ⊥
-some_none e = cc
-
-some_one : {A : Type 0} {a b : A} → Some a ≡ Some b → a ≡ b
-some_one e = cc
 
 no_last : {A : Type 0} (xs : List A) (x : A) → xs ++ x ∷ [] ≡ [] → ⊥
 no_last [] x e = cc
@@ -76,15 +69,6 @@ module _ (src : Source) (s : Stage) (e : Evaluation) (at : IsAt src s e) where
 
 -- ---- answers that are known
 
-pub entry_stays : TreesStay → (src : Source) (st more : Stored) → Grows st more → (key : Key) (found : Option Entry) (answer : Option (Result Tree Stop))
-    → IsEntryOf src st key found answer → IsEntryOf src more key found answer
-entry_stays stay src st more grows key None None h = tt
-entry_stays stay src st more grows key (Some entry.NoTree) (Some answer) h = h
-entry_stays stay src st more grows key (Some (entry.Node id)) (Some answer) h =
-    (h.0, h.1, stay src st more key.from id h.0 grows h.2, h.3, h.4)
-entry_stays stay src st more grows key None (Some answer) h = absurd h
-entry_stays stay src st more grows key (Some found) None h = absurd h
-
 module _ (src : Source) (st : Stored) (key : Key) (at : ℕ) (ask : Asked) (answer : Result Tree Stop) where
   pub sub_of : (found : Entry) (from to : ℕ) → IsEntryOf src st key (Some found) (Some answer) → key.from ≡ at + from → key.to ≡ at + to
       → ask.from ≡ from → ask.to ≡ to → IsSub src st at ask (kid_of found from to) answer
@@ -100,12 +84,6 @@ module _ (src : Source) (st : Stored) (key : Key) (at : ℕ) (ask : Asked) (answ
         subst (λ n. TreeWithin n h.0) size h.3,
       )
 
--- a call that is asked for lies in the part
-pub asked_within : (frame : Frame) (c : OpenCall) (rule from to : ℕ) (q : IsAsking frame c rule from to)
-    → (q.ask.from ≤ q.ask.to) × (q.ask.to ≤ size_of frame)
-asked_within frame c rule from to q =
-    let a = q.is_from in let b = q.is_to in let v = q.valid in let i = q.inside in (omega arith, omega arith)
-
 -- ---- calls that are made
 
 pub wait_length : (t : Rows) (src : Source) (st : Stored) (frames : List Frame) (p : Piled) (from to : ℕ) (lower : List OpenCall)
@@ -119,9 +97,15 @@ wait_length t src st frames p from to (c ∷ lower) wait =
 
 module _ (t : Rows) (src : Source) (s : Shown) (frames : List Frame) (lower : List OpenCall) (c : OpenCall) (work : IsWorking t src s frames lower c)
     (rule from to : ℕ) (q : IsAsking s.frame c rule from to) where
+  -- the call that is asked for lies in the part
+  pub within : (q.call.ask.from ≤ q.call.ask.to) × (q.call.ask.to ≤ size_of s.frame)
+  within =
+      let whole = working.part_size t src s.frame (below s.piles s.frame.base) c.frame c.from work.at_work.is_open.call in
+      let a = q.call.is_from in let b = q.call.is_to in let v = q.call.valid in let i = q.call.inside in (omega arith, omega arith)
+
   -- the frame of the call that is asked for
   abbrev pub frame_of : meaning.Frame
-  frame_of = record { grammar = c.frame.grammar; rule = q.ask.callee; alt = 0; bytes = asked_part c q.ask; outer = q.ask.outer }
+  frame_of = record { grammar = c.frame.grammar; rule = q.call.ask.callee; alt = 0; bytes = asked_part c q.call.ask; outer = q.call.ask.outer }
 
   pub waits : (first last : ℕ) → first ≡ s.frame.from + from → last ≡ s.frame.from + to
       → Wait t src s.store (frames ++ s.frame ∷ []) s.piles first last (c ∷ lower)
@@ -135,39 +119,39 @@ module _ (t : Rows) (src : Source) (s : Shown) (frames : List Frame) (lower : Li
       is_open = work.at_work.is_open;
       entry = work.entry;
       awaits = record {
-        ask = q.ask;
-        asks = q.asks;
-        begins = ap (λ n. s.frame.from + n) q.is_from ∙ sym begins;
-        ends = ap (λ n. s.frame.from + n) q.is_to ∙ sym ends;
-        valid = let a = q.is_from in let b = q.is_to in let v = q.valid in omega arith;
-        inside = let i = q.inside in let o = work.at_work.is_open.call.ordered in omega arith;
-        bounded = subst (EndsBy s.frame.entry) (sym q.is_to) q.bounded;
+        ask = q.call.ask;
+        asks = q.call.is_asked;
+        begins = ap (λ n. s.frame.from + n) q.call.is_from ∙ sym begins;
+        ends = ap (λ n. s.frame.from + n) q.call.is_to ∙ sym ends;
+        valid = within.0;
+        inside = let i = within.1 in let e = q.call.is_to in let o = work.at_work.is_open.call.ordered in omega arith;
+        bounded = subst (EndsBy s.frame.entry) (sym q.call.is_to) q.bounded;
       };
     },
     work.at_work.wait,
   )
 
   pub is_new : (new : NewCall) → new.rule ≡ rule → new.from ≡ s.frame.from + from → new.to ≡ s.frame.from + to
-      → q.ask.outer ≡ between s.piles.own new.outer.from new.outer.to → new.outer.to ≤ length s.piles.own
-      → IsNew t src s (frames ++ s.frame ∷ []) (c ∷ lower) new frame_of (c.from + q.ask.from)
+      → q.call.ask.outer ≡ between s.piles.own new.outer.from new.outer.to → new.outer.to ≤ length s.piles.own
+      → IsNew t src s (frames ++ s.frame ∷ []) (c ∷ lower) new frame_of (c.from + q.call.ask.from)
   is_new new is_rule begins ends outer outer_inside =
       let call = work.at_work.is_open.call in
       let ordered = call.ordered in
       let inside = call.inside in
-      let q_inside = q.inside in
-      let q_valid = q.valid in
+      let valid = q.call.valid in
       let whole = working.part_size t src s.frame (below s.piles s.frame.base) c.frame c.from call in
       record {
         answer = work.at_work.answer;
         syms = call.syms;
         tables = call.tables;
-        rule = q.is_rule ∙ sym is_rule;
+        rule = q.call.is_rule ∙ sym is_rule;
         first = refl;
-        begins = ap (λ n. n + q.ask.from) call.begins ∙ ap (λ n. s.frame.from + n) q.is_from ∙ sym begins;
+        begins = ap (λ n. n + q.call.ask.from) call.begins ∙ ap (λ n. s.frame.from + n) q.call.is_from ∙ sym begins;
         ordered = omega arith;
-        inside = omega arith;
-        bytes = ap (λ n. part c.frame.bytes n q.ask.to) q.is_from ∙ ap (part c.frame.bytes from) q.is_to ∙ ap (λ b. part b from to) call.bytes
-            ∙ sym (lies src.input s.frame.from s.frame.to from to q.valid (let l = ap length call.bytes in omega arith))
+        inside = let i = q.call.inside in omega arith;
+        bytes = ap (λ n. part c.frame.bytes n q.call.ask.to) q.call.is_from ∙ ap (part c.frame.bytes from) q.call.is_to
+            ∙ ap (λ b. part b from to) call.bytes
+            ∙ sym (lies src.input s.frame.from s.frame.to from to valid (subst (λ n. to ≤ n) (ap length call.bytes) q.call.inside))
             ∙ ap (λ n. part src.input n (s.frame.from + to)) (sym begins) ∙ ap (part src.input new.from) (sym ends);
         outer = outer;
         outer_inside = outer_inside;
@@ -175,19 +159,20 @@ module _ (t : Rows) (src : Source) (s : Shown) (frames : List Frame) (lower : Li
       }
 
   -- the key of the call
-  pub key_is : (key : Key) → key.rule ≡ rule → key.from ≡ s.frame.from + from → key.to ≡ s.frame.from + to → asked_key c q.ask ≡ key_of key
+  pub key_is : (key : Key) → key.rule ≡ rule → key.from ≡ s.frame.from + from → key.to ≡ s.frame.from + to → asked_key c q.call.ask ≡ key_of key
   key_is key is_rule begins ends =
       let call = work.at_work.is_open.call in
-      let within = asked_within s.frame c rule from to q in
-      let whole = working.part_size t src s.frame (below s.piles s.frame.base) c.frame c.from call in
-      let size = working.part_length c.frame.bytes q.ask.from q.ask.to within.0 (omega arith) in
-      let is_from = q.is_from in
-      let is_to = q.is_to in
-      let first : c.from + q.ask.from ≡ key.from = let b = call.begins in omega arith in
-      let last : c.from + q.ask.from + length (asked_part c q.ask) ≡ key.to = let b = call.begins in omega arith in
-      ap (λ n. let k : moves.Key = record { rule = n; from = c.from + q.ask.from; to = c.from + q.ask.from + length (asked_part c q.ask) } in k)
-      (q.is_rule ∙ sym is_rule)
-      ∙ ap (λ n. let k : moves.Key = record { rule = key.rule; from = n; to = c.from + q.ask.from + length (asked_part c q.ask) } in k) first
+      let ask = q.call.ask in
+      let is_from = q.call.is_from in
+      let is_to = q.call.is_to in
+      let valid = q.call.valid in
+      let inside = q.call.inside in
+      let size = working.part_length c.frame.bytes ask.from ask.to (omega arith) (omega arith) in
+      let first : c.from + ask.from ≡ key.from = let b = call.begins in omega arith in
+      let last : c.from + ask.from + length (asked_part c ask) ≡ key.to = let b = call.begins in omega arith in
+      ap (λ n. let k : moves.Key = record { rule = n; from = c.from + ask.from; to = c.from + ask.from + length (asked_part c ask) } in k)
+      (q.call.is_rule ∙ sym is_rule)
+      ∙ ap (λ n. let k : moves.Key = record { rule = key.rule; from = n; to = c.from + ask.from + length (asked_part c ask) } in k) first
       ∙ ap (λ n. let k : moves.Key = record { rule = key.rule; from = key.from; to = n } in k) last
 
 -- what is known of a call
@@ -210,8 +195,6 @@ other_floor t src s frames lower key answer h floor = record {
   held = h.held;
   holds = h.holds;
   is_key = h.is_key;
-  ordered = h.ordered;
-  inside = h.inside;
   is = h.is;
   mark = h.mark;
   wait = h.wait;
@@ -261,13 +244,13 @@ module _ (src : Source) (s : Stage) (e : Evaluation) (at : IsAt src s e) where
 module _ (t : Rows) (src : Source) (s : Shown) (frames : List Frame) (lower : List OpenCall) where
   pub at_work : (h : Highest) → IsHighest t src s frames lower h → s.answer ≡ None → (c : OpenCall) × (h ≡ Works c)
   at_work (Works c) is none = (c, refl)
-  at_work (Holds key answer) is none = absurd (some_none (sym is.holds ∙ none))
+  at_work (Holds key answer) is none = absurd (none-some is.held (sym none ∙ is.holds))
 
   pub holding : (h : Highest) (held : Held) → IsHighest t src s frames lower h → s.answer ≡ Some held
-      → (key : moves.Key) × (answer : Result Tree Stop) × (h ≡ Holds key answer) × IsAnswer src s.store s.frame held answer × (s.frame.from ≤ s.frame.to)
-  holding (Works c) held is some = absurd (some_none (sym some ∙ is.at_work.answer))
+      → (key : moves.Key) × (answer : Result Tree Stop) × (h ≡ Holds key answer) × IsAnswer src s.store s.frame.from (size_of s.frame) held answer
+  holding (Works c) held is some = absurd (none-some held (sym is.at_work.answer ∙ some))
   holding (Holds key answer) held is some =
-      (key, answer, refl, subst (λ h. IsAnswer src s.store s.frame h answer) (some_one (sym is.holds ∙ some)) is.is, is.ordered)
+      (key, answer, refl, subst (λ h. IsAnswer src s.store s.frame.from (size_of s.frame) h answer) (same_Some is.held held (sym is.holds ∙ some)) is.is)
 
 -- what is remembered, seen after the call below has gone on
 pub same_memory : (src : Source) (st more : Stored) (floor kept : Mark) (memo : Option Entries) (known : Option Known) → more ≡ st → kept ≡ floor
@@ -313,19 +296,20 @@ module _ (src : Source) (s : Stage) (e : Evaluation) (at : IsAt src s e) where
   waits_so (c ∷ lower) key (Err Deep) one sound = refl
 
   pub lowest_holds : (one : Held) → s.top.answer ≡ Some one → s.frames ≡ []
-      → (answer : Result Tree Stop) × (ended e ≡ Some answer) × IsAnswer src s.top.store s.top.frame one answer
+      → (answer : Result Tree Stop) × (ended e ≡ Some answer) × IsAnswer src s.top.store s.top.frame.from (size_of s.top.frame) one answer
   lowest_holds one some frames =
       let is = holding s.tables src s.top s.frames e.lower e.highest one at.highest some in
       (is.1, ap (ended_by e.lower) is.2 ∙ ended_so e.lower is.0 is.1 (waits_none src s e at is.0 is.1 is.2 frames), is.3)
 
-  not_ranged : (one : Held) (answer : Result Tree Stop) → one ≢ held.Range → IsAnswer src s.top.store s.top.frame one answer → answer ≢ Err OutOfRange
+  not_ranged : (one : Held) (answer : Result Tree Stop) → one ≢ held.Range → IsAnswer src s.top.store s.top.frame.from (size_of s.top.frame) one answer
+      → answer ≢ Err OutOfRange
   not_ranged (held.Node id) answer sound is range = let e = sym is.1 ∙ range in absurd (cc)
   not_ranged held.NoTree answer sound is range = let e = sym is ∙ range in absurd (cc)
   not_ranged held.Range answer sound is range = absurd (sound refl)
 
   some_waits : (lower : List OpenCall) (key : moves.Key) (answer : Result Tree Stop) → IsHolding s.tables src s.top s.frames lower key answer
       → (frame : Frame) → slice_get s.frames 0 ≡ Some frame → (c : OpenCall) × (more : List OpenCall) × (lower ≡ c ∷ more)
-  some_waits [] key answer h frame first = absurd (some_none (sym first ∙ ap (λ (frames : List Frame). slice_get frames 0) h.wait.0))
+  some_waits [] key answer h frame first = absurd (none-some frame (sym (ap (λ (frames : List Frame). slice_get frames 0) h.wait.0) ∙ first))
   some_waits (c ∷ lower) key answer h frame first = (c, lower, refl)
 
   pub still_waits : (one : Held) → s.top.answer ≡ Some one → one ≢ held.Range → (frame : Frame) → slice_get s.frames 0 ≡ Some frame → ended e ≡ None
@@ -338,24 +322,24 @@ module _ (src : Source) (s : Stage) (e : Evaluation) (at : IsAt src s e) where
 -- what it has ended with is what the highest call holds; a tree is that of the lowest call
 
 ended_is : (lower : List OpenCall) (key : moves.Key) (held answer : Result Tree Stop) → ended_by lower (Holds key held) ≡ Some answer → held ≡ answer
-ended_is [] key (Ok one) answer e = some_one e
-ended_is [] key (Err NoTree) answer e = some_one e
-ended_is [] key (Err OutOfRange) answer e = some_one e
-ended_is [] key (Err Deep) answer e = some_one e
-ended_is (c ∷ lower) key (Ok one) answer e = absurd (some_none (sym e))
-ended_is (c ∷ lower) key (Err NoTree) answer e = absurd (some_none (sym e))
-ended_is (c ∷ lower) key (Err OutOfRange) answer e = some_one e
-ended_is (c ∷ lower) key (Err Deep) answer e = absurd (some_none (sym e))
+ended_is [] key (Ok one) answer e = same_Some _ answer e
+ended_is [] key (Err NoTree) answer e = same_Some _ answer e
+ended_is [] key (Err OutOfRange) answer e = same_Some _ answer e
+ended_is [] key (Err Deep) answer e = same_Some _ answer e
+ended_is (c ∷ lower) key (Ok one) answer e = absurd (none-some answer e)
+ended_is (c ∷ lower) key (Err NoTree) answer e = absurd (none-some answer e)
+ended_is (c ∷ lower) key (Err OutOfRange) answer e = same_Some _ answer e
+ended_is (c ∷ lower) key (Err Deep) answer e = absurd (none-some answer e)
 
 lowest_is : (lower : List OpenCall) (key : moves.Key) (one : Tree) (answer : Result Tree Stop) → ended_by lower (Holds key (Ok one)) ≡ Some answer → lower ≡ []
 lowest_is [] key one answer e = refl
-lowest_is (c ∷ lower) key one answer e = absurd (some_none (sym e))
+lowest_is (c ∷ lower) key one answer e = absurd (none-some answer e)
 
 module _ (src : Source) (s : Stage) (e : Evaluation) (at : IsAt src s e) (answer : Result Tree Stop) (ends : ended e ≡ Some answer) where
-  pub ends_with : (one : Held) → s.top.answer ≡ Some one → IsAnswer src s.top.store s.top.frame one answer
+  pub ends_with : (one : Held) → s.top.answer ≡ Some one → IsAnswer src s.top.store s.top.frame.from (size_of s.top.frame) one answer
   ends_with one some =
       let is = holding s.tables src s.top s.frames e.lower e.highest one at.highest some in
-      subst (IsAnswer src s.top.store s.top.frame one)
+      subst (IsAnswer src s.top.store s.top.frame.from (size_of s.top.frame) one)
       (ended_is e.lower is.0 is.1 answer (sym (ap (ended_by e.lower) is.2) ∙ ends)) is.3
 
   whole_by : (lower : List OpenCall) (key : moves.Key) (held : Result Tree Stop) → IsHolding s.tables src s.top s.frames lower key held → lower ≡ []
@@ -372,7 +356,8 @@ module _ (src : Source) (s : Stage) (e : Evaluation) (at : IsAt src s e) (answer
       whole_by e.lower is.0 (Ok tree.0) (subst (IsHighest s.tables src s.top s.frames e.lower) ok at.highest)
       (lowest_is e.lower is.0 tree.0 answer (sym (ap (ended_by e.lower) ok) ∙ ends))
 
-  final_by : (one : Held) → s.top.answer ≡ Some one → IsAnswer src s.top.store s.top.frame one answer → IsFinal src s.top.store (length src.input) one answer
+  final_by : (one : Held) → s.top.answer ≡ Some one → IsAnswer src s.top.store s.top.frame.from (size_of s.top.frame) one answer
+      → IsAnswer src s.top.store 0 (length src.input) one answer
   final_by (held.Node id) some is =
       let at_start = whole id some in
       let size : size_of s.top.frame ≡ length src.input = let a = at_start.0 in let b = at_start.1 in omega arith in
@@ -380,5 +365,5 @@ module _ (src : Source) (s : Stage) (e : Evaluation) (at : IsAt src s e) (answer
   final_by held.NoTree some is = is
   final_by held.Range some is = is
 
-  pub final : (one : Held) → s.top.answer ≡ Some one → IsFinal src s.top.store (length src.input) one answer
+  pub final : (one : Held) → s.top.answer ≡ Some one → IsAnswer src s.top.store 0 (length src.input) one answer
   final one some = final_by one some (ends_with one some)

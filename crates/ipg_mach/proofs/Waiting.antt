@@ -1,5 +1,6 @@
 -- Calls that wait, and go on.
 use Rattle.std.proofs.Common.{◌≡◌, refl, sym, ◌∙◌, subst, List, [], ◌∷◌, ◌++◌, None, Result}
+use Rattle.std.proofs.lemmas.List.{same_from_push}
 use Rattle.ipg_core.specs.Tree.{Tree}
 use Rattle.ipg_core.specs.Run.{Stop}
 use Rattle.ipg_moves.specs.Moves.{OpenCall, Key}
@@ -9,7 +10,6 @@ use Rattle.ipg_table.specs.Rows.{Rows}
 use Rattle.ipg_piles.specs.Piled.{below}
 use Rattle.ipg_mach.specs.declared.frame.Frame.{Frame}
 use Rattle.ipg_mach.specs.Calls.{Shown, IsHolding, IsWorking, IsWaiting, Awaits, Wait, items_in, size_of}
-use Rattle.ipg_mach.proofs.Rows.{last_same}
 use Rattle.ipg_mach.proofs.Stores.{mark_below, before_below}
 
 module _ (before_before : BeforeBefore) (grows : GrowsFromBefore) (items_stay : ItemsStay) (results_stay : ResultsStay)
@@ -46,7 +46,7 @@ module _ (before_before : BeforeBefore) (grows : GrowsFromBefore) (items_stay : 
       → (caller : Frame) (rest : List Frame) → frames ≡ rest ++ caller ∷ [] → IsWorking t src (record s { frame = caller; answer = None }) rest lower c
   resumed key answer frames holds caller rest e =
       let wait = holds.wait in
-      let same = last_same wait.1 rest wait.0 caller (sym wait.2 ∙ e) in
+      let same = same_from_push wait.1 rest wait.0 caller (sym wait.2 ∙ e) in
       let by = resumed_by key answer frames holds wait.0 wait.1 wait.3 wait.4 in
       subst (λ frame. IsWorking t src (record s { frame = frame; answer = None }) rest lower c) same.1
       (subst (λ frames. IsWorking t src (record s { frame = wait.0; answer = None }) frames lower c) same.0 by)
@@ -57,5 +57,5 @@ pub awaited : (t : Rows) (src : Source) (s : Shown) (lower : List OpenCall) (c :
     → Awaits caller c s.frame.from s.frame.to
 awaited t src s lower c key answer frames holds caller rest e =
     let wait = holds.wait in
-    let same = last_same wait.1 rest wait.0 caller (sym wait.2 ∙ e) in
+    let same = same_from_push wait.1 rest wait.0 caller (sym wait.2 ∙ e) in
     subst (λ frame. Awaits frame c s.frame.from s.frame.to) same.1 wait.3.awaits

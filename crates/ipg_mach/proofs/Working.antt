@@ -220,7 +220,7 @@ ready_of t src s frames lower items c work =
 module _ (t : Rows) (src : Source) (s : Shown) (frames : List Frame) (lower : List OpenCall) (f : meaning.Frame) (from : ℕ)
     (ready : IsReady t src s frames lower f from) where
   pub holds_so : (new : Shown) (held : Held) (answer : Result Tree Stop) → new ≡ record s { piles = below s.piles s.frame.base; answer = Some held }
-      → IsAnswer src s.store s.frame held answer → IsHolding t src new frames lower (key_at f from) answer
+      → IsAnswer src s.store s.frame.from (size_of s.frame) held answer → IsHolding t src new frames lower (key_at f from) answer
   holds_so new held answer e is = subst (λ s. IsHolding t src s frames lower (key_at f from) answer) (sym e) (record {
     held = held;
     holds = refl;
@@ -230,8 +230,6 @@ module _ (t : Rows) (src : Source) (s : Shown) (frames : List Frame) (lower : Li
       to = ap (λ n. from + length n) ready.call.bytes ∙ ap (λ n. n + length (part src.input s.frame.from s.frame.to)) ready.call.begins
           ∙ part_length src.input s.frame.from s.frame.to ready.call.ordered ready.call.inside;
     };
-    ordered = ready.call.ordered;
-    inside = ready.call.inside;
     is = is;
     mark = ready.mark;
     wait = ready.wait;

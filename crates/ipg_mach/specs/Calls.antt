@@ -1,4 +1,5 @@
 -- The open calls of an evaluation, as frames and piles hold them.
+use denote.Bor.{Bor}
 use Rattle.std.specs.Prelude.{◌≡◌, ℕ, ◌+◌, ◌-◌, ◌≤◌, List, [], ◌∷◌, ◌++◌, length, Result, Ok, Err, Option, Some, None, ℤ}
 use Rattle.ipg_core.specs.Part.{part}
 use Rattle.ipg_core.specs.Tree as tree
@@ -16,7 +17,6 @@ use Rattle.ipg_table.specs.declared.row.Action.TheVariants as action
 use Rattle.ipg_hand.specs.declared.now.Running.{Running}
 use Rattle.ipg_advance.specs.declared.entry.Entry.{Entry}
 use Rattle.ipg_advance.specs.declared.entry.Entry.TheVariants as entry
-use denote.Bor.{Bor}
 use Rattle.ipg_nodes.specs.declared.store.Mark.{Mark}
 use Rattle.ipg_nodes.specs.Stored.{Stored, Source, StandsTree, IsMark, before}
 use Rattle.ipg_table.specs.declared.row.Instr.{Instr}
@@ -78,6 +78,7 @@ pub record Awaits (frame : Frame) (c : OpenCall) (from to : ℕ) : Type 0 where
   -- in a repetition its interval lies in that of the repetition
   pub bounded : EndsBy frame.entry ask.to
 
+-- the frame, and what was stored and piled up by then, stand for a call that waits for one on this interval of the input
 pub record IsWaiting (t : Rows) (src : Source) (st : Stored) (frame : Frame) (p : Piled) (from to : ℕ) (c : OpenCall) : Type 0 where
   pub base : IsBase p frame.base
   pub mark : IsMark st frame.mark
@@ -95,16 +96,17 @@ Wait t src st frames p from to (c ∷ lower) =
 
 -- ---- the highest call
 
+-- the key has the rule and the interval of the frame
 pub record IsKey (frame : Frame) (key : Key) : Type 0 where
   pub rule : key.rule ≡ frame.rule
   pub from : key.from ≡ frame.from
   pub to : key.to ≡ frame.to
 
-abbrev pub IsAnswer : Source → Stored → Frame → Held → Result Tree Stop → Type 0
-IsAnswer src st frame (held.Node id) answer =
-    (one : Tree) × (answer ≡ Ok one) × StandsTree src st frame.from id one × TreeWithin (size_of frame) one
-IsAnswer src st frame held.NoTree answer = answer ≡ Err NoTree
-IsAnswer src st frame held.Range answer = answer ≡ Err OutOfRange
+-- what is held is the answer of a call on a part of n bytes that begins at `at` in the input
+abbrev pub IsAnswer : Source → Stored → ℕ → ℕ → Held → Result Tree Stop → Type 0
+IsAnswer src st at n (held.Node id) answer = (one : Tree) × (answer ≡ Ok one) × StandsTree src st at id one × TreeWithin n one
+IsAnswer src st at n held.NoTree answer = answer ≡ Err NoTree
+IsAnswer src st at n held.Range answer = answer ≡ Err OutOfRange
 
 -- the highest call with its frame, with what all open calls have come to and what is stored
 pub record Shown : Type 0 where
@@ -131,17 +133,17 @@ pub record IsWorking (t : Rows) (src : Source) (s : Shown) (frames : List Frame)
   pub at_work : IsAtWork t src s frames lower (items_in c.entry) c
   pub entry : IsEntry (size_of s.frame) s.frame.entry (items_in c.entry) c.entry
 
+-- it holds its answer
 pub record IsHolding (t : Rows) (src : Source) (s : Shown) (frames : List Frame) (lower : List OpenCall) (key : Key) (answer : Result Tree Stop)
     : Type 0 where
   pub held : Held
   pub holds : s.answer ≡ Some held
   pub is_key : IsKey s.frame key
-  pub ordered : s.frame.from ≤ s.frame.to
-  pub inside : s.frame.to ≤ length src.input
-  pub is : IsAnswer src s.store s.frame held answer
+  pub is : IsAnswer src s.store s.frame.from (size_of s.frame) held answer
   pub mark : IsMark s.store s.frame.mark
   pub wait : Wait t src (before s.store s.frame.mark) frames s.piles s.frame.from s.frame.to lower
 
+-- it works, or holds its answer, as the evaluation's highest call does
 abbrev pub IsHighest : Rows → Source → Shown → List Frame → List OpenCall → Highest → Type 0
 IsHighest t src s frames lower (Works c) = IsWorking t src s frames lower c
 IsHighest t src s frames lower (Holds key answer) = IsHolding t src s frames lower key answer

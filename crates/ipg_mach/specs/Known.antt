@@ -1,5 +1,5 @@
 -- What is known of calls, as a memo holds it.
-use Rattle.std.specs.Prelude.{◌≡◌, ◌≤◌, ◌-◌, Result, Ok, Err, Option, Some, None}
+use Rattle.std.specs.Prelude.{◌≡◌, ◌-◌, Result, Ok, Err, Option, Some, None}
 use Rattle.std.specs.FinMap as map
 use Rattle.ipg_core.specs.Tree.{Tree}
 use Rattle.ipg_core.specs.Within.{TreeWithin}
@@ -21,7 +21,7 @@ abbrev pub IsEntryOf : Source → Stored → Key → Option Entry → Option (Re
 IsEntryOf src st key None None = Unit {0}
 IsEntryOf src st key (Some entry.NoTree) (Some answer) = answer ≡ Err NoTree
 IsEntryOf src st key (Some (entry.Node id)) (Some answer) =
-    (one : Tree) × (answer ≡ Ok one) × StandsTree src st key.from id one × TreeWithin (key.to - key.from) one × (key.from ≤ key.to)
+    (one : Tree) × (answer ≡ Ok one) × StandsTree src st key.from id one × TreeWithin (key.to - key.from) one
 IsEntryOf src st key None (Some answer) = ⊥
 IsEntryOf src st key (Some entry) None = ⊥
 

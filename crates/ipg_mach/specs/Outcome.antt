@@ -5,13 +5,11 @@ use Rattle.ipg_core.specs.Tree.{Tree}
 use Rattle.ipg_core.specs.Within.{TreeWithin}
 use Rattle.ipg_core.specs.Run.{Stop, NoTree, OutOfRange}
 use Rattle.ipg_moves.specs.Moves.{Evaluation, Known, Tally, moves, opening, ended}
-use Rattle.ipg_nodes.specs.Stored.{Stored, Source, StandsTree}
+use Rattle.ipg_nodes.specs.Stored.{Source, StandsTree}
 use Rattle.ipg_table.specs.Rows.{Rows}
 use Rattle.ipg_parsed.specs.Parse.{Walked, AllLeft}
 use Rattle.ipg_mach.specs.declared.parsing.Outcome as code
 use Rattle.ipg_mach.specs.declared.parsing.Outcome.TheVariants as outcome
-use Rattle.ipg_mach.specs.declared.frame.Held.{Held}
-use Rattle.ipg_mach.specs.declared.frame.Held.TheVariants as held
 use Rattle.ipg_mach.specs.Counted.{IsTally}
 use Rattle.ipg_mach.specs.Stage.{Stage, source, IsAt}
 
@@ -22,12 +20,6 @@ pub record IsParse (t : Rows) (input : List ℕ) (p : Walked) (one : Tree) : Typ
   pub stands : StandsTree (source t input) p.parse.store 0 p.parse.root one
   pub within : TreeWithin (length input) one
   pub ahead : AllLeft p
-
--- the answer that the lowest call holds, on a whole input of n bytes
-abbrev pub IsFinal : Source → Stored → ℕ → Held → Result Tree Stop → Type 0
-IsFinal src st n (held.Node id) answer = (one : Tree) × (answer ≡ Ok one) × StandsTree src st 0 id one × TreeWithin n one
-IsFinal src st n held.NoTree answer = answer ≡ Err NoTree
-IsFinal src st n held.Range answer = answer ≡ Err OutOfRange
 
 -- the outcome is the answer, with the counts of a tally
 abbrev pub IsOutcome : {A : Type 0} → Rows → List ℕ → code.Outcome A → Result Tree Stop → Tally → Type 0

@@ -1,8 +1,5 @@
 -- The machine as an open evaluation.
-use Rattle.std.specs.Prelude.{◌≡◌, ℕ, ◌≤◌, List, Option, Some, None, ◌∷◌, []}
-use Rattle.ipg_core.specs.Grammar.{rule_at, holder_of}
-use Rattle.ipg_core.specs.Meaning.{outer_for}
-use Rattle.ipg_core.specs.Run.{Asked}
+use Rattle.std.specs.Prelude.{◌≡◌, ℕ, List, Option, Some, None}
 use Rattle.ipg_memo.specs.Keyed.{Entries}
 use Rattle.ipg_memo.specs.declared.memo.Key.{Key}
 use Rattle.ipg_memo.specs.declared.memo.Entry.{Entry}
@@ -13,14 +10,16 @@ use Rattle.ipg_nodes.specs.declared.store.Mark.{Mark}
 use Rattle.ipg_moves.specs.Moves.{OpenCall, Evaluation, Known, silent, at_hand}
 use Rattle.ipg_nodes.specs.Stored.{Stored, Source, IsMark, IsEnd, before}
 use Rattle.ipg_table.specs.Rows.{Rows}
+use Rattle.ipg_hand.specs.Found.{Calls}
 use Rattle.ipg_advance.specs.Advance.{EndsBy}
 use Rattle.ipg_mach.specs.declared.frame.Frame.{Frame}
 use Rattle.ipg_parsed.specs.declared.parsed.Counts.{Counts}
 use Rattle.ipg_mach.specs.declared.work.Work as work
-use Rattle.ipg_mach.specs.Calls.{Shown, shown, IsHighest, size_of}
+use Rattle.ipg_mach.specs.Calls.{Shown, shown, IsHighest}
 use Rattle.ipg_mach.specs.Known.{IsKnown}
 use Rattle.ipg_mach.specs.Counted.{IsTally}
 
+-- the machine, as clauses see it
 pub record Stage : Type 0 where
   pub tables : Rows
   pub input : List ℕ
@@ -49,14 +48,8 @@ pub record IsAt (src : Source) (s : Stage) (e : Evaluation) : Type 0 where
 
 -- the call asks for a call of this rule on this interval of its part
 pub record IsAsking (frame : Frame) (c : OpenCall) (rule from to : ℕ) : Type 0 where
-  pub ask : Asked
-  pub asks : (at_hand silent c).asked ≡ ask ∷ []
-  pub is_rule : ask.callee ≡ rule
-  pub is_from : ask.from ≡ from
-  pub is_to : ask.to ≡ to
-  pub is_outer : ask.outer ≡ outer_for c.frame c.state.own (holder_of (rule_at c.frame.grammar rule))
-  pub valid : from ≤ to
-  pub inside : to ≤ size_of frame
+  pub call : Calls c.frame c.state.own rule from to (at_hand silent c).asked
+  -- in a repetition the interval lies in that of the repetition
   pub bounded : EndsBy frame.entry to
 
 -- what is known stands in what is kept

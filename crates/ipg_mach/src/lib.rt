@@ -4,6 +4,7 @@
 mod calls;
 mod counted;
 mod frame;
+mod kept;
 mod known;
 mod lent;
 mod machine;
@@ -14,5 +15,6 @@ mod top;
 mod work;
 
 pub use ipg_parsed::{Counts, Parsed};
+pub use kept::Kept;
 pub use machine::{Machine, Remember, Turn};
-pub use parsing::{Outcome, parse};
+pub use parsing::{Outcome, parse, parse_over};

@@ -1,11 +1,11 @@
 //! The machine, step by step.
 
-ghost use Rattle.std.specs.Prelude.{◌≡◌, ◌≤◌, ◌+◌, ◌^◌, [], ℕ, List, length, Result, IfOk, IsErr, OnErr, Some, true};
+ghost use Rattle.std.specs.Prelude.{◌≡◌, ◌≤◌, ◌+◌, ◌^◌, [], ℕ, List, length, Result, IfOk, IsErr, OnErr, Option, Some, true};
 ghost use Rattle.ipg_core.specs.Grammar.{Grammar};
 ghost use Rattle.ipg_core.specs.Tree.{Tree};
 ghost use Rattle.ipg_core.specs.Run.{Stop};
-ghost use Rattle.ipg_moves.specs.Moves.{Evaluation, opening, opened, move, ended};
-ghost use Rattle.ipg_nodes.specs.Stored.{Stored, Source, IsMark};
+ghost use Rattle.ipg_moves.specs.Moves.{Evaluation, Known, opening, opened, move, ended};
+ghost use Rattle.ipg_nodes.specs.Stored.{Source, IsMark, before};
 ghost use Rattle.ipg_table.specs.Rows.{StandFor};
 ghost use Rattle.ipg_mach.specs.Calls.{shown, IsHighest};
 ghost use Rattle.ipg_mach.specs.Known.{IsKnown};
@@ -15,13 +15,13 @@ ghost use Rattle.ipg_mach.specs.Turning.{known_at, turn_of};
 
 use crate::counted;
 use crate::frame::{Frame, NewCall, Outer};
+use crate::kept::Kept;
 use crate::parsing::{Outcome, end_with};
 use crate::reader::Reader;
 use crate::top::Top;
 use crate::work::Work;
 use ipg_advance::Entry;
 use ipg_close::Scratch;
-use ipg_memo::Memo;
 use ipg_nodes::{Mark, Store};
 use ipg_piles::{Bases, Piles};
 use ipg_table::tables::Tables;
@@ -53,16 +53,6 @@ fn numbers<A: Allocator>(alloc: A, count: u32) -> Result<Vec<i64, A>, AllocError
     Ok(numbers)
 }
 
-/// A memo without entries, where answers are remembered.
-fn memo_for<A: Allocator + Clone + Drop>(alloc: A, remember: Remember) -> Option<Memo<A>>
-    ensures { (src : Source) (st : Stored) → IsKnown src st result (known_at remember) }
-{
-    match remember {
-        Remember::Nothing => None,
-        Remember::Answers => Some(Memo::new(alloc)),
-    }
-}
-
 /// The start of the input, before a call is made.
 fn nowhere<'m>(mark: Mark) -> Frame<'m> {
     Frame {
@@ -84,15 +74,16 @@ fn nowhere<'m>(mark: Mark) -> Frame<'m> {
     }
 }
 
-/// The first rule, called on the whole input.
+/// The first rule, called on the whole input. All that is stored is kept.
 fn first_call<'m, A: Allocator + Clone + Drop>(
     alloc: A,
+    store: Store<A>,
     tables: &'m Tables,
     size: u32,
 ) -> Result<Top<'m, A>, AllocError>
-    ensures { IfOk result (λ top. (g : Grammar) (input : List ℕ) → StandFor tables.now g → length input ≡ size → IsHighest tables.now (source tables.now input) (shown top) [] [] (opened g 0 input 0 []) × IsMark top.store top.floor) }
+    ensures highest { IfOk result (λ top. (g : Grammar) (input : List ℕ) → StandFor tables.now g → length input ≡ size → IsHighest tables.now (source tables.now input) (shown top) [] [] (opened g 0 input 0 [])) }
+    ensures floor { IfOk result (λ top. IsMark top.store top.floor × (before top.store top.floor ≡ store)) }
 {
-    let store = Store::new(alloc.clone()?)?;
     let mark = store.mark();
     let mut top = Top {
         store,
@@ -137,8 +128,24 @@ impl<'m, A: Allocator + Clone + Drop> Machine<'m, A> {
         ensures given { IfOk result (λ machine. (machine.tables.now ≡ tables.now) × (machine.input.now ≡ input.now)) }
         ensures opened { IfOk result (λ machine. (g : Grammar) → StandFor tables.now g → IsAt (source tables.now input.now) (staged machine.work) (opening g input.now (known_at remember))) }
     {
+        let kept = Kept::new(alloc.clone()?, remember)?;
+        Machine::over(alloc, tables, input, kept)
+    }
+
+    /// The same over what is kept, which is known from the start.
+    pub fn over(
+        alloc: A,
+        tables: &'m Tables,
+        input: &'m [u8],
+        kept: Kept<A>,
+    ) -> Result<Machine<'m, A>, AllocError>
+        requires { length input.now ≤ 2 ^ 30 }
+        ensures given { IfOk result (λ machine. (machine.tables.now ≡ tables.now) × (machine.input.now ≡ input.now)) }
+        ensures opened { IfOk result (λ machine. (g : Grammar) (known : Option Known) → StandFor tables.now g → IsKnown (source tables.now input.now) kept.store kept.memo known → IsAt (source tables.now input.now) (staged machine.work) (opening g input.now known)) }
+    {
+        let Kept { store, memo } = kept;
         let numbers = numbers(alloc.clone()?, tables.depth())?;
-        let top = first_call(alloc.clone()?, tables, input.len() as u32)?;
+        let top = first_call(alloc.clone()?, store, tables, input.len() as u32)?;
         let work = Work {
             reader: Reader {
                 tables,
@@ -147,7 +154,7 @@ impl<'m, A: Allocator + Clone + Drop> Machine<'m, A> {
             },
             top,
             frames: Vec::new(alloc.clone()?),
-            memo: memo_for(alloc.clone()?, remember),
+            memo,
             counts: counted::opening(),
         };
         Ok(Machine {

@@ -14,7 +14,7 @@ ghost use Rattle.ipg_mach.specs.Stage.{IsRaised, Remembers};
 
 use crate::known::learn;
 use crate::top::Top;
-use ipg_close::laws::{before_before, grows_from_before};
+use ipg_close::laws::grows_from_before;
 use ipg_memo::{Entry, Key, Memo};
 use ipg_nodes::laws::trees_stay;
 use ipg_nodes::{Mark, Store};

@@ -11,7 +11,7 @@ ghost use Rattle.ipg_core.specs.Run.{Stop};
 ghost use Rattle.ipg_core.specs.Meaning as meaning;
 ghost use Rattle.ipg_core.specs.Meaning.{node_of, with_kid, with_value};
 ghost use Rattle.ipg_moves.specs.Moves as moves;
-ghost use Rattle.ipg_moves.specs.Moves.{OpenCall, turned, begins, runs_on, key_at};
+ghost use Rattle.ipg_moves.specs.Moves.{OpenCall, Past, turned, begins, runs_on, key_at};
 ghost use Rattle.ipg_nodes.specs.Stored.{Source, IsMark};
 ghost use Rattle.ipg_table.specs.Rows.{Rows, Each, HoldsAlt, HoldsInstr};
 ghost use Rattle.ipg_advance.specs.Advance.{IsAdvance, IsItem};
@@ -199,6 +199,42 @@ impl<'m, A: Allocator + Clone + Drop> Top<'m, A> {
         self.run_on(tables)
     }
 
+    /// An attribute has its value, and the term at hand is past.
+    fn pass_value(&mut self, tables: &Tables, attr: u32, value: i64) -> Result<(), AllocError>
+        ensures highest { (src : Source) (frames : List Frame) (lower : List OpenCall) (items : List tree.Kid) (c : OpenCall) → IsAtWork tables.now src (shown self.old) frames lower items c → OnOk result (IsHighest tables.now src (shown self.new) frames lower (turned c (Ok (Past (with_value c.state attr value))))) }
+        ensures keeps { IsMark self.old.store self.old.floor → OnOk result (Keeps (shown self.old) (shown self.new)) }
+    {
+        self.add_value(tables, attr, value)?;
+        self.pass(tables)
+    }
+
+    /// The term at hand has its result, and is past.
+    fn pass_result(&mut self, tables: &Tables, done: Done) -> Result<(), AllocError>
+        ensures highest { (src : Source) (frames : List Frame) (lower : List OpenCall) (items : List tree.Kid) (c : OpenCall) (one : core.Done) → IsAtWork tables.now src (shown self.old) frames lower items c → IsDone src self.old.store self.old.frame.from (calls.size_of self.old.frame) done one → OnOk result (IsHighest tables.now src (shown self.new) frames lower (turned c (Ok (Past (with_kid c.state (term_at_hand c.left) one.is_switch one.kid))))) }
+        ensures keeps { IsMark self.old.store self.old.floor → OnOk result (Keeps (shown self.old) (shown self.new)) }
+    {
+        self.set_result(tables, done);
+        self.pass(tables)
+    }
+
+    /// The items so far are the array of the term at hand, which is past.
+    fn pass_array(&mut self, tables: &Tables, sym: u32) -> Result<(), AllocError>
+        ensures highest { (src : Source) (frames : List Frame) (lower : List OpenCall) (items : List tree.Kid) (c : OpenCall) (one : Sym) → IsAtWork tables.now src (shown self.old) frames lower items c → slice_get src.syms sym ≡ Some one → OnOk result (IsHighest tables.now src (shown self.new) frames lower (turned c (Ok (Past (with_kid c.state (term_at_hand c.left) false (tree.Array one (kids_of items))))))) }
+        ensures keeps { IsMark self.old.store self.old.floor → OnOk result (Keeps (shown self.old) (shown self.new)) }
+    {
+        self.set_array(tables, sym)?;
+        self.pass(tables)
+    }
+
+    /// The items so far are the repetition of the term at hand, which is past.
+    fn pass_repetition(&mut self, tables: &Tables, sym: u32) -> Result<(), AllocError>
+        ensures highest { (src : Source) (frames : List Frame) (lower : List OpenCall) (items : List tree.Kid) (c : OpenCall) (one : Sym) → IsAtWork tables.now src (shown self.old) frames lower items c → slice_get src.syms sym ≡ Some one → OnOk result (IsHighest tables.now src (shown self.new) frames lower (turned c (Ok (Past (with_kid c.state (term_at_hand c.left) false (tree.Many one (kids_of items))))))) }
+        ensures keeps { IsMark self.old.store self.old.floor → OnOk result (Keeps (shown self.old) (shown self.new)) }
+    {
+        self.set_repetition(tables, sym)?;
+        self.pass(tables)
+    }
+
     /// The first of these alternatives begins; where there is none, the call holds that there is no tree.
     pub fn begin(&mut self, tables: &'m Tables, alts: &'m [AltRow]) -> Result<(), AllocError>
         ensures highest { (src : Source) (frames : List Frame) (lower : List OpenCall) (f : meaning.Frame) (from : ℕ) (those : List CoreAlt) → IsReady tables.now src (shown self.old) frames lower f from → Each (HoldsAlt tables.now) alts.now those → OnOk result (IsHighest tables.now src (shown self.new) frames lower (begins f from those)) }
@@ -239,28 +275,15 @@ impl<'m, A: Allocator + Clone + Drop> Top<'m, A> {
         ensures keeps { IsMark self.old.store self.old.floor → IsMark self.old.store self.old.frame.mark → OnOk result (Keeps (shown self.old) (shown self.new)) }
     {
         match adv {
-            Advance::Value { attr, value } => {
-                self.add_value(tables, attr, value)?;
-                self.pass(tables)
-            }
+            Advance::Value { attr, value } => self.pass_value(tables, attr, value),
             Advance::Passed => self.pass(tables),
-            Advance::Result(done) => {
-                self.set_result(tables, done);
-                self.pass(tables)
-            }
-            Advance::Array { sym } => {
-                self.set_array(tables, sym)?;
-                self.pass(tables)
-            }
+            Advance::Result(done) => self.pass_result(tables, done),
+            Advance::Array { sym } => self.pass_array(tables, sym),
             Advance::Last { sym, item } => {
                 self.add_item(tables, item)?;
-                self.set_array(tables, sym)?;
-                self.pass(tables)
+                self.pass_array(tables, sym)
             }
-            Advance::Many { sym } => {
-                self.set_repetition(tables, sym)?;
-                self.pass(tables)
-            }
+            Advance::Many { sym } => self.pass_repetition(tables, sym),
             Advance::Inside(entry) => {
                 self.frame.entry = entry;
                 Ok(())

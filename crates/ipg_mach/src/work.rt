@@ -61,7 +61,7 @@ fn known_kid(entry: Entry, from: u32, to: u32) -> Option<Kid>
 impl<'m, A: Allocator + Clone + Drop> Work<'m, A> {
     /// The call that the highest one asks for is known: its answer is taken.
     fn take_known(&mut self, entry: Entry, from: u32, to: u32) -> Result<(), AllocError>
-        ensures { (src : Source) (e : Evaluation) (c : OpenCall) (rule : ℕ) (key : Key) (answer : Result Tree Stop) (q : IsAsking self.old.top.frame c rule from to) → IsAt src (staged self.old) e → e.highest ≡ Works c → key.from ≡ self.old.top.frame.from + from → key.to ≡ self.old.top.frame.from + to → IsEntryOf src (before self.old.top.store self.old.top.floor) key (Some entry) (Some answer) → OnOk result (IsAt src (staged self.new) (asks e c q.ask (Some answer))) }
+        ensures { (src : Source) (e : Evaluation) (c : OpenCall) (rule : ℕ) (key : Key) (answer : Result Tree Stop) (q : IsAsking self.old.top.frame c rule from to) → IsAt src (staged self.old) e → e.highest ≡ Works c → key.from ≡ self.old.top.frame.from + from → key.to ≡ self.old.top.frame.from + to → IsEntryOf src (before self.old.top.store self.old.top.floor) key (Some entry) (Some answer) → OnOk result (IsAt src (staged self.new) (asks e c q.call.ask (Some answer))) }
     {
         grows_from_before();
         trees_stay();
@@ -74,7 +74,7 @@ impl<'m, A: Allocator + Clone + Drop> Work<'m, A> {
 
     /// The call that the highest one asks for is opened above it.
     fn open(&mut self, key: Key) -> Result<(), AllocError>
-        ensures { (src : Source) (e : Evaluation) (c : OpenCall) (from to : ℕ) (q : IsAsking self.old.top.frame c key.rule from to) → IsAt src (staged self.old) e → e.highest ≡ Works c → key.from ≡ self.old.top.frame.from + from → key.to ≡ self.old.top.frame.from + to → OnOk result (IsAt src (staged self.new) (asks e c q.ask None)) }
+        ensures { (src : Source) (e : Evaluation) (c : OpenCall) (from to : ℕ) (q : IsAsking self.old.top.frame c key.rule from to) → IsAt src (staged self.old) e → e.highest ≡ Works c → key.from ≡ self.old.top.frame.from + from → key.to ≡ self.old.top.frame.from + to → OnOk result (IsAt src (staged self.new) (asks e c q.call.ask None)) }
     {
         let holder = self.reader.tables.holder(key.rule);
         let outer = self.top.outer(holder);
@@ -93,7 +93,7 @@ impl<'m, A: Allocator + Clone + Drop> Work<'m, A> {
 
     /// The highest call asks for a call on an interval of its part.
     fn ask(&mut self, rule: u32, from: u32, to: u32) -> Result<(), AllocError>
-        ensures { (src : Source) (e : Evaluation) (c : OpenCall) (q : IsAsking self.old.top.frame c rule from to) → IsAt src (staged self.old) e → e.highest ≡ Works c → OnOk result (IsAt src (staged self.new) (asks e c q.ask (known_of e.known (asked_key c q.ask)))) }
+        ensures { (src : Source) (e : Evaluation) (c : OpenCall) (q : IsAsking self.old.top.frame c rule from to) → IsAt src (staged self.old) e → e.highest ≡ Works c → OnOk result (IsAt src (staged self.new) (asks e c q.call.ask (known_of e.known (asked_key c q.call.ask)))) }
     {
         let at = self.top.frame.from;
         let key = Key {

@@ -1,11 +1,11 @@
 use Rattle.std.proofs.Common.{◌∙◌, subst, Some}
 use Rattle.std.specs.Prelude.{slice_set}
+use Rattle.std.proofs.lemmas.List.{length-set}
 use Rattle.ipg_core.specs.Meaning.{with_kid}
 use Rattle.ipg_hand.specs.Now.{AreResults}
 use Rattle.ipg_piles.specs.Piled.{above}
 use Rattle.ipg_mach.specs.Calls.{shown, size_of, term_at_hand}
 use Rattle.ipg_mach.proofs.Working as working
-use Rattle.ipg_mach.proofs.Rows.{set_length}
 use Rattle.ipg_mach.proofs.top.Top.set_result.Goals as goal
 
 pub returns-clause-work : goal.returns-clause-work
@@ -14,7 +14,7 @@ returns-clause-work g c src frames lower items call one work done =
     let s = shown c.args.self.now in
     let rows = work.is_open.done in
     working.turns_to c.args.tables.now src s frames lower items call work c.set_done.new.self _ _ items (c.set_done.ensures work.base)
-    (set_length call.state.done (term_at_hand call.left) _ ∙ work.is_open.count) work.is_open.attrs
+    (length-set call.state.done (term_at_hand call.left) _ ∙ work.is_open.count) work.is_open.attrs
     (subst (λ u. AreResults src s.store s.frame.from (size_of s.frame) (slice_set (above s.piles s.frame.base).done c.first_term.result (Some c.args.done))
     (slice_set call.state.done u (Some one)))
     (c.first_term.ensures call.terms c.args.tables.now call.left work.is_open.left)

@@ -14,7 +14,7 @@ returns-in-Node g c src e at holds =
     let is = one.3 in
     let answer = is.1 in
     subst (λ h. OnOk c.back.result (IsAt src (staged c.back.new.self) (move_by e h))) (sym (one.2 ∙ ap (Holds one.0) answer))
-    (c.back.ensures src e one.0 (Ok is.0) at (one.2 ∙ ap (Holds one.0) answer) (is.0, refl, is.2, is.3, one.4))
+    (c.back.ensures src e one.0 (Ok is.0) at (one.2 ∙ ap (Holds one.0) answer) (is.0, refl, is.2, is.3))
 
 pub returns-in-NoTree : goal.returns-in-NoTree
 unfolding move

@@ -20,7 +20,7 @@ returns g c src e call from to q at works begins ends =
     let work = stepping.is_working src s e at call works in
     let is = work.at_work.is_open.call in
     let holder = c.holder-holder.ensures call.frame.grammar is.tables in
-    let outer = q.is_outer ∙ ap (outer_for call.frame call.state.own) (sym holder)
+    let outer = q.call.is_outer ∙ ap (outer_for call.frame call.state.own) (sym holder)
     ∙ c.outer-outer.ensures.outer call.frame call.state.own is.rule is.alt work.at_work.is_open.attrs is.outer is.outer_inside work.at_work.base in
     let called : NewCall = record { rule = c.args.key.rule; from = c.args.key.from; to = c.args.key.to; outer = c.outer-outer.result } in
     let new = stepping.is_new t src s.top s.frames e.lower call work c.args.key.rule from to q called refl begins ends outer
@@ -30,15 +30,16 @@ returns g c src e call from to q at works begins ends =
     let count = c.len.ensures in
     let same = ap length frames in
     let more = length-append s.frames (s.top.frame ∷ []) in
-    let wait = stepping.wait_length t src (before s.top.store s.top.frame.mark) s.frames (below s.top.piles s.top.frame.base) s.top.frame.from s.top.frame.to e.lower
+    let frame = s.top.frame in
+    let wait = stepping.wait_length t src (before s.top.store frame.mark) s.frames (below s.top.piles frame.base) frame.from frame.to e.lower
     work.at_work.wait in
     omega arith in
-    let counted = c.with_opened-self.ensures e.tally at.tally _ (holder ∙ ap (λ r. holder_of (rule_at call.frame.grammar r)) (sym q.is_rule)) in
+    let counted = c.with_opened-self.ensures e.tally at.tally _ (holder ∙ ap (λ r. holder_of (rule_at call.frame.grammar r)) (sym q.call.is_rule)) in
     on_ok_weaker c.open.result
     (λ both. stepping.goes_on src s e at (shown c.open.new.self) c.push.new.self.items (call ∷ e.lower) _ c.with_opened-self.result _ both.1 both.0
-    (subst (λ n. IsTally c.with_opened-self.result (one_opened e.tally (holder_of (rule_at call.frame.grammar q.ask.callee)) n)) opened counted))
+    (subst (λ n. IsTally c.with_opened-self.result (one_opened e.tally (holder_of (rule_at call.frame.grammar q.call.ask.callee)) n)) opened counted))
     (stepping.both_ok _ _ c.open.result
     (c.open.ensures.highest src c.push.new.self.items (call ∷ e.lower) _ _
     (subst (λ frames. IsNew t src s.top frames (call ∷ e.lower) called (stepping.frame_of t src s.top s.frames e.lower call work c.args.key.rule from to q)
-    (call.from + q.ask.from)) (sym frames) new))
+    (call.from + q.call.ask.from)) (sym frames) new))
     (c.open.ensures.keeps at.floor))

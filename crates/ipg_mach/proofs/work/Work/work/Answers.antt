@@ -1,13 +1,11 @@
-use Rattle.std.proofs.Common.{sym, ap, ◌≤◌, subst, List, OnOk, Bor, ℕ}
+use Rattle.std.proofs.Common.{sym, ap, subst, List, OnOk, Bor, ℕ}
 use Rattle.std.proofs.lemmas.Result.{on_ok_weaker}
 use Rattle.ipg_moves.specs.Moves.{works, silent, at_hand}
 use Rattle.ipg_table.specs.Rows.{Rows}
-use Rattle.ipg_piles.specs.Piled.{below}
 use Rattle.ipg_advance.specs.Advance.{IsAtHand}
 use Rattle.ipg_mach.specs.Calls.{shown, size_of, items_in, term_at_hand}
 use Rattle.ipg_mach.specs.Stage.{Stage, staged, IsAt, IsAsking}
 use Rattle.ipg_mach.proofs.Stepping as stepping
-use Rattle.ipg_mach.proofs.Working as working
 use Rattle.ipg_mach.proofs.work.Work.work.Goals as goal
 
 pub returns-in-Makes : goal.returns-in-Makes
@@ -39,17 +37,6 @@ returns-in-Calls g c src e call at highest =
     top.frame.entry hand (at_hand silent call)) c.in-Calls.is found in
     let now = stepping.same_reader src s e at c.at_hand.new.self.tables.now c.at_hand.new.self.input.now
     (ap (λ (b : Bor Rows). b.now) c.at_hand.ensures.tables) (ap (λ (b : Bor (List ℕ)). b.now) c.at_hand.ensures.input) in
-    let whole = working.part_size s.tables src top.frame (below top.piles top.frame.base) call.frame call.from work.at_work.is_open.call in
-    let q : IsAsking top.frame call c.in-Calls.rule c.in-Calls.from c.in-Calls.to = record {
-      ask = calls.0.ask;
-      asks = calls.0.is_asked;
-      is_rule = calls.0.is_rule;
-      is_from = calls.0.is_from;
-      is_to = calls.0.is_to;
-      is_outer = calls.0.is_outer;
-      valid = calls.0.valid;
-      inside = subst (λ n. c.in-Calls.to ≤ n) whole calls.0.inside;
-      bounded = calls.1;
-    } in
+    let q : IsAsking top.frame call c.in-Calls.rule c.in-Calls.from c.in-Calls.to = record { call = calls.0; bounded = calls.1 } in
     subst (λ asked. OnOk c.ask.result (IsAt src (staged c.ask.new.self) (works e call (at_hand silent call).answer asked))) (sym calls.0.is_asked)
     (c.ask.ensures src e call q now highest)

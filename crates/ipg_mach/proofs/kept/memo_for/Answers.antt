@@ -3,7 +3,7 @@ use Rattle.std.specs.FinMap as map
 use Rattle.ipg_memo.specs.Keyed.{key_cmp, Entries}
 use Rattle.ipg_mach.specs.Known.{IsKnown, IsEntryOf}
 use Rattle.ipg_mach.specs.Turning.{known_at}
-use Rattle.ipg_mach.proofs.machine.memo_for.Goals as goal
+use Rattle.ipg_mach.proofs.kept.memo_for.Goals as goal
 
 pub returns-in-Answers : goal.returns-in-Answers
 returns-in-Answers g c src st =
