@@ -6,7 +6,7 @@ use Rattle.std.specs.List.{list_all}
 use Rattle.std.specs.Char.{digit_value}
 use Rattle.std.specs.Str.Parse.{AllDigits, IsNumeral, digits_value, without_leading_plus, ParsesUnsigned}
 use Rattle.clap.specs.ValueTests.{is_numeral}
-use Rattle.ipg_words.specs.Settings.{is_positive, up_to, most_mib, mib_in}
+use Rattle.ipg_words.specs.Settings.{is_positive, up_to, number_in}
 use Rattle.ipg_words.specs.Seen.{is_plain_first}
 
 both : (a b : Bool) → a ≡ true → b ≡ true → (a && b) ≡ true
@@ -46,31 +46,31 @@ no_plus text e = by (slice_index text 0 == 43) (and_parts (not (slice_index text
     by true e = absurd (true≢false (sym e))
 
 -- a number that is read
-pub read : (text : List ℕ) (n : ℕ) → is_plain_first text ≡ true → ParsesUnsigned {E = ℕ} 32 10 text (Ok n) → up_to most_mib n ≡ mib_in (Some text)
-read text n plain h =
+pub read : (most : ℕ) (text : List ℕ) (n : ℕ) → is_plain_first text ≡ true → ParsesUnsigned {E = ℕ} 32 10 text (Ok n) → up_to most n ≡ number_in most text
+read most text n plain h =
     let same = no_plus text plain in
     let numeral : IsNumeral 10 text = subst (λ t. IsNumeral 10 t) same h.0.0 in
     let value : n ≡ digits_value 10 text = h.1 ∙ ap (digits_value 10) same in
     let first = (and_parts (not (slice_index text 0 == 48)) (not (slice_index text 0 == 43)) plain).0 in
     let positive : is_positive text ≡ true = both (is_numeral text) (not (slice_index text 0 == 48)) (numeral_test text numeral) first in
-    ap (up_to most_mib) value ∙ sym (ap (λ b. cond b (up_to most_mib (digits_value 10 text)) None) positive)
+    ap (up_to most) value ∙ sym (ap (λ b. cond b (up_to most (digits_value 10 text)) None) positive)
 
 -- a text that isn't read as a number of 32 bits
-pub not_read : (text : List ℕ) → is_plain_first text ≡ true → ¬ (IsNumeral 10 (without_leading_plus text) × (digits_value 10 (without_leading_plus text) < 2 ^ 32))
-    → None ≡ mib_in (Some text)
-not_read text plain h = by (is_positive text) refl
+pub not_read : (most : ℕ) (text : List ℕ) → most < 2 ^ 32 → is_plain_first text ≡ true → ¬ (IsNumeral 10 (without_leading_plus text) × (digits_value 10 (without_leading_plus text) < 2 ^ 32))
+    → None ≡ number_in most text
+not_read most text below plain h = by (is_positive text) refl
   where
-    large : is_positive text ≡ true → nat_le (digits_value 10 text) most_mib ≡ false
+    large : is_positive text ≡ true → nat_le (digits_value 10 text) most ≡ false
     large e =
-        by_size (nat_le (digits_value 10 text) most_mib) refl
+        by_size (nat_le (digits_value 10 text) most) refl
       where
-        by_size : (b : Bool) → nat_le (digits_value 10 text) most_mib ≡ b → b ≡ false
+        by_size : (b : Bool) → nat_le (digits_value 10 text) most ≡ b → b ≡ false
         by_size false f = refl
         by_size true f =
             let numeral = is_a_numeral text (and_parts (is_numeral text) (not (slice_index text 0 == 48)) e).0 in
             let small : digits_value 10 text < 2 ^ 32 = grind (arith, nat_tests) in
             absurd (h (subst (λ t. IsNumeral 10 t × (digits_value 10 t < 2 ^ 32)) (sym (no_plus text plain)) (numeral, small)))
 
-    by : (b : Bool) → is_positive text ≡ b → None ≡ cond b (up_to most_mib (digits_value 10 text)) None
+    by : (b : Bool) → is_positive text ≡ b → None ≡ cond b (up_to most (digits_value 10 text)) None
     by false e = refl
     by true e = sym (ap (λ b. cond b (Some (digits_value 10 text)) None) (large e))

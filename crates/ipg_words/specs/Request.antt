@@ -5,7 +5,7 @@ use Rattle.clap.specs.Walk.{Text, Row, first_of}
 use Rattle.clap.specs.Simple.{App}
 use Rattle.ipg_words.specs.Commands as command
 use Rattle.ipg_words.specs.Commands.{taken}
-use Rattle.ipg_words.specs.Settings.{memo_in, mib_in}
+use Rattle.ipg_words.specs.Settings.{memo_in, mib_in, count_in}
 use Rattle.ipg_words.specs.declared.asking.Memo.{Memo}
 
 infixl 10 ◌>>=◌
@@ -22,6 +22,7 @@ pub data Task : Type 0 where
 pub data Request : Type 0 where
   Use : (grammar : Text) → Task → Request
   Fmt : (grammar : Text) → Request
+  Trial : (kind : Text) (count : ℕ) → Request
 
 abbrev pub parse_task : List Row → Option Task
 parse_task rows = do
@@ -46,6 +47,13 @@ fmt_by rows = do
   grammar ← first_of (codes "G") rows
   Some (Fmt grammar)
 
+abbrev pub trial_by : List Row → Option Request
+trial_by rows = do
+  kind ← first_of (codes "KIND") rows
+  text ← first_of (codes "N") rows
+  count ← count_in text
+  Some (Trial kind count)
+
 -- the command, where it takes the words, and what it wants the grammar for
 abbrev pub use_words : App → (List Row → Option Task) → List Text → Option Request
 use_words command task words = do
@@ -57,6 +65,11 @@ fmt_words words = do
   rows ← taken command.fmt words
   fmt_by rows
 
+abbrev pub trial_words : List Text → Option Request
+trial_words words = do
+  rows ← taken command.trial words
+  trial_by rows
+
 -- the words from the command's name on
 abbrev pub request_by : Text → List Text → Option Request
 request_by name words = if bytes_eq name (codes "parse") then use_words command.parse parse_task words
@@ -64,7 +77,8 @@ request_by name words = if bytes_eq name (codes "parse") then use_words command.
     else (if bytes_eq name (codes "cert") then use_words command.cert (λ rows. Some Cert) words
     else (if bytes_eq name (codes "verify") then use_words command.verify verify_task words
     else (if bytes_eq name (codes "fmt") then fmt_words words
-    else None))))
+    else (if bytes_eq name (codes "trial") then trial_words words
+    else None)))))
 
 -- nothing where the words are no command's
 abbrev pub request_of : List Text → Option Request

@@ -21,9 +21,11 @@ pub enum Wanted<'a> {
     },
 }
 
-/// A command, with the name of its grammar.
+/// A command, with the name of its grammar or format.
 #[derive(Clone, Copy)]
 pub enum Asked<'a> {
     Use { grammar: &'a str, task: Wanted<'a> },
     Fmt { grammar: &'a str },
+    /// A built-in grammar on a sample with so many parts.
+    Trial { kind: &'a str, count: u32 },
 }

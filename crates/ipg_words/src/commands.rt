@@ -38,6 +38,14 @@ pub fn parse<'a>(alloc: Global) -> Result<Command<'a>, AllocError>
         .arg(option(alloc, "arena"))
 }
 
+pub fn trial<'a>(alloc: Global) -> Result<Command<'a>, AllocError>
+    ensures { IfOk result (λ command. app_of command ≡ spec.trial) }
+{
+    Command::new(alloc, "trial")
+        .arg(required(alloc, "KIND"))?
+        .arg(required(alloc, "N"))
+}
+
 pub fn verify<'a>(alloc: Global) -> Result<Command<'a>, AllocError>
     ensures { IfOk result (λ command. app_of command ≡ spec.verify) }
 {

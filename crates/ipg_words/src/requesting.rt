@@ -8,9 +8,9 @@ ghost use Rattle.ipg_words.specs.Request.{request_of, request_by, parse_task, ve
 ghost use Rattle.ipg_words.specs.Seen.{seen, task_seen};
 
 use crate::asking::{Asked, Wanted};
-use crate::commands::{on_grammar, parse, verify};
+use crate::commands::{on_grammar, parse, trial, verify};
 use crate::matching::{taken, value};
-use crate::settings::{memo, mib};
+use crate::settings::{count, memo, mib};
 use clap::ArgMatches;
 use std::alloc::{AllocError, Global};
 
@@ -37,6 +37,7 @@ fn request_by<'a>(
         "cert" => grammar_request(alloc, "cert", Wanted::Cert, words),
         "verify" => verify_request(alloc, words),
         "fmt" => fmt_request(alloc, words),
+        "trial" => trial_request(alloc, words),
         _ => Ok(None),
     }
 }
@@ -83,6 +84,15 @@ fn fmt_request<'a>(alloc: Global, words: &'a [String]) -> Result<Option<Asked<'a
     }
 }
 
+fn trial_request<'a>(alloc: Global, words: &'a [String]) -> Result<Option<Asked<'a>>, AllocError>
+    ensures { IfOk result (λ asked. option_map seen asked ≡ spec.trial_words (map string_bytes words.now)) }
+{
+    match taken(trial(alloc)?, words)? {
+        Some(matches) => Ok(trial_of(&matches)),
+        None => Ok(None),
+    }
+}
+
 fn use_of<'a>(matches: &ArgMatches<'a>, task: Option<Wanted<'a>>) -> Option<Asked<'a>>
     ensures { option_map seen result ≡ spec.use_by (rows_of (found_of matches.now)) (option_map task_seen task.entry) }
 {
@@ -96,6 +106,14 @@ fn fmt_of<'a>(matches: &ArgMatches<'a>) -> Option<Asked<'a>>
 {
     let grammar = value(matches, "G")?;
     Some(Asked::Fmt { grammar })
+}
+
+fn trial_of<'a>(matches: &ArgMatches<'a>) -> Option<Asked<'a>>
+    ensures { option_map seen result ≡ spec.trial_by (rows_of (found_of matches.now)) }
+{
+    let kind = value(matches, "KIND")?;
+    let count = count(value(matches, "N")?)?;
+    Some(Asked::Trial { kind, count })
 }
 
 fn parse_wanted<'a>(matches: &ArgMatches<'a>) -> Option<Wanted<'a>>

@@ -1,6 +1,6 @@
-//! The values of a parse's options.
-ghost use Rattle.std.specs.Prelude.{◌≡◌, option_map, Some};
-ghost use Rattle.ipg_words.specs.Settings.{memo_in, mib_in, most_mib, up_to};
+//! The values of options, and of a number of parts.
+ghost use Rattle.std.specs.Prelude.{◌≡◌, ◌≤◌, option_map, Some};
+ghost use Rattle.ipg_words.specs.Settings.{memo_in, mib_in, count_in, number_in, most_count, up_to};
 ghost use Rattle.ipg_words.specs.Seen.{is_plain_first};
 
 use crate::asking::Memo;
@@ -33,8 +33,18 @@ pub fn mib(text: Option<&str>) -> Option<u32>
 {
     match text {
         None => Some(DEFAULT_MIB),
-        Some(text) => mib_of(text),
+        Some(text) => number(text, MOST_MIB),
     }
+}
+
+/// A number of parts.
+pub fn count(text: &str) -> Option<u32>
+    ensures { result ≡ count_in text.now }
+{
+    if text == "0" {
+        return Some(0);
+    }
+    number(text, u32::MAX)
 }
 
 /// Whether neither a sign nor a zero stands first.
@@ -47,20 +57,22 @@ fn begins_plainly(text: &str) -> bool
     }
 }
 
-fn mib_of(text: &str) -> Option<u32>
-    ensures { result ≡ mib_in (Some text.now) }
+/// A number from 1 to the most.
+fn number(text: &str, most: u32) -> Option<u32>
+    requires { most ≤ most_count }
+    ensures { result ≡ number_in most text.now }
 {
     if !begins_plainly(text) {
         return None;
     }
     match text.parse::<u32>() {
-        Ok(mib) => at_most(mib),
+        Ok(number) => at_most(number, most),
         Err(_) => None,
     }
 }
 
-fn at_most(mib: u32) -> Option<u32>
-    ensures { result ≡ up_to most_mib mib }
+fn at_most(number: u32, most: u32) -> Option<u32>
+    ensures { result ≡ up_to most number }
 {
-    if mib <= MOST_MIB { Some(mib) } else { None }
+    if number <= most { Some(number) } else { None }
 }

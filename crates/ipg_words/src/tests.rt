@@ -56,7 +56,7 @@ fn reads_settings(rt: HostRuntime) -> anyhow::Result<()> {
     Ok(())
 }
 
-const REFUSED: [&[&str]; 33] = [
+const REFUSED: [&[&str]; 42] = [
     &[],
     &["parse"],
     &["parse", "g"],
@@ -90,7 +90,31 @@ const REFUSED: [&[&str]; 33] = [
     &["verify", "g"],
     &["fmt", "g", "f"],
     &["cert", "--help"],
+    &["trial"],
+    &["trial", "gif"],
+    &["trial", "gif", ""],
+    &["trial", "gif", "4294967296"],
+    &["trial", "gif", "03"],
+    &["trial", "gif", "00"],
+    &["trial", "gif", "+3"],
+    &["trial", "gif", "-3"],
+    &["trial", "gif", "3", "--memo", "on"],
 ];
+
+const TRIALS: [(&str, u32); 4] = [("0", 0), ("1", 1), ("30", 30), ("4294967295", 4294967295)];
+
+#[test]
+fn reads_numbers_of_parts(rt: HostRuntime) -> anyhow::Result<()> {
+    for (text, want) in TRIALS {
+        let words = words(rt.alloc(), &["trial", "gif", text])?;
+        let got = match request(rt.alloc(), &words)? {
+            Some(Asked::Trial { kind: "gif", count }) => Some(count),
+            _ => None,
+        };
+        assert_eq!(rt; got, Some(want), "{text}");
+    }
+    Ok(())
+}
 
 /// What a command doesn't take, values out of range, and requests for help.
 #[test]
