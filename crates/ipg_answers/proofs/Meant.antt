@@ -1,21 +1,31 @@
--- What an accepted grammar means, and what is printed of a parse.
-use Rattle.std.proofs.Common.{◌≡◌, ℕ, suc, ◌<◌, ◌≤◌, List, length, [], ◌∷◌, ◌++◌, get_or, append-nil, Result, Fits as IsBelow, w8, refl, sym, ap, ◌∙◌, subst, arith}
+-- What an accepted grammar means, and what is told of a parse.
+use Rattle.std.proofs.Common.{◌≡◌, ◌≢◌, ℕ, suc, ◌<◌, ◌≤◌, ◌-◌, ◌^◌, List, length, [], ◌∷◌, min, get_or, Option, Some, Result, Ok, Err, IfOk, Fits as IsBelow, w8, refl, sym, ap, ◌∙◌, subst, arith}
 use Rattle.std.proofs.lemmas.Option.{slice_get_within}
 use Rattle.std.specs.List.{AllByRecursion}
 use Rattle.ipg_core.specs.Grammar.{Grammar, holder_of}
 use Rattle.ipg_core.specs.Good.{Good}
 use Rattle.ipg_core.specs.Grown.{IsInput, GrownUnder, max_input}
 use Rattle.ipg_core.specs.Meaning.{Means, den}
-use Rattle.ipg_core.specs.Run.{Stop}
+use Rattle.ipg_core.specs.Lines.{lines, tree_lines}
+use Rattle.ipg_core.specs.Run.{Stop, Deep}
 use Rattle.ipg_core.specs.Total.{Total, Fits, height_for}
 use Rattle.ipg_core.specs.Tree.{Tree}
-use Rattle.ipg_mach.specs.Outcome.{IsParse}
+use Rattle.ipg_counts.specs.Laws.{CountsWithMemo}
+use Rattle.ipg_mach.specs.Counted.{IsTally}
+use Rattle.ipg_mach.specs.Outcome.{IsParse, Evaluates}
 use Rattle.ipg_mach.specs.Stage.{source}
+use Rattle.ipg_moves.specs.Moves.{Tally}
+use Rattle.ipg_outside.specs.Sink.{Output}
 use Rattle.ipg_parsed.specs.Parse.{Walked}
+use Rattle.ipg_parsed.specs.declared.parsed.Counts.{Counts}
 use Rattle.ipg_table.specs.Rows.{Rows, StandFor}
 use Rattle.ipg_tree.specs.Shares.{IsTree}
-use Rattle.ipg_outside.specs.Sink.{Takes}
-use Rattle.ipg_answers.specs.Answered.{all_out}
+use Rattle.ipg_answers.specs.Answered.{Answers, Fails, PutsTree}
+use Rattle.ipg_answers.specs.Measured.{IsSize}
+use Rattle.ipg_answers.specs.declared.answering.Given.{Given}
+use Rattle.ipg_answers.specs.declared.answering.AnswerFault.{AnswerFault}
+use Rattle.ipg_answers.specs.declared.measuring.Size.{Size}
+use Rattle.std.specs.Prelude.{IfErr}
 
 first_fits : (g : Grammar) (s : List ℕ) → Good g → IsInput s → Fits g 0 s []
 first_fits g s good input =
@@ -57,6 +67,35 @@ printable t g input p one stands h = record {
   stands = h.stands;
 }
 
--- what a buffer took is its text
-pub taken : (text : List ℕ) (before after : List ℕ) → before ≡ [] → Takes text (all_out before) (all_out after) → after ≡ text
-taken text before after empty h = sym (append-nil after) ∙ h.all ∙ ap (λ bytes. (bytes ++ []) ++ text) empty
+-- ---- what becomes of the lines of a tree
+
+module _ (g : Grammar) (input : List ℕ) (answer : Result Tree Stop) (means : Means g input answer) (one : Tree) (is_one : answer ≡ Ok one)
+    (before : Option Output) (counted : ℕ) (after : Option Output) (counts : ℕ) where
+  pub given_of : (r : Result Given AnswerFault) → PutsTree r (lines g one 0) before counted after counts
+      → IfOk r (λ x. Answers g input x before counted after counts)
+  given_of (Ok x) h = subst (λ x. Answers g input x before counted after counts) (sym h.0)
+      (record { answer = answer; means = means; is = (one, is_one, h.1) })
+  given_of (Err x) h = tt
+
+  pub fault_of : (r : Result Given AnswerFault) → PutsTree r (lines g one 0) before counted after counts
+      → IfErr r (λ x. Fails g input x before counted after counts)
+  fault_of (Ok x) h = tt
+  fault_of (Err x) h = subst (λ x. Fails g input x before counted after counts) (sym h.0)
+      (record { tree = one; means = subst (Means g input) is_one means; part = h.1 })
+
+-- ---- how large a tree is
+
+pub size_is : (counts_with_memo : CountsWithMemo) (g : Grammar) (input : List ℕ) (answer : Result Tree Stop) (m : Means g input answer) (one : Tree) (tally : Tally)
+    (counts : Counts) (size : Size) → answer ≡ Ok one → Evaluates g input (Some []) answer tally → IsTally counts tally
+    → size.lines ≡ min (length (tree_lines g 0 0 one)) (2 ^ 64 - 1) → size.bodies ≡ counts.bodies → IsSize g input one size
+size_is counts_with_memo g input answer m one tally counts size is_one e is_tally lines bodies =
+    let settled : den g m.height 0 input [] ≢ Err Deep = subst (λ a. a ≢ Err Deep) (sym m.is) m.settled in
+    let all = counts_with_memo g input m.height e.moved answer settled e.ends in
+    record {
+      lines = lines;
+      height = m.height;
+      settled = settled;
+      keys = all.0;
+      reach = all.1;
+      bodies = bodies ∙ is_tally.bodies ∙ ap (λ n. min n (2 ^ 64 - 1)) (sym (ap (λ (t : Tally). t.bodies) e.counts) ∙ all.2);
+    }

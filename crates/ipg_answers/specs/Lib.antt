@@ -1,2 +1,4 @@
 -- what is answered of an input
 pub mod Answered
+-- how large its tree is
+pub mod Measured

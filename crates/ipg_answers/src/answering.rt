@@ -1,6 +1,6 @@
 //! An input is parsed, and its tree printed.
 
-ghost use Rattle.std.specs.Prelude.{◌≡◌, ◌≤◌, ◌^◌, length, IfOk, Result};
+ghost use Rattle.std.specs.Prelude.{◌≡◌, ◌≤◌, ◌^◌, length, IfOk, IfErr, Result};
 ghost use Rattle.ipg_core.specs.Grammar.{Grammar};
 ghost use Rattle.ipg_core.specs.Lines as tree;
 ghost use Rattle.ipg_core.specs.Meaning.{Means};
@@ -8,17 +8,17 @@ ghost use Rattle.ipg_core.specs.Run.{Stop};
 ghost use Rattle.ipg_core.specs.Tree.{Tree};
 ghost use Rattle.ipg_nodes.specs.Stored.{Source};
 ghost use Rattle.ipg_tree.specs.Shares.{IsTree};
-ghost use Rattle.ipg_answers.specs.Answered.{Answers, IsGiven};
+ghost use Rattle.ipg_answers.specs.Answered.{Answers, Fails, PutsTree};
 
-use crate::buffer::Buffer;
 use ipg_core::accepted::Checked;
 use ipg_mach::{Outcome, Parsed, Remember, parse};
+use ipg_outside::Sink;
 use ipg_table::tables::compile;
 use ipg_tree::print;
 use linked_list_allocator::LocalHeap;
 use std::alloc::{AllocError, Allocator, Global};
 
-const MIB: usize = 1 << 20;
+pub const BYTES_PER_MIB: usize = 1 << 20;
 
 /// What a parse may use: what it remembers of calls, and so many MiB.
 #[derive(Clone, Copy, Debug, PartialEq, Eq)]
@@ -27,54 +27,75 @@ pub struct Room {
     pub mib: u32,
 }
 
-/// What is answered of an input.
-#[derive(Drop)]
+/// What an input comes to.
+#[derive(Clone, Copy, Debug, Drop, PartialEq, Eq)]
 pub enum Given {
-    /// The lines of the tree.
-    Text(Vec<u8>),
+    /// The lines of its tree were taken by the sink.
+    Tree,
     NoTree,
     /// A value left 64 bits.
     Range,
 }
 
+/// Why the answer is not given whole.
+#[derive(Clone, Copy, Debug, Drop, PartialEq, Eq)]
+pub enum AnswerFault {
+    /// Nothing was written.
+    Memory,
+    /// The sink failed within the lines of the tree.
+    Write,
+}
+
+impl From<AllocError> for AnswerFault {
+    ghost use Rattle.std.specs.Prelude.{◌≡◌};
+    ghost use Rattle.ipg_answers.specs.declared.answering.AnswerFault.TheVariants.{Memory};
+
+    ghost from_gives = { λ _ fault. fault ≡ Memory };
+
+    fn from(_: AllocError) -> AnswerFault {
+        AnswerFault::Memory
+    }
+}
+
 /// An accepted grammar has an answer for each input of at most 2^30 bytes.
-fn has_answer(grammar: &Checked, input: &[u8])
+pub fn has_answer(grammar: &Checked, input: &[u8])
     requires { length input.now ≤ 2 ^ 30 }
     ensures { (answer : Result Tree Stop) × Means grammar.now input.now answer }
 {
     let _rules = grammar.core().rules();
 }
 
-/// The lines of a parsed tree.
-fn printed<A: Allocator + Clone + Drop>(
-    alloc: Global,
+/// Writes the lines of a parsed tree.
+fn put<A: Allocator + Clone + Drop, S: Sink>(
     parsed: &mut Parsed<'_, A>,
-) -> Result<Vec<u8>, AllocError>
-    ensures { (src : Source) (g : Grammar) (one : Tree) → IsTree parsed.old.parse src g one → IfOk result (λ text. text.items ≡ tree.lines g one 0) }
+    out: &mut S,
+) -> Result<Given, AnswerFault>
+    ensures { (src : Source) (g : Grammar) (one : Tree) → IsTree parsed.old.parse src g one → PutsTree result (tree.lines g one 0) (S.output out.old) (S.faults out.old) (S.output out.new) (S.faults out.new) }
 {
-    let mut text = Buffer::new(alloc);
-    match print(parsed, &mut text) {
-        Ok(()) => Ok(text.bytes),
-        Err(_) => Err(AllocError),
+    match print(parsed, out) {
+        Ok(()) => Ok(Given::Tree),
+        Err(_) => Err(AnswerFault::Write),
     }
 }
 
-/// What the grammar means on the input. The parse takes its memory from a heap of the size that is said; its tables and the
-/// text lie outside of that.
-pub fn answer(
+/// What the grammar means on the input; the lines of a tree go into the sink, once the whole of it stands. The parse takes its
+/// memory from a heap of the size that is said; its tables lie outside of that.
+pub fn answer<S: Sink>(
     alloc: Global,
     grammar: &Checked,
     input: &[u8],
     room: Room,
-) -> Result<Given, AllocError>
+    out: &mut S,
+) -> Result<Given, AnswerFault>
     requires { length input.now ≤ 2 ^ 30 }
-    ensures { IfOk result (λ given. Answers grammar.now input.now given) }
+    ensures given { IfOk result (λ given. Answers grammar.now input.now given (S.output out.old) (S.faults out.old) (S.output out.new) (S.faults out.new)) }
+    ensures fault { IfErr result (λ fault. Fails grammar.now input.now fault (S.output out.old) (S.faults out.old) (S.output out.new) (S.faults out.new)) }
 {
     let tables = compile(alloc, grammar)?;
-    let heap = LocalHeap::new(alloc, room.mib as usize * MIB)?;
+    let heap = LocalHeap::new(alloc, room.mib as usize * BYTES_PER_MIB)?;
     has_answer(grammar, input);
     match parse(&heap, &tables, input, room.remember)? {
-        Outcome::Tree(mut parsed) => Ok(Given::Text(printed(alloc, &mut parsed)?)),
+        Outcome::Tree(mut parsed) => put(&mut parsed, out),
         Outcome::NoTree(_) => Ok(Given::NoTree),
         Outcome::Range(_) => Ok(Given::Range),
     }

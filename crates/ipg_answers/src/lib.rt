@@ -1,7 +1,8 @@
-//! What is answered of an input: the text of its tree, in memory of its own, or that there is none.
+//! What is answered of an input: its tree, printed into a sink, or how large it is; or that there is none.
 #![tactic(auto)]
 
 mod answering;
-mod buffer;
+mod measuring;
 
-pub use answering::{Given, Room, answer};
+pub use answering::{AnswerFault, Given, Room, answer};
+pub use measuring::{Measured, Size, measure};
