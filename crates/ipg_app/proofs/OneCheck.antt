@@ -1,11 +1,10 @@
 -- A core grammar is accepted, or is refused in one way.
-use Rattle.std.proofs.Common.{◌≡◌, Ok, Err, refl, sym, ap, ◌∙◌}
+use Rattle.std.proofs.Common.{◌≡◌, Ok, Err, sym, ap, ◌∙◌}
 use Rattle.ipg_core.specs.Grammar.{Grammar}
 use Rattle.ipg_lin.specs.Formula.{assigned}
 use Rattle.ipg_term.specs.Laws.{LoopsArentAccepted, OneLoops}
 use Rattle.ipg_app.specs.Said.{Said}
-use Rattle.ipg_app.specs.CoreOf.{Answer}
-use Rattle.ipg_app.specs.Checks.{may_loop, IsLoop, Checks}
+use Rattle.ipg_app.specs.Checks.{may_loop, IsLoop}
 use Rattle.ipg_app.specs.Laws.{OneCheck}
 
 module _ (loops_arent_accepted : LoopsArentAccepted) (one_loops : OneLoops) where

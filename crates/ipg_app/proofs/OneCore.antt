@@ -7,7 +7,7 @@ use Rattle.ipg_complete.specs.Unordered.{Unordered}
 use Rattle.ipg_complete.specs.Completion.{completed}
 use Rattle.ipg_names.specs.Resolved.{Resolved}
 use Rattle.ipg_ast.specs.declared.grammar.Grammar as written
-use Rattle.ipg_order.specs.Answer.{without_orders, IsFirstStuck}
+use Rattle.ipg_order.specs.Answer.{IsFirstStuck}
 use Rattle.ipg_order.specs.Laws.{OrdersOnce, GoodIsNotStuck, StuckOnce}
 use Rattle.ipg_touch.specs.Loose.{loose}
 use Rattle.ipg_touch.specs.Laws.{OneLimit}

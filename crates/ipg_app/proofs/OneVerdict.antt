@@ -1,8 +1,7 @@
 -- `check` says one thing of a name of which something is told.
-use Rattle.std.proofs.Common.{◌≡◌, ◌≢◌, ℕ, ◌⊎◌, inl, inr, List, Ok, Err, Option, Some, None, refl, sym, ap, ◌∙◌, subst}
+use Rattle.std.proofs.Common.{◌≡◌, ◌≢◌, ℕ, ◌⊎◌, inl, inr, List, Ok, Err, Option, Some, None, refl, sym, ◌∙◌, subst}
 use Rattle.ipg_outside.specs.Files.{Told, untold, absent, holds, MayHold}
 use Rattle.ipg_core.specs.Grammar.{Grammar}
-use Rattle.ipg_words.specs.Request.{Check}
 use Rattle.ipg_app.specs.Said.{Said, read_fault}
 use Rattle.ipg_app.specs.CoreOf.{Answer, CoreOf}
 use Rattle.ipg_app.specs.Checks.{Checks}
@@ -10,7 +9,7 @@ use Rattle.ipg_app.specs.Order.{Order, Answers, only, have, finds}
 use Rattle.ipg_formats.specs.declared.Kind.{Kind}
 use Rattle.ipg_formats.specs.Names.{kind_of}
 use Rattle.ipg_formats.specs.Text.{text_of}
-use Rattle.ipg_app.specs.Reply.{text_by, core_of, check, use_order}
+use Rattle.ipg_app.specs.Reply.{text_by, core_of, check}
 use Rattle.ipg_app.specs.Laws.{OneCore, OneCheck, OneVerdict}
 
 -- one value is found, and one thing is said behind it

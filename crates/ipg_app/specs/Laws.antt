@@ -5,7 +5,7 @@ use Rattle.ipg_core.specs.Grammar.{Grammar}
 use Rattle.ipg_words.specs.Request.{Check}
 use Rattle.ipg_app.specs.Said.{Said}
 use Rattle.ipg_app.specs.Order.{Answers}
-use Rattle.ipg_app.specs.Reply.{use_order}
+use Rattle.ipg_app.specs.Reply.{use_order, Parses}
 use Rattle.ipg_app.specs.CoreOf.{Answer, CoreOf}
 use Rattle.ipg_app.specs.Checks.{Checks}
 
@@ -16,6 +16,10 @@ OneCore = (text : List ℕ) (one other : Answer) → CoreOf text one → CoreOf 
 -- a core grammar is accepted, or is refused in one way
 abbrev pub OneCheck : Type 0
 OneCheck = (g : Grammar) (one other : Answer) → Checks g one → Checks g other → one ≡ other
+
+-- an input has one parse, whatever is remembered of calls and however large the heap is
+abbrev pub OneParse : Type 0
+OneParse = (g : Grammar) (input : List ℕ) (one other : Said) → Parses g input one → Parses g input other → one ≡ other
 
 -- of a name of which something is told `check` says one thing
 abbrev pub OneVerdict : Type 0

@@ -7,6 +7,8 @@ pub mod CoreOf
 -- whether parsing by it ends, and certificates that it does
 pub mod Checks
 pub mod Certificate
+-- a trial on a sample
+pub mod Trial
 -- in which order it answers, and what it does outside
 pub mod Order
 pub mod Reply
@@ -16,3 +18,4 @@ pub mod Laws
 -- what functions inside the crate promise each other
 pub mod Lines
 pub mod Found
+pub mod Settled

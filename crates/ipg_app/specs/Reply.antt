@@ -10,11 +10,12 @@ use Rattle.ipg_core.specs.Lines.{lines}
 use Rattle.ipg_formats.specs.declared.Kind.{Kind}
 use Rattle.ipg_formats.specs.Names.{kind_of}
 use Rattle.ipg_formats.specs.Text.{text_of}
-use Rattle.ipg_words.specs.Request.{Task, Parse, Check, Cert, Verify, Request, Use, Fmt, request_of}
+use Rattle.ipg_words.specs.Request.{Task, Parse, Check, Cert, Verify, Request, Use, Fmt, Trial, request_of}
 use Rattle.ipg_app.specs.Said.{Said, done, done_line, usage, no_parse, range, too_large}
 use Rattle.ipg_app.specs.CoreOf.{grammar_in, CoreOf}
 use Rattle.ipg_app.specs.Checks.{Checks}
 use Rattle.ipg_app.specs.Certificate.{Certifies, Reads, Judges}
+use Rattle.ipg_app.specs.Trial.{Tries, kind_by, parts_in}
 use Rattle.ipg_app.specs.Order.{Order, Step, says, only, found, have, contents, ◌>>=◌}
 
 -- ---- steps
@@ -110,6 +111,25 @@ verify name g = do
   text ← have (input_in bytes)
   judge text g
 
+-- ---- the command that tries a built-in grammar
+
+abbrev pub try_core : List ℕ → Kind → ℕ → Grammar → Order
+try_core name kind n g = do
+  same ← accepted g
+  says (Tries name kind n same)
+
+abbrev pub trial_of : List ℕ → ℕ → Kind → Order
+trial_of name n kind = do
+  parts ← have (parts_in n)
+  g ← core_of (text_of kind)
+  try_core name kind parts g
+
+-- the built-in text of a format, on a sample of it
+abbrev pub trial : List ℕ → ℕ → Order
+trial name n = do
+  kind ← have (kind_by name)
+  trial_of name n kind
+
 -- ---- the command that reads a text alone
 
 abbrev pub formatted : written.Grammar → Order
@@ -122,7 +142,7 @@ fmt grammar = do
 
 -- ---- words
 
--- neither the memo nor the memory of a parse has an effect yet
+-- neither the memo nor the size of the heap has a part in what is said
 abbrev pub order_by : Task → Grammar → Order
 order_by (Parse input memo mib) g = parse input g
 order_by Check g = check g
@@ -137,6 +157,7 @@ use_order grammar task = do
 abbrev pub order_on : Option Request → Order
 order_on (Some (Use grammar task)) = use_order grammar task
 order_on (Some (Fmt grammar)) = fmt grammar
+order_on (Some (Trial kind n)) = trial kind n
 order_on None = only usage
 
 abbrev pub order_of : List (List ℕ) → Order

@@ -70,3 +70,7 @@ pub record Replied (before after : Outside) (words : List (List ℕ)) (s : Statu
 -- where no count rises, the reply goes out, or memory is wanted
 abbrev pub RepliesWithoutFault : Outside → Outside → List (List ℕ) → Status → Type 0
 RepliesWithoutFault before after words s = NoFault before after → Replied before after words s ⊎ OutOfMemory before after s
+
+-- where nothing fails, the status is the reply's, or memory was wanting
+abbrev pub Surely : (List ℕ → Told) → List (List ℕ) → Status → Type 0
+Surely told words s = ((said : Said) × Answers told (order_of words) said × (s ≡ said.status)) ⊎ (s ≡ status.Memory)

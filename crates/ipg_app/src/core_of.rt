@@ -3,9 +3,10 @@ ghost use Rattle.std.specs.Prelude.{◌≡◌, Ok, Err, IfOk, MatchResult, map, 
 ghost use Rattle.ipg_core.specs.Grammar.{name_at};
 ghost use Rattle.ipg_core.specs.Good.{Good};
 ghost use Rattle.ipg_names.specs.Readable.{IsReadable};
-ghost use Rattle.ipg_app.specs.CoreOf.{resolved, Orders, Touches, OrdersAndTouches, CoreFrom, name_of};
+ghost use Rattle.ipg_app.specs.CoreOf.{CoreOf, resolved, Orders, Touches, OrdersAndTouches, CoreFrom, name_of};
 ghost use Rattle.ipg_app.specs.Lines.{said_of, line_bytes};
 
+use crate::grammar::grammar_in;
 use crate::refusal::{TermPlace, circular, name_refusal, no_touch};
 use crate::said::Settled;
 use ipg_ast::Grammar;
@@ -26,6 +27,16 @@ pub fn core_of(alloc: Global, g: &Grammar) -> Result<Result<Core, Settled>, Allo
 {
     match named_in(alloc, g)? {
         Ok(named) => core_in(alloc, complete(alloc, named)?),
+        Err(settled) => Ok(Err(settled)),
+    }
+}
+
+/// The core grammar of a text, or what is said of a text that has none.
+pub fn core_in_text(alloc: Global, text: &[u8]) -> Result<Result<Core, Settled>, AllocError>
+    ensures { IfOk result (λ made. MatchResult made (λ core. CoreOf text.now (Ok core)) (λ settled. CoreOf text.now (Err (said_of settled)))) }
+{
+    match grammar_in(alloc, text)? {
+        Ok(g) => core_of(alloc, &g),
         Err(settled) => Ok(Err(settled)),
     }
 }

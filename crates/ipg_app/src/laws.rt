@@ -1,7 +1,8 @@
 //! What holds of core grammars, the contract of a function that does nothing.
 
-ghost use Rattle.ipg_app.specs.Laws.{OneCore, OneCheck, OneVerdict};
+ghost use Rattle.ipg_app.specs.Laws.{OneCore, OneCheck, OneParse, OneVerdict};
 
+use ipg_core::laws::heights_agree;
 use ipg_order::laws::{good_is_not_stuck, orders_once, stuck_once};
 use ipg_term::laws::{loops_arent_accepted, one_loops};
 use ipg_touch::laws::one_limit;
@@ -22,6 +23,13 @@ pub fn one_check()
 {
     loops_arent_accepted();
     one_loops();
+}
+
+/// An input has one parse: of `parse`, with the memo or without and in a heap of any size, one thing is said.
+pub fn one_parse()
+    ensures { OneParse }
+{
+    heights_agree();
 }
 
 /// Of a file of which something is told `check` says one thing.

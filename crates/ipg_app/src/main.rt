@@ -9,12 +9,15 @@ mod laws;
 mod looping;
 mod parse;
 mod refusal;
+mod reply;
 mod run;
 mod said;
 mod settle;
 mod status;
+mod sure;
 #[cfg(test)]
 mod tests;
+mod trial;
 mod verifying;
 mod writing;
 

@@ -1,26 +1,47 @@
-//! Parses an input by a grammar.
-ghost use Rattle.std.specs.Prelude.{◌≤◌, ◌^◌, length, IfOk};
+//! Parses an input, and writes what comes of it.
+ghost use Rattle.std.specs.Prelude.{◌≡◌, ◌≤◌, ◌^◌, ℕ, length, Option, Result};
+ghost use Rattle.ipg_core.specs.Grammar.{Grammar};
+ghost use Rattle.ipg_core.specs.Tree.{Tree};
+ghost use Rattle.ipg_core.specs.Run.{Stop};
+ghost use Rattle.ipg_outside.specs.Sink.{Output};
+ghost use Rattle.ipg_answers.specs.Answered.{IsGiven};
 ghost use Rattle.ipg_app.specs.Reply.{Parses};
-ghost use Rattle.ipg_app.specs.Lines.{said_of};
+ghost use Rattle.ipg_app.specs.Settled.{Replies, Concludes, fault_status};
 
-use crate::said::{Settled, line};
+use crate::reply::Due;
 use crate::status::Status;
-use ipg_core::accepted::Checked;
-use ipg_lines::lines_of;
-use ipg_plain::walk::{Walked, walk};
-use std::alloc::{AllocError, Global};
+use crate::writing::{finish, tell};
+use ipg_answers::{AnswerFault, Given, answer};
+use ipg_outside::Sink;
+use std::alloc::Global;
 
-/// What is to be said of the parse.
-pub fn parse(alloc: Global, grammar: &Checked, input: &[u8]) -> Result<Settled, AllocError>
-    requires { length input.now ≤ 2 ^ 30 }
-    ensures { IfOk result (λ settled. Parses grammar.now input.now (said_of settled)) }
+/// Writes the tree of an input, or that it has none.
+pub fn parse<S: Sink>(alloc: Global, due: &Due, out: &mut S) -> Status
+    requires { length due.now.input.items ≤ 2 ^ 30 }
+    ensures { Replies (Parses due.now.grammar due.now.input.items) (S.output out.old) (S.faults out.old) (S.output out.new) (S.faults out.new) result }
 {
-    match walk(alloc, grammar, input)? {
-        Walked::Tree(tree) => Ok(Settled {
-            status: Status::Done,
-            lines: lines_of(alloc, grammar.core(), &tree)?,
-        }),
-        Walked::NoTree => line(alloc, Status::NoParse, b"no parse"),
-        Walked::Range => line(alloc, Status::Range, b"range"),
+    match answer(alloc, &due.grammar, &due.input, due.room, out) {
+        Ok(given) => end(given, out),
+        Err(fault) => status_of(fault),
+    }
+}
+
+/// Writes what is left to say of what is given.
+fn end<S: Sink>(given: Given, out: &mut S) -> Status
+    ensures { (g : Grammar) (answer : Result Tree Stop) (before : Option Output) (counted : ℕ) → IsGiven g answer given before counted (S.output out.old) (S.faults out.old) → Concludes g answer before counted (S.output out.new) (S.faults out.new) result }
+{
+    match given {
+        Given::Tree => finish(Status::Done, out),
+        Given::NoTree => tell(Status::NoParse, b"no parse\n", out),
+        Given::Range => tell(Status::Range, b"range\n", out),
+    }
+}
+
+fn status_of(fault: AnswerFault) -> Status
+    ensures { result ≡ fault_status fault }
+{
+    match fault {
+        AnswerFault::Memory => Status::Memory,
+        AnswerFault::Write => Status::WriteFault,
     }
 }

@@ -3,9 +3,9 @@ ghost use Rattle.std.specs.Prelude.{map};
 ghost use Rattle.std.specs.String.{string_bytes};
 ghost use Rattle.ipg_app.specs.Run.{Runs, RepliesWithoutFault};
 
+use crate::reply::put_reply;
 use crate::settle::settle;
 use crate::status::Status;
-use crate::writing::put;
 use ipg_outside::{Files, Sink};
 use std::alloc::Global;
 
@@ -15,10 +15,7 @@ pub fn run<F: Files, S: Sink>(alloc: Global, words: &[String], files: &mut F, ou
     ensures replies { RepliesWithoutFault (record { told = F.told files.old; read_faults = F.faults files.old; output = S.output out.old; write_faults = S.faults out.old }) (record { told = F.told files.new; read_faults = F.faults files.new; output = S.output out.new; write_faults = S.faults out.new }) (map string_bytes words.now) result }
 {
     match settle(alloc, words, files) {
-        Ok(settled) => match put(&settled.lines, out) {
-            Ok(()) => settled.status,
-            Err(_) => Status::WriteFault,
-        },
+        Ok(reply) => put_reply(alloc, &reply, out),
         Err(_) => Status::Memory,
     }
 }

@@ -1,5 +1,6 @@
 //! What is said: a status, and the lines of a text.
 ghost use Rattle.std.specs.Prelude.{◌≡◌, IfOk};
+ghost use Rattle.ipg_app.specs.Said as spec;
 ghost use Rattle.ipg_app.specs.Said.{line_said};
 ghost use Rattle.ipg_app.specs.Lines.{said_of};
 
@@ -22,4 +23,11 @@ pub fn line(alloc: Global, status: Status, words: &[u8]) -> Result<Settled, Allo
         status,
         lines: vec![in alloc; line]?,
     })
+}
+
+/// What is said of words that are no command.
+pub fn usage(alloc: Global) -> Result<Settled, AllocError>
+    ensures { IfOk result (λ settled. said_of settled ≡ spec.usage) }
+{
+    line(alloc, Status::Usage, b"usage")
 }

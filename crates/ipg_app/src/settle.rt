@@ -10,22 +10,26 @@ ghost use Rattle.ipg_app.specs.Run.{Settles};
 ghost use Rattle.ipg_words.specs.Seen.{task_seen};
 ghost use Rattle.ipg_app.specs.Found.{Found, FoundCore, Says, grammar_in_file, core_in_file, silence};
 ghost use Rattle.ipg_app.specs.Lines.{said_of};
+ghost use Rattle.ipg_app.specs.Settled.{IsSettled, IsUnread, remember_of};
 
 use crate::checks::{accepted, say_cert, say_check};
-use crate::core_of::core_of;
+use crate::core_of::{core_in_text, core_of};
 use crate::formatting::format;
 use crate::grammar::grammar_in;
-use crate::parse::parse;
 use crate::refusal::refusal;
-use crate::said::{Settled, line};
+use crate::reply::{Due, Reply};
+use crate::said::{Settled, line, usage};
 use crate::status::Status;
+use crate::trial::trial;
 use crate::verifying::judge;
+use ipg_answers::Room;
 use ipg_ast::Grammar;
 use ipg_core::accepted::{Checked, Core};
 use ipg_formats::{Kind, kind_named, text};
+use ipg_mach::Remember;
 use ipg_outside::{FileFault, Files};
 use ipg_tokens::ReadFault;
-use ipg_words::{Asked, Wanted, request};
+use ipg_words::{Asked, Memo, Wanted, request};
 use std::alloc::{AllocError, Global};
 
 const MAX_TEXT: u64 = 1 << 20;
@@ -33,17 +37,14 @@ const MAX_TEXT: u64 = 1 << 20;
 const MAX_INPUT: u64 = 1 << 30;
 
 /// Answers in order: to the words, to the grammar, and then what the grammar is wanted for.
-pub fn settle<F: Files>(
-    alloc: Global,
-    words: &[String],
-    files: &mut F,
-) -> Result<Settled, AllocError>
-    ensures { IfOk result (λ settled. Settles (F.told files.old) (F.faults files.old) (F.faults files.new) (order_of (map string_bytes words.now)) (said_of settled)) }
+pub fn settle<F: Files>(alloc: Global, words: &[String], files: &mut F) -> Result<Reply, AllocError>
+    ensures { IfOk result (IsSettled (F.told files.old) (F.faults files.old) (F.faults files.new) (order_of (map string_bytes words.now))) }
 {
     match request(alloc, words)? {
         Some(Asked::Use { grammar, task }) => settle_use(alloc, grammar, task, files),
-        Some(Asked::Fmt { grammar }) => settle_fmt(alloc, grammar, files),
-        None => line(alloc, Status::Usage, b"usage"),
+        Some(Asked::Fmt { grammar }) => Ok(Reply::Text(settle_fmt(alloc, grammar, files)?)),
+        Some(Asked::Trial { kind, count }) => Ok(Reply::Text(trial(alloc, kind, count)?)),
+        None => Ok(Reply::Text(usage(alloc)?)),
     }
 }
 
@@ -52,8 +53,8 @@ fn settle_use<F: Files>(
     grammar: &str,
     task: Wanted<'_>,
     files: &mut F,
-) -> Result<Settled, AllocError>
-    ensures { IfOk result (λ settled. Settles (F.told files.old) (F.faults files.old) (F.faults files.new) (use_order grammar.now (task_seen task.entry)) (said_of settled)) }
+) -> Result<Reply, AllocError>
+    ensures { IfOk result (IsSettled (F.told files.old) (F.faults files.old) (F.faults files.new) (use_order grammar.now (task_seen task.entry))) }
 {
     match kind_named(grammar) {
         Some(kind) => use_built_in(alloc, kind, task, files),
@@ -66,12 +67,12 @@ fn use_built_in<F: Files>(
     kind: Kind,
     task: Wanted<'_>,
     files: &mut F,
-) -> Result<Settled, AllocError>
-    ensures { IfOk result (λ settled. Settles (F.told files.old) (F.faults files.old) (F.faults files.new) (core_of (text_of kind) (order_by (task_seen task.entry))) (said_of settled)) }
+) -> Result<Reply, AllocError>
+    ensures { IfOk result (IsSettled (F.told files.old) (F.faults files.old) (F.faults files.new) (core_of (text_of kind) (order_by (task_seen task.entry)))) }
 {
-    match core_in(alloc, text(kind))? {
+    match core_in_text(alloc, text(kind))? {
         Ok(core) => settle_task(alloc, core, task, files),
-        Err(settled) => Ok(settled),
+        Err(settled) => Ok(Reply::Text(settled)),
     }
 }
 
@@ -80,12 +81,12 @@ fn use_file<F: Files>(
     name: &str,
     task: Wanted<'_>,
     files: &mut F,
-) -> Result<Settled, AllocError>
-    ensures { IfOk result (λ settled. Settles (F.told files.old) (F.faults files.old) (F.faults files.new) (core_in_file name.now (order_by (task_seen task.entry))) (said_of settled)) }
+) -> Result<Reply, AllocError>
+    ensures { IfOk result (IsSettled (F.told files.old) (F.faults files.old) (F.faults files.new) (core_in_file name.now (order_by (task_seen task.entry)))) }
 {
     match core_in_file(alloc, name, files)? {
         Ok(core) => settle_task(alloc, core, task, files),
-        Err(settled) => Ok(settled),
+        Err(settled) => Ok(Reply::Text(settled)),
     }
 }
 
@@ -113,16 +114,6 @@ fn fmt_file<F: Files>(alloc: Global, name: &str, files: &mut F) -> Result<Settle
     match grammar_in_file(alloc, name, files)? {
         Ok(grammar) => format(alloc, &grammar),
         Err(settled) => Ok(settled),
-    }
-}
-
-/// The core grammar of a text, or what is said of a text that has none.
-fn core_in(alloc: Global, text: &[u8]) -> Result<Result<Core, Settled>, AllocError>
-    ensures { IfOk result (λ made. MatchResult made (λ core. CoreOf text.now (Ok core)) (λ settled. CoreOf text.now (Err (said_of settled)))) }
-{
-    match grammar_in(alloc, text)? {
-        Ok(g) => core_of(alloc, &g),
-        Err(settled) => Ok(Err(settled)),
     }
 }
 
@@ -167,14 +158,31 @@ fn settle_task<F: Files>(
     core: Core,
     task: Wanted<'_>,
     files: &mut F,
-) -> Result<Settled, AllocError>
-    ensures { IfOk result (λ settled. Settles (F.told files.old) (F.faults files.old) (F.faults files.new) (order_by (task_seen task.entry) core) (said_of settled)) }
+) -> Result<Reply, AllocError>
+    ensures { IfOk result (IsSettled (F.told files.old) (F.faults files.old) (F.faults files.new) (order_by (task_seen task.entry) core)) }
 {
     match task {
-        Wanted::Parse { input, .. } => parse_by(alloc, core, input, files),
-        Wanted::Check => say_check(alloc, core),
-        Wanted::Cert => say_cert(alloc, core),
-        Wanted::Verify { certificate } => verify_by(alloc, core, certificate, files),
+        Wanted::Parse { input, memo, mib } => {
+            let room = Room {
+                remember: remember(memo),
+                mib,
+            };
+            parse_by(alloc, core, input, room, files)
+        }
+        Wanted::Check => Ok(Reply::Text(say_check(alloc, core)?)),
+        Wanted::Cert => Ok(Reply::Text(say_cert(alloc, core)?)),
+        Wanted::Verify { certificate } => {
+            Ok(Reply::Text(verify_by(alloc, core, certificate, files)?))
+        }
+    }
+}
+
+fn remember(memo: Memo) -> Remember
+    ensures { result ≡ remember_of memo }
+{
+    match memo {
+        Memo::On => Remember::Answers,
+        Memo::Off => Remember::Nothing,
     }
 }
 
@@ -182,29 +190,44 @@ fn parse_by<F: Files>(
     alloc: Global,
     core: Core,
     input: &str,
+    room: Room,
     files: &mut F,
-) -> Result<Settled, AllocError>
-    ensures { IfOk result (λ settled. Settles (F.told files.old) (F.faults files.old) (F.faults files.new) (parse input.now core) (said_of settled)) }
+) -> Result<Reply, AllocError>
+    ensures { IfOk result (IsSettled (F.told files.old) (F.faults files.old) (F.faults files.new) (parse input.now core)) }
 {
     match accepted(alloc, core)? {
-        Ok((checked, _)) => parse_input(alloc, &checked, input, files),
-        Err(settled) => Ok(settled),
+        Ok((checked, _)) => parse_input(alloc, checked, input, room, files),
+        Err(settled) => Ok(Reply::Text(settled)),
     }
 }
 
 fn parse_input<F: Files>(
     alloc: Global,
-    grammar: &Checked,
+    grammar: Checked,
     input: &str,
+    room: Room,
     files: &mut F,
-) -> Result<Settled, AllocError>
-    ensures { IfOk result (λ settled. Settles (F.told files.old) (F.faults files.old) (F.faults files.new) (parse_input input.now grammar.now) (said_of settled)) }
+) -> Result<Reply, AllocError>
+    ensures { IfOk result (IsSettled (F.told files.old) (F.faults files.old) (F.faults files.new) (parse_input input.now grammar)) }
 {
     match files.read_all(alloc, input, MAX_INPUT) {
-        Ok(bytes) => parse(alloc, grammar, &bytes),
-        Err(FileFault::Failed) => line(alloc, Status::ReadFault, b"read fault"),
-        Err(FileFault::TooLarge(_)) => line(alloc, Status::TooLarge, b"too large"),
-        Err(FileFault::Memory) => Err(AllocError),
+        Ok(input) => Ok(Reply::Parse(Due {
+            grammar,
+            input,
+            room,
+        })),
+        Err(fault) => Ok(Reply::Text(unread(alloc, fault)?)),
+    }
+}
+
+/// What is said of a file that was not read.
+fn unread(alloc: Global, fault: FileFault) -> Result<Settled, AllocError>
+    ensures { IfOk result (λ settled. IsUnread fault (said_of settled)) }
+{
+    match fault {
+        FileFault::Failed => line(alloc, Status::ReadFault, b"read fault"),
+        FileFault::TooLarge(_) => line(alloc, Status::TooLarge, b"too large"),
+        FileFault::Memory => Err(AllocError),
     }
 }
 
@@ -218,8 +241,6 @@ fn verify_by<F: Files>(
 {
     match files.read_all(alloc, certificate, MAX_INPUT) {
         Ok(bytes) => judge(alloc, core, &bytes),
-        Err(FileFault::Failed) => line(alloc, Status::ReadFault, b"read fault"),
-        Err(FileFault::TooLarge(_)) => line(alloc, Status::TooLarge, b"too large"),
-        Err(FileFault::Memory) => Err(AllocError),
+        Err(fault) => unread(alloc, fault),
     }
 }

@@ -3,11 +3,12 @@ mod rows;
 
 use crate::run::run;
 use crate::status::Status;
-use ipg_outside::{MemFiles, MemSink};
+use crate::sure::run_surely;
+use ipg_outside::{MemFiles, MemSink, SureFiles, SureSink};
 use rows::{
-    ACCEPTED, CHECKED, CIRCULAR, FORMATTED, INT, INT_TREE, JUDGED, LIST, LONG_PLACES, LOOP,
-    NO_PARSE, PARSED, PARSING_WORDS, PLACES, READ_FAULT, REFUSED, ROW, ROW_TEXT, ROW_TREE, Reply,
-    TREE, UNKNOWN, USAGE, VERIFIED, WHOLE, WRONG_WORDS,
+    ACCEPTED, CHECKED, CIRCULAR, FIRST_WRITES, FORMATTED, INT, INT_TREE, JUDGED, LIST, LONG_PLACES,
+    LOOP, NO_PARSE, PARSED, PARSING_WORDS, PLACES, READ_FAULT, REFUSED, ROW, ROW_TEXT, ROW_TREE,
+    Reply, TREE, TRIALS, UNKNOWN, USAGE, VERIFIED, WHOLE, WRONG_WORDS,
 };
 use std::alloc::{AllocError, Global};
 
@@ -286,6 +287,36 @@ fn answers_words(rt: HostRuntime) -> anyhow::Result<()> {
     Ok(())
 }
 
+#[test]
+fn tries_samples(rt: HostRuntime) -> anyhow::Result<()> {
+    for (words, want) in TRIALS {
+        let case = Try {
+            words,
+            ..parse_of(b"", b"")
+        };
+        let (status, out) = answer(rt.alloc(), &case)?;
+        assert_eq!(rt; (status, out.bytes()), (Status::Done, want), "{words:?}");
+    }
+    Ok(())
+}
+
+#[test]
+fn runs_surely(rt: HostRuntime) -> anyhow::Result<()> {
+    let alloc = rt.alloc();
+    let mut files = SureFiles::new(alloc);
+    files.add("g", ROW)?;
+    files.add("f", b"ab")?;
+    for (input, want) in [("f", Status::Done), ("absent", Status::NoParse)] {
+        let mut words = Vec::new(alloc);
+        for word in ["parse", "g", input] {
+            words.push(String::from_str(alloc, word)?)?;
+        }
+        let mut out = SureSink::new();
+        assert_eq!(rt; run_surely(alloc, &words, &mut files, &mut out), want);
+    }
+    Ok(())
+}
+
 /// Files that are absent, and one name for both.
 #[test]
 fn answers_absent_files(rt: HostRuntime) -> anyhow::Result<()> {
@@ -378,14 +409,25 @@ fn answers_narrow_rooms(rt: HostRuntime) -> anyhow::Result<()> {
     Ok(())
 }
 
-/// The write of a number fails, after what fits of it; the tree has two lines, each a write.
+/// A write of a tree fails, after all of it; what went out is a prefix.
+#[test]
+fn answers_failing_writes_of_a_tree(rt: HostRuntime) -> anyhow::Result<()> {
+    for fail_writes in FIRST_WRITES {
+        let failing = Try {
+            fail_writes,
+            ..parse_of(ROW, b"ab")
+        };
+        let (status, out) = answer(rt.alloc(), &failing)?;
+        assert_eq!(rt; status, Status::WriteFault);
+        assert!(rt; ROW_TREE.starts_with(out.bytes()), "{fail_writes:?}");
+    }
+    Ok(())
+}
+
+/// The write of a number fails, after all of it.
 #[test]
 fn answers_failing_writes(rt: HostRuntime) -> anyhow::Result<()> {
-    let row = parse_of(ROW, b"ab");
-    let cases: [(Try<'_>, &[u64], Reply<'_>); 5] = [
-        (row, &[0], (Status::WriteFault, &ROW_TREE[..22])),
-        (row, &[1], (Status::WriteFault, ROW_TREE)),
-        (row, &[2], TREE),
+    let cases: [(Try<'_>, &[u64], Reply<'_>); 2] = [
         (fmt_of(ROW), &[0], (Status::WriteFault, ROW_TEXT)),
         (fmt_of(ROW), &[1], (Status::Done, ROW_TEXT)),
     ];

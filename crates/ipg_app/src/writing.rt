@@ -1,14 +1,18 @@
-//! Writes a settled text.
-ghost use Rattle.std.specs.Prelude.{OnOk, OnErr};
+//! Writes what is said.
+ghost use Rattle.std.specs.Prelude.{ℕ, List, Option, OnOk, OnErr};
 ghost use Rattle.ipg_outside.specs.Faults.{Rose};
-ghost use Rattle.ipg_outside.specs.Sink.{Tells, Breaks};
+ghost use Rattle.ipg_outside.specs.Sink.{Output, Tells, Breaks};
+ghost use Rattle.ipg_tree.specs.Puts.{Whole};
 ghost use Rattle.ipg_app.specs.Run.{Writes};
-ghost use Rattle.ipg_app.specs.Lines.{text_of};
+ghost use Rattle.ipg_app.specs.Settled.{GoesOut};
+ghost use Rattle.ipg_app.specs.Lines.{said_of, text_of};
 
+use crate::said::Settled;
+use crate::status::Status;
 use ipg_outside::{Sink, SinkFault};
 
 /// Writes line after line, and hands all on.
-pub fn put<S: Sink>(lines: &[Vec<u8>], out: &mut S) -> Result<(), SinkFault>
+fn put<S: Sink>(lines: &[Vec<u8>], out: &mut S) -> Result<(), SinkFault>
     ensures written { OnOk result (Tells (S.output out.old) (S.output out.new) (Writes (text_of lines.now))) }
     ensures broken { OnErr result (Tells (S.output out.old) (S.output out.new) (Breaks (text_of lines.now))) }
     ensures failed { OnErr result (Rose (S.faults out.old) (S.faults out.new)) }
@@ -17,4 +21,34 @@ pub fn put<S: Sink>(lines: &[Vec<u8>], out: &mut S) -> Result<(), SinkFault>
         out.write(line)?;
     }
     out.flush()
+}
+
+/// Writes a settled text.
+pub fn say<S: Sink>(settled: &Settled, out: &mut S) -> Status
+    ensures { GoesOut (said_of settled.now) (S.output out.old) (S.faults out.old) (S.output out.new) (S.faults out.new) result }
+{
+    match put(&settled.lines, out) {
+        Ok(()) => settled.status,
+        Err(_) => Status::WriteFault,
+    }
+}
+
+/// Hands on the whole of a text.
+pub fn finish<S: Sink>(status: Status, out: &mut S) -> Status
+    ensures { (before : Option Output) (counted : ℕ) (text : List ℕ) → Whole text before counted (S.output out.old) (S.faults out.old) → GoesOut (record { status = status; text = text }) before counted (S.output out.new) (S.faults out.new) result }
+{
+    match out.flush() {
+        Ok(()) => status,
+        Err(_) => Status::WriteFault,
+    }
+}
+
+/// Writes a text, and hands it on.
+pub fn tell<S: Sink>(status: Status, text: &[u8], out: &mut S) -> Status
+    ensures { GoesOut (record { status = status; text = text.now }) (S.output out.old) (S.faults out.old) (S.output out.new) (S.faults out.new) result }
+{
+    match out.write(text) {
+        Ok(()) => finish(status, out),
+        Err(_) => Status::WriteFault,
+    }
 }

@@ -320,7 +320,7 @@ pub const FORMATTED: [(&[u8], &[u8]); 7] = [
 ];
 
 /// Words that are no command, ask for help, or have a value out of range.
-pub const WRONG_WORDS: [&[&str]; 20] = [
+pub const WRONG_WORDS: [&[&str]; 22] = [
     &[],
     &["parse"],
     &["parse", "g"],
@@ -338,7 +338,9 @@ pub const WRONG_WORDS: [&[&str]; 20] = [
     &["verify", "g"],
     &["g"],
     &["table", "g"],
-    &["trial", "gif", "1"],
+    &["trial", "gif", "10001"],
+    &["trial", "gi", "1"],
+    &["trial", "@gif", "1"],
     &["--help"],
     &["help"],
 ];
@@ -350,6 +352,29 @@ pub const PARSING_WORDS: [&[&str]; 4] = [
     &["parse", "--arena=1", "--", "g", "f"],
     &["parse", "--memo", "on", "g", "--arena", "4096", "f"],
 ];
+
+/// Trials of samples, and what is said of each.
+pub const TRIALS: [(&[&str], &[u8]); 4] = [
+    (
+        &["trial", "elf", "2"],
+        b"kind=elf n=2 bytes=194 nodes=90 bodies=4\n",
+    ),
+    (
+        &["trial", "pe", "1"],
+        b"kind=pe n=1 bytes=241 nodes=32 bodies=4\n",
+    ),
+    (
+        &["trial", "gif", "3"],
+        b"kind=gif n=3 bytes=44 nodes=62 bodies=30\n",
+    ),
+    (
+        &["trial", "pcap", "0"],
+        b"kind=pcap n=0 bytes=24 nodes=19 bodies=3\n",
+    ),
+];
+
+/// Numbers of writes that fail, each in a run of its own.
+pub const FIRST_WRITES: [&[u64]; 4] = [&[0], &[1], &[2], &[3]];
 
 /// Texts that are no grammar.
 pub const PLACES: [(&[u8], &[u8]); 9] = [

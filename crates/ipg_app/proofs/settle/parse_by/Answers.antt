@@ -2,9 +2,10 @@ use Rattle.std.proofs.Common.{Ok, Err}
 use Rattle.std.proofs.lemmas.Result.{IfOk-weaker}
 use Rattle.ipg_app.specs.Checks.{Checks}
 use Rattle.ipg_app.specs.Reply.{parse, parse_input}
-use Rattle.ipg_app.specs.Run.{Settles}
+use Rattle.ipg_app.specs.Settled.{IsSettled}
 use Rattle.ipg_app.specs.Lines.{said_of}
 use Rattle.ipg_app.proofs.Settling.{accepted_on, not_accepted}
+use Rattle.ipg_app.proofs.Replying.{settled_on}
 use Rattle.ipg_app.proofs.settle.parse_by.Goals as goal
 
 pub returns-in-Ok : goal.returns-in-Ok
@@ -16,8 +17,9 @@ returns-in-Ok g c =
     let core = c.args.core in
     let same = c.in-Ok.checked in
     let checks : Checks core (Ok same) = rw c.in-Ok.is at c.in_ok-checked.ensures.checks in
-    IfOk-weaker c.parse_input.result (λ s. Settles told before after (parse_input input same) (said_of s)) (λ s. Settles told before after (parse input core) (said_of s))
-    (λ s h. accepted_on told before after core same (parse_input input) (said_of s) checks h) c.parse_input.ensures
+    IfOk-weaker c.parse_input.result (IsSettled told before after (parse_input input same)) (IsSettled told before after (parse input core))
+    (λ reply h. settled_on told before after (parse input core) told before after (parse_input input same) reply
+    (λ said. accepted_on told before after core same (parse_input input) said checks) h) c.parse_input.ensures
 
 pub returns : goal.returns
 returns g c =

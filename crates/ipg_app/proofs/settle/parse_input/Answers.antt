@@ -1,18 +1,30 @@
-use Rattle.std.proofs.Common.{◌≡◌}
-use Rattle.std.proofs.lemmas.Result.{IfOk-weaker}
-use Rattle.ipg_app.specs.Said.{too_large}
-use Rattle.ipg_app.specs.Reply.{input_in, parse_input}
-use Rattle.ipg_app.specs.Run.{Settles}
+use Rattle.std.proofs.Common.{◌^◌}
+use Rattle.ipg_outside.specs.Files.{ReadWhole}
+use Rattle.ipg_app.specs.Order.{says}
+use Rattle.ipg_app.specs.Reply.{Parses}
 use Rattle.ipg_app.specs.Lines.{said_of}
-use Rattle.ipg_app.proofs.Settling.{goes_on, settles_by, input_too_long}
+use Rattle.ipg_app.proofs.Settling.{read_on}
+use Rattle.ipg_app.proofs.Replying.{unread_on}
 use Rattle.ipg_app.proofs.settle.parse_input.Goals as goal
 
-pub returns-in-Err-TooLarge : goal.returns-in-Err-TooLarge
-returns-in-Err-TooLarge g c =
+pub returns-in-Ok : goal.returns-in-Ok
+returns-in-Ok g c =
     let told = g.F.Files.told c.args.files.now in
     let before = g.F.Files.faults c.args.files.now in
     let after = g.F.Files.faults c.read_all.new.self in
-    let cut = rw c.in-Err-TooLarge.field-0-is at c.in-Err-TooLarge.ensures.cut in
-    IfOk-weaker c.line-in-Err-TooLarge.result (λ s. said_of s ≡ too_large) (λ s. Settles told before after (parse_input c.args.input.now c.args.grammar.now) (said_of s))
-    (λ s e. goes_on told before after c.args.input.now _ (said_of s) cut.whole cut.contents (settles_by told before after (input_in cut.whole) _ (said_of s) too_large (input_too_long cut.whole cut.longer) e))
-    c.line-in-Err-TooLarge.ensures
+    let name = c.args.input.now in
+    let grammar = c.args.grammar in
+    let bytes = c.in-Ok.input.items in
+    let whole : ReadWhole (told name) (2 ^ 30) bytes = c.in-Ok.ensures.whole in
+    (whole.within, λ said parses. read_on told before after name (λ input. says (Parses grammar input)) said bytes whole.contents whole.within parses)
+
+pub returns-in_ok-unread-in-Err : goal.returns-in_ok-unread-in-Err
+returns-in_ok-unread-in-Err g c =
+    let told = g.F.Files.told c.args.files.now in
+    let before = g.F.Files.faults c.args.files.now in
+    let after = g.F.Files.faults c.read_all.new.self in
+    let name = c.args.input.now in
+    let grammar = c.args.grammar in
+    let settled = c.in_ok-unread-in-Err.field-0 in
+    unread_on told before after name (λ input. says (Parses grammar input)) c.in-Err.fault (said_of settled) c.in-Err.ensures.cut c.in-Err.ensures.failed
+    c.in_ok-unread-in-Err.ensures

@@ -4,7 +4,9 @@ use Rattle.ipg_app.specs.Run.{Settles}
 use Rattle.ipg_words.specs.Seen.{task_seen}
 use Rattle.ipg_app.specs.Found.{FoundCore, core_in_file, silence}
 use Rattle.ipg_app.specs.Lines.{said_of}
+use Rattle.ipg_app.specs.Settled.{IsSettled}
 use Rattle.ipg_app.proofs.Settling.{core_on, no_core_on, settles_then}
+use Rattle.ipg_app.proofs.Replying.{settled_on}
 use Rattle.ipg_app.proofs.settle.use_file.Goals as goal
 
 pub returns-in-Ok : goal.returns-in-Ok
@@ -18,9 +20,10 @@ returns-in-Ok g c =
     let name = c.args.name.now in
     let core = c.in-Ok.core in
     let found : FoundCore (told name) core = rw c.in-Ok.is at c.in_ok-core.ensures.found in
-    IfOk-weaker c.settle_task.result (λ s. Settles then between after (order_by task core) (said_of s)) (λ s. Settles told before after (core_in_file name (order_by task)) (said_of s))
-    (λ s h. core_on told before after name (order_by task) (said_of s) core found
-    (settles_then told then c.core_in_file.ensures.told before between after (order_by task core) (said_of s) c.core_in_file.ensures.counts h))
+    IfOk-weaker c.settle_task.result (IsSettled then between after (order_by task core)) (IsSettled told before after (core_in_file name (order_by task)))
+    (λ reply h. settled_on told before after (core_in_file name (order_by task)) then between after (order_by task core) reply
+    (λ said h. core_on told before after name (order_by task) said core found
+    (settles_then told then c.core_in_file.ensures.told before between after (order_by task core) said c.core_in_file.ensures.counts h)) h)
     c.settle_task.ensures
 
 pub returns-in-Err : goal.returns-in-Err

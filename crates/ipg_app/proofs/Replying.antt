@@ -1,0 +1,116 @@
+-- A reply: how it is settled, and how it goes out.
+use Rattle.std.proofs.Common.{◌≡◌, ℕ, ◌⊎◌, inl, inr, List, [], Option, None, refl, sym, subst, append-nil, Ok, Err, IsErrOf, Vec, Global, arith}
+use Rattle.ipg_outside.specs.Faults.{Rose}
+use Rattle.ipg_outside.specs.Files.{Told, ReadCut, IfTooLarge}
+use Rattle.ipg_outside.specs.Sink.{Output, HandsOn, Breaks, Tells}
+use Rattle.ipg_outside.specs.declared.files.FileFault.{FileFault}
+use Rattle.ipg_outside.specs.declared.files.FileFault.TheVariants as file
+use Rattle.ipg_tree.specs.Puts.{Whole}
+use Rattle.ipg_core.specs.Grammar.{Grammar}
+use Rattle.ipg_core.specs.Lines.{lines}
+use Rattle.ipg_answers.specs.Answered.{Fails}
+use Rattle.ipg_answers.specs.declared.answering.AnswerFault.{AnswerFault}
+use Rattle.ipg_answers.specs.declared.answering.AnswerFault.TheVariants as fault
+use Rattle.ipg_app.specs.Said.{Said, done, too_large}
+use Rattle.ipg_app.specs.Order.{Order, reads, have}
+use Rattle.ipg_app.specs.Reply.{Parses, input_in, max_input, order_of}
+use Rattle.ipg_app.specs.Run.{Outside, Settles, Writes, Runs, OutOfMemory, Replied, RepliesWithoutFault, Surely}
+use Rattle.ipg_app.specs.Lines.{said_of}
+use Rattle.ipg_app.specs.Settled.{IsSettled, IsDue, IsUnread, MaySay, GoesOut, Replies, fault_status}
+use Rattle.ipg_app.specs.declared.reply.Reply.{Reply}
+use Rattle.ipg_app.specs.declared.reply.Reply.TheVariants.{Text, Parse}
+use Rattle.ipg_app.specs.declared.status.Status.{Status}
+use Rattle.ipg_app.proofs.Settling.{goes_on, settles_by, input_too_long}
+use Rattle.ipg_app.proofs.Written.{Progress, all-out, broken}
+
+-- ---- what is settled
+
+module _ (told : List ℕ → Told) (before after : List ℕ → ℕ) (order : Order) where
+  -- a reply that another order settles
+  pub settled_on : (then : List ℕ → Told) (from to : List ℕ → ℕ) (other : Order) (reply : Reply)
+      → ((said : Said) → Settles then from to other said → Settles told before after order said)
+      → IsSettled then from to other reply → IsSettled told before after order reply
+  settled_on then from to other (Text settled) f h = f (said_of settled) h
+  settled_on then from to other (Parse due) f h = (h.0, λ said parses. f said (h.1 said parses))
+
+  pub due_of : (reply : Reply) → IsSettled told before after order reply → IsDue reply
+  due_of (Text settled) h = tt
+  due_of (Parse due) h = h.0
+
+  said_of_reply : (reply : Reply) (said : Said) → IsSettled told before after order reply → MaySay reply said → Settles told before after order said
+  said_of_reply (Text settled) said h e = subst (λ x. Settles told before after order x) (sym e) h
+  said_of_reply (Parse due) said h parses = h.1 said parses
+
+-- a file that was not read
+pub unread_on : (told : List ℕ → Told) (before after : List ℕ → ℕ) (name : List ℕ) (next : List ℕ → Order) (f : FileFault) (said : Said)
+    → IfTooLarge f (ReadCut (told name) max_input) → (IsErrOf {T = Vec ℕ Global} (Err f) file.Failed → Rose (before name) (after name)) → IsUnread f said
+    → Settles told before after (reads name (λ b. have (input_in b) next)) said
+unread_on told before after name next file.Failed said cut rose e = inr (record { name = name; turn = inl refl; rose = rose refl; is = e })
+unread_on told before after name next (file.TooLarge front) said cut rose e =
+    goes_on told before after name _ said cut.whole cut.contents
+    (settles_by told before after (input_in cut.whole) next said too_large (input_too_long cut.whole cut.longer) e)
+unread_on told before after name next file.Memory said cut rose e = absurd e
+
+-- ---- what goes out
+
+-- all of a text was taken
+whole_taken : (text : List ℕ) (before after : Option Output) (counted counts : ℕ) → Whole text before counted after counts → Progress before after text []
+whole_taken text before after counted counts h = record { done = text; is = sym (append-nil text); told = h.told }
+
+pub whole_out : (text : List ℕ) (before mid after : Option Output) (counted m : ℕ) → Whole text before counted mid m → Tells mid after HandsOn
+    → Tells before after (Writes text)
+whole_out text before mid after counted m h on = all-out before mid after text [] refl (whole_taken text before mid counted m h) on
+
+pub whole_broken : (text : List ℕ) (before mid after : Option Output) (counted m : ℕ) → Whole text before counted mid m → Tells mid after (Breaks [])
+    → Tells before after (Breaks text)
+whole_broken text before mid after counted m h off = broken before mid after text [] [] (whole_taken text before mid counted m h) off
+
+-- ---- the run
+
+-- what is said of a reply that is settled goes out
+pub runs_by : (before after : Outside) (words : List (List ℕ)) (s : Status) (reply : Reply)
+    → IsSettled before.told before.read_faults after.read_faults (order_of words) reply
+    → Replies (MaySay reply) before.output before.write_faults after.output after.write_faults s → Runs before after words s
+runs_by before after words s reply h (inl (said, comes, goes)) = by goes
+  where
+    settled : Settles before.told before.read_faults after.read_faults (order_of words) said
+    settled = said_of_reply before.told before.read_faults after.read_faults (order_of words) reply said h comes
+
+    by : GoesOut said before.output before.write_faults after.output after.write_faults s → Runs before after words s
+    by (inl (is, out)) = inl (record { said = said; settled = settled; is = is; out = out })
+    by (inr (is, rose, out)) = inr (inl (record { said = said; settled = settled; is = is; rose = rose; out = out }))
+runs_by before after words s reply h (inr (is, out)) = inr (inr (record { is = is; out = out }))
+
+-- a run without a fault replies
+pub replies_by : (before after : Outside) (words : List (List ℕ)) (s : Status) → Runs before after words s → RepliesWithoutFault before after words s
+replies_by before after words s (inl e) none = by e.settled
+  where
+    by : Settles before.told before.read_faults after.read_faults (order_of words) e.said → Replied before after words s ⊎ OutOfMemory before after s
+    by (inl a) = inl (record { said = e.said; answers = a; is = e.is; out = e.out })
+    by (inr f) = absurd (none.reading f.name f.rose)
+replies_by before after words s (inr (inl f)) none = absurd (none.writing f.rose)
+replies_by before after words s (inr (inr m)) none = inr m
+
+-- a count that stays 0 never rose
+not_risen : Rose 0 0 → ⊥
+not_risen (inl h) = absurd (omega (arith, h))
+not_risen (inr h) = absurd (omega (arith, h))
+
+-- an outside where nothing fails
+abbrev pub sure : (List ℕ → Told) → Outside
+sure told = record { told = told; read_faults = λ n. 0; output = None; write_faults = 0 }
+
+pub surely_by : (told then : List ℕ → Told) (words : List (List ℕ)) (s : Status) → RepliesWithoutFault (sure told) (sure then) words s → Surely told words s
+surely_by told then words s h = by (h (record { reading = λ name rose. not_risen rose; writing = not_risen }))
+  where
+    by : Replied (sure told) (sure then) words s ⊎ OutOfMemory (sure told) (sure then) s → Surely told words s
+    by (inl r) = inl (r.said, r.answers, r.is)
+    by (inr m) = inr m.is
+
+-- ---- a parse that wasn't written whole
+
+pub failed : (g : Grammar) (input : List ℕ) (f : AnswerFault) (before : Option Output) (counted : ℕ) (after : Option Output) (counts : ℕ) (s : Status)
+    → s ≡ fault_status f → Fails g input f before counted after counts → Replies (Parses g input) before counted after counts s
+failed g input fault.Memory before counted after counts s e h = inr (e, h)
+failed g input fault.Write before counted after counts s e h =
+    inl (done (lines g h.tree 0), record { answer = Ok h.tree; means = h.means; is = refl }, inr (e, h.part.failed, h.part.told))

@@ -1,0 +1,77 @@
+-- What functions promise each other of a reply: that it is settled, and that it goes out.
+use Rattle.std.specs.Prelude.{◌≡◌, ℕ, ◌≤◌, ◌⊎◌, ⊤, List, length, Option, Some, Result}
+use Rattle.ipg_core.specs.Grammar.{Grammar}
+use Rattle.ipg_core.specs.Tree.{Tree}
+use Rattle.ipg_core.specs.Run.{Stop}
+use Rattle.ipg_outside.specs.Faults.{Rose}
+use Rattle.ipg_outside.specs.Files.{Told}
+use Rattle.ipg_outside.specs.Sink.{Output, Breaks, Tells}
+use Rattle.ipg_outside.specs.declared.files.FileFault.{FileFault}
+use Rattle.ipg_outside.specs.declared.files.FileFault.TheVariants as file
+use Rattle.ipg_answers.specs.declared.answering.AnswerFault.{AnswerFault}
+use Rattle.ipg_answers.specs.declared.answering.AnswerFault.TheVariants as fault
+use Rattle.ipg_app.specs.Said.{Said, read_fault, too_large}
+use Rattle.ipg_app.specs.Order.{Order}
+use Rattle.ipg_app.specs.Reply.{Parses, parse_said, max_input}
+use Rattle.ipg_app.specs.Run.{Settles, Writes}
+use Rattle.ipg_app.specs.Lines.{said_of}
+use Rattle.ipg_app.specs.declared.reply.Reply.{Reply}
+use Rattle.ipg_app.specs.declared.reply.Reply.TheVariants.{Text, Parse}
+use Rattle.ipg_mach.specs.declared.machine.Remember.{Remember}
+use Rattle.ipg_mach.specs.declared.machine.Remember.TheVariants as remember
+use Rattle.ipg_words.specs.declared.asking.Memo.{Memo}
+use Rattle.ipg_words.specs.declared.asking.Memo.TheVariants as memo
+use Rattle.ipg_app.specs.declared.status.Status.{Status}
+use Rattle.ipg_app.specs.declared.status.Status.TheVariants as status
+
+-- what is remembered of calls with the memo and without
+abbrev pub remember_of : Memo → Remember
+remember_of memo.On = remember.Answers
+remember_of memo.Off = remember.Nothing
+
+-- ---- what is settled
+
+-- an input that is to be parsed keeps the limit
+abbrev pub IsDue : Reply → Type 0
+IsDue (Text settled) = ⊤
+IsDue (Parse due) = length due.input.items ≤ max_input
+
+-- this may be said of a reply
+abbrev pub MaySay : Reply → Said → Type 0
+MaySay (Text settled) said = said ≡ said_of settled
+MaySay (Parse due) said = Parses due.grammar due.input.items said
+
+-- whatever may be said of the reply is settled
+abbrev pub IsSettled : (List ℕ → Told) → (List ℕ → ℕ) → (List ℕ → ℕ) → Order → Reply → Type 0
+IsSettled told before after order (Text settled) = Settles told before after order (said_of settled)
+IsSettled told before after order (Parse due) =
+    (length due.input.items ≤ max_input) × ((said : Said) → Parses due.grammar due.input.items said → Settles told before after order said)
+
+-- what is said of a file that was not read; nothing, for want of memory
+abbrev pub IsUnread : FileFault → Said → Type 0
+IsUnread file.Failed said = said ≡ read_fault
+IsUnread (file.TooLarge front) said = said ≡ too_large
+IsUnread file.Memory said = ⊥
+
+-- ---- what goes out
+
+-- all of what is said, or a prefix before a fault that was counted
+abbrev pub GoesOut : Said → Option Output → ℕ → Option Output → ℕ → Status → Type 0
+GoesOut said before counted after counts s =
+    ((s ≡ said.status) × Tells before after (Writes said.text)) ⊎ ((s ≡ status.WriteFault) × Rose counted counts × Tells before after (Breaks said.text))
+
+-- one of these; or nothing, for want of memory
+abbrev pub Replies : (Said → Type 0) → Option Output → ℕ → Option Output → ℕ → Status → Type 0
+Replies P before counted after counts s =
+    ((said : Said) × P said × GoesOut said before counted after counts s) ⊎ ((s ≡ status.Memory) × (after ≡ before))
+
+-- what is said of an answer
+pub record Concludes (g : Grammar) (answer : Result Tree Stop) (before : Option Output) (counted : ℕ) (after : Option Output) (counts : ℕ)
+    (s : Status) : Type 0 where
+  pub said : Said
+  pub is : parse_said g answer ≡ Some said
+  pub goes : GoesOut said before counted after counts s
+
+abbrev pub fault_status : AnswerFault → Status
+fault_status fault.Memory = status.Memory
+fault_status fault.Write = status.WriteFault

@@ -1,0 +1,37 @@
+//! What is to be written: a text, or the tree of an input.
+ghost use Rattle.ipg_app.specs.Settled.{MaySay, IsDue, Replies};
+
+use crate::parse::parse;
+use crate::said::Settled;
+use crate::status::Status;
+use crate::writing::say;
+use ipg_answers::Room;
+use ipg_core::accepted::Checked;
+use ipg_outside::Sink;
+use std::alloc::Global;
+
+/// An input that was read, and what it is parsed by.
+#[derive(Drop)]
+pub struct Due {
+    pub grammar: Checked,
+    pub input: Vec<u8>,
+    pub room: Room,
+}
+
+/// What is to be written.
+#[derive(Drop)]
+pub enum Reply {
+    Text(Settled),
+    Parse(Due),
+}
+
+/// Writes a reply: a text, or the tree of an input.
+pub fn put_reply<S: Sink>(alloc: Global, reply: &Reply, out: &mut S) -> Status
+    requires { IsDue reply.now }
+    ensures { Replies (MaySay reply.now) (S.output out.old) (S.faults out.old) (S.output out.new) (S.faults out.new) result }
+{
+    match reply {
+        Reply::Text(settled) => say(settled, out),
+        Reply::Parse(due) => parse(alloc, due, out),
+    }
+}
