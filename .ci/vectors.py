@@ -1,9 +1,9 @@
 """Cases from outside, made by independent implementations: what a command says of each, and its status.
 
-  vectors.py parses|certificates|conditions COMMAND..
+  vectors.py parses|counts|certificates|conditions COMMAND..
 
-COMMAND is followed by the name of a grammar's file, and for a parse or a certificate by that of the input or the
-certificate. Ends with status 1 where a case differs.
+COMMAND is followed by the name of a grammar's file, and for a parse, its counts or a certificate by that of the input
+or the certificate. Ends with status 1 where a case differs.
 """
 
 import json
@@ -13,16 +13,23 @@ import sys
 import tempfile
 
 HERE = os.path.dirname(os.path.abspath(__file__))
+# the counts stand beside the parses
+FILES = {"counts": "parses"}
 
 
 def files_of(kind, case):
     """What stands in the command's files."""
     files = [case["grammar"].encode("latin-1")]
-    if kind == "parses":
+    if kind in ("parses", "counts"):
         files.append(bytes.fromhex(case["input"]))
     if kind == "certificates":
         files.append(case["cert"].encode("latin-1"))
     return files
+
+
+def due_of(kind, case):
+    """The status, and the text."""
+    return (0, case["counts"]) if kind == "counts" else (case.get("status", 0), case["says"])
 
 
 def run(command, files):
@@ -38,11 +45,11 @@ def run(command, files):
 
 def main():
     kind, command = sys.argv[1], sys.argv[2:]
-    with open(os.path.join(HERE, "vectors", kind + ".json")) as file:
+    with open(os.path.join(HERE, "vectors", FILES.get(kind, kind) + ".json")) as file:
         cases = json.load(file)
     differing = 0
     for case in cases:
-        due = case.get("status", 0), case["says"]
+        due = due_of(kind, case)
         got = run(command, files_of(kind, case))
         if got != due:
             differing += 1

@@ -1,5 +1,5 @@
 #!/usr/bin/env bash
-# Cases from independent implementations: trees, answers to certificates, conditions of calls.
+# Cases from independent implementations: trees, what a parse counts, answers to certificates, conditions of calls.
 set -u
 cd "$(dirname "$0")/../.." || exit 1
 . .ci/skips.sh
@@ -8,9 +8,16 @@ command -v python3 >/dev/null || {
   exit 0
 }
 failed=0
+
+# built NAME WORDS..: proves and builds a small program, where it isn't yet
+built() {
+  (cd "crates/$1" && rt run -- "${@:2}") >/dev/null || failed=1
+}
+
 python3 .ci/vectors.py parses ./ipg parse || failed=1
 python3 .ci/vectors.py certificates ./ipg verify || failed=1
-conditions=crates/show_conditions/out/show_conditions
-[ -x "$conditions" ] || (cd crates/show_conditions && rt run -- data/list.ipg) >/dev/null || failed=1
-python3 .ci/vectors.py conditions "$conditions" || failed=1
+built show_counts data/row.ipg data/row.bin
+python3 .ci/vectors.py counts crates/show_counts/out/show_counts || failed=1
+built show_conditions data/list.ipg
+python3 .ci/vectors.py conditions crates/show_conditions/out/show_conditions || failed=1
 exit "$failed"
