@@ -3,7 +3,8 @@ docs/MEANING.md. Repetitions aren't among them; the cases of vectors.py have the
 
   random_grammars.py COMMAND [COUNT [CHECKED [SEED]]]
 
-COMMAND parse G FILE is run for COUNT grammars whose calls go on to later rules, each with an input. Then CHECKED
+COMMAND parse G FILE is run for COUNT grammars whose calls go on to later rules, each with an input, with the memo and
+without. Then CHECKED
 grammars whose calls go anywhere are checked: of those accepted the certificate is verified and inputs are parsed, of
 those refused the edges must be calls that lead into one another. The first that differs is printed, and ends the script
 with status 1.
@@ -662,9 +663,11 @@ def parses(program, rng, count):
     for case in range(count):
         rules, data, due = random_case(rng, is_range if case % 30 == 0 else WANTED[case % len(WANTED)])
         text = Writer(rng).grammar(rules)
-        got = program.run("parse", program.file("g", text.encode()), program.file("f", data))
-        if got != due:
-            raise Differs("parse", text, data, got, due)
+        names = program.file("g", text.encode()), program.file("f", data)
+        for memo in "on", "off":
+            got = program.run("parse", *names, "--memo", memo)
+            if got != due:
+                raise Differs("parse --memo " + memo, text, data, got, due)
         seen[due[0]] += 1
     return seen
 

@@ -50,8 +50,9 @@ each() {
   echo "memory: $1: $((number - 1)) requests, each refused in turn; $refused ended the run"
 }
 
-each parse crates/ipg_app/data/row.ipg crates/ipg_app/data/row.bin &&
-  each parse "$folder/g" "$folder/input" &&
+each parse crates/ipg_app/data/row.ipg crates/ipg_app/data/row.bin --arena 1 &&
+  each parse "$folder/g" "$folder/input" --arena 1 &&
+  each trial gif 1 &&
   each fmt "$folder/g" &&
   each check "$folder/list" &&
   each cert "$folder/list" &&

@@ -92,6 +92,50 @@ expect 0 "$(chain 1 0 1 '0 1 78')"$'\n' parse "$folder/chain.ipg" "$folder/x"
 expect 0 "$(chain 1 1 0 '0 0 -')"$'\n' parse "$folder/chain.ipg" "$folder/y"
 expect 0 "$(chain 0 0 0 '0 0 -')"$'\n' parse "$folder/chain.ipg" "$folder/empty"
 
+# calls that nest 100,000 deep, with the memo and without
+truncate -s 100000 "$folder/zeros"
+echo 'L -> U8 L / "" ;' >"$folder/deep.ipg"
+for memo in on off; do
+  ./ipg parse "$folder/deep.ipg" "$folder/zeros" --memo "$memo" >"$folder/out"
+  if [ $? -ne 0 ] || [ "$(wc -l <"$folder/out")" -ne 200002 ]; then
+    echo "program: a tree of 100,000 levels, --memo $memo"
+    failed=1
+  fi
+done
+
+# a chain of rules, each of which calls the next one twice on the same part: 2^41 runs without the memo
+for ((k = 40; k > 0; k--)); do echo "F$k -> F$((k - 1))[0, EOI] \"no\"[0, EOI] / F$((k - 1))[0, EOI] ;"; done >"$folder/twice.ipg"
+echo 'F0 -> "x" ;' >>"$folder/twice.ipg"
+timeout 60 ./ipg parse "$folder/twice.ipg" "$folder/x" >"$folder/out"
+if [ $? -ne 0 ] || [ "$(tail -n 1 "$folder/out")" != '41 tok 0 1 78' ]; then
+  echo "program: forty rules that call each other twice"
+  failed=1
+fi
+
+# an array of 2^32 - 1 items doesn't fit one MiB, and nothing is written; one of two does
+echo 'S -> U32LE[0, 4] for i = 0 to U32LE.val do Bytes[4, 4] ;' >"$folder/items.ipg"
+printf '\xff\xff\xff\xff' >"$folder/most"
+printf '\x02\0\0\0' >"$folder/two"
+expect 7 '' parse "$folder/items.ipg" "$folder/most" --arena 1
+expect 7 '' parse "$folder/deep.ipg" "$folder/zeros" --arena 1
+# a call for each of 4,800 bytes fits one MiB without the memo alone
+echo 'S -> for i = 0 to EOI do B[i, i + 1] ; B -> U8 ;' >"$folder/calls.ipg"
+truncate -s 4800 "$folder/calls"
+expect 7 '' parse "$folder/calls.ipg" "$folder/calls" --arena 1
+./ipg parse "$folder/calls.ipg" "$folder/calls" --arena 1 --memo off >"$folder/out"
+if [ $? -ne 0 ] || [ "$(wc -l <"$folder/out")" -ne 9602 ]; then
+  echo "program: a call for each of 4,800 bytes in one MiB, --memo off"
+  failed=1
+fi
+expect 0 $'0 S 0 4 start=0 end=4\n1 U32LE 0 4 val=2\n1 for Bytes 2\n2 Bytes 4 4 -\n2 Bytes 4 4 -\n' parse "$folder/items.ipg" "$folder/two" --arena 1
+
+expect 0 $'kind=pcap n=10000 bytes=620024 nodes=320019 bodies=30003\n' trial pcap 10000
+expect 0 $'kind=elf n=2 bytes=194 nodes=90 bodies=4\n' trial elf 2
+expect 0 $'kind=gif n=3 bytes=44 nodes=62 bodies=30\n' trial gif 3
+expect 0 $'kind=pe n=1 bytes=241 nodes=32 bodies=4\n' trial pe 1
+expect 4 $'usage\n' trial gif 10001
+expect 4 $'usage\n' trial tar 1
+
 expect 5 $'read fault\n' check @x
 expect 2 $'refused G4 Syntax 0\n' parse "$folder/empty" "$input"
 expect 2 $'refused G4 Syntax 0\n' fmt "$folder/empty"

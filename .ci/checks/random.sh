@@ -7,4 +7,8 @@ command -v python3 >/dev/null || {
   skip random python3
   exit 0
 }
-exec python3 .ci/random_grammars.py ./ipg
+top=$PWD
+. dist/sources.sh
+./ipg fmt crates/ipg_app/data/row.ipg >/dev/null || exit 1
+is_built || program=dist/ipg
+exec python3 .ci/random_grammars.py "$program"
