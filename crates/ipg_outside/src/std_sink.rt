@@ -1,38 +1,34 @@
 //! Standard output, or any other writer of std.
-ghost use Rattle.std.specs.Prelude.{◌≡◌, ℕ, ◌-◌, ◌≤◌, [], Option, IfOk, OnOk, OnErr, vec_len, vec_capacity};
+ghost use Rattle.std.specs.Prelude.{◌≡◌, ℕ, ◌≤◌, [], Option, OnOk, OnErr};
 ghost use Rattle.std.specs.Io.KnownBytes.{Appends};
 ghost use Rattle.ipg_outside.specs.Faults.{Rose};
 ghost use Rattle.ipg_outside.specs.Sink.{AppendsPart, output_with, Tells, Takes, HandsOn, Breaks};
 
 use crate::sink::{Sink, SinkFault};
-use std::alloc::{AllocError, Global};
+use arrayvec::ArrayVec;
 use std::io;
 
-const ROOM: usize = 1 << 16;
+const ROOM: usize = 1 << 14;
 
 /// Gathers pieces and hands them to a writer in large ones. It tells what the writer tells.
 #[derive(Drop)]
 pub struct StdSink<W: io::Write + Drop> {
     out: W,
-    held: Vec<u8>,
+    held: ArrayVec<u8, ROOM>,
     faults: u64,
 }
 
 impl<W: io::Write + Drop> StdSink<W> {
-    pub fn new(alloc: Global, out: W) -> Result<StdSink<W>, AllocError>
-        ensures { IfOk result (λ sink. (sink.out ≡ out) × (sink.held.items ≡ []) × (sink.faults ≡ 0)) }
+    pub fn new(out: W) -> StdSink<W>
+        ensures out { result.out ≡ out }
+        ensures held { result.held.items ≡ [] }
+        ensures faults { result.faults ≡ 0 }
     {
-        Ok(StdSink {
+        StdSink {
             out,
-            held: Vec::with_capacity(alloc, ROOM)?,
+            held: ArrayVec::new(),
             faults: 0,
-        })
-    }
-
-    fn room(&self) -> usize
-        ensures { result ≡ vec_capacity self.now.held - vec_len self.now.held }
-    {
-        self.held.capacity() - self.held.len()
+        }
     }
 
     fn count(&mut self, answer: Result<(), SinkFault>) -> Result<(), SinkFault>
@@ -54,7 +50,7 @@ impl<W: io::Write + Drop> StdSink<W> {
         ensures failed { OnErr result (Rose self.old.faults self.new.faults) }
         ensures counts { self.old.faults ≤ self.new.faults }
     {
-        let answer = write_whole(&mut self.out, &self.held);
+        let answer = write_whole(&mut self.out, self.held.as_slice());
         self.held.clear();
         self.count(answer)
     }
@@ -69,6 +65,19 @@ impl<W: io::Write + Drop> StdSink<W> {
         let answer = write_whole(&mut self.out, piece);
         self.count(answer)
     }
+
+    /// Hands on what is held, then a piece for which there is no room beside it.
+    #[cold]
+    #[inline(never)]
+    fn write_past(&mut self, piece: &[u8]) -> Result<(), SinkFault>
+        ensures taken { OnOk result (Tells (output_with (W.contents self.old.out) self.old.held.items) (output_with (W.contents self.new.out) self.new.held.items) (Takes piece.now)) }
+        ensures broken { OnErr result (Tells (output_with (W.contents self.old.out) self.old.held.items) (output_with (W.contents self.new.out) self.new.held.items) (Breaks piece.now)) }
+        ensures failed { OnErr result (Rose self.old.faults self.new.faults) }
+        ensures counts { self.old.faults ≤ self.new.faults }
+    {
+        self.hand_on()?;
+        self.pass_on(piece)
+    }
 }
 
 impl<W: io::Write + Drop> Sink for StdSink<W> {
@@ -76,13 +85,12 @@ impl<W: io::Write + Drop> Sink for StdSink<W> {
 
     ghost faults = { λ sink. sink.faults };
 
+    #[inline]
     fn write(&mut self, piece: &[u8]) -> Result<(), SinkFault> {
-        if piece.len() <= self.room() {
-            self.held.extend_from_slice(piece).unwrap();
-            return Ok(());
+        match self.held.try_extend_from_slice(piece) {
+            Ok(()) => Ok(()),
+            Err(_) => self.write_past(piece),
         }
-        self.hand_on()?;
-        self.pass_on(piece)
     }
 
     fn flush(&mut self) -> Result<(), SinkFault> {

@@ -113,7 +113,7 @@ fn gathers_and_hands_on(rt: HostRuntime) -> anyhow::Result<()> {
             taken: Vec::new(alloc),
         };
         {
-            let mut sink = StdSink::new(alloc, &mut narrow)?;
+            let mut sink = StdSink::new(&mut narrow);
             assert_eq!(rt; sink.write(b"abc"), Ok(()));
             assert_eq!(rt; sink.write(b"def"), Ok(()));
             assert_eq!(rt; sink.flush(), flushed);
