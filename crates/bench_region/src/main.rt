@@ -38,7 +38,7 @@ fn filled_memo<A: Allocator + Clone + Drop>(
     for i in 0..count {
         let key = key_of(i);
         if memo.get(key).is_none() {
-            memo.put(key, Entry::Node(RunId { place: i as usize }))?;
+            memo.put(key, Entry::Node(RunId { place: i }))?;
         }
     }
     Ok(memo)

@@ -1,6 +1,5 @@
 -- The machine's moves are the evaluation's.
-use Rattle.std.proofs.Common.{◌≡◌, ◌≢◌, ℕ, ◌+◌, ◌-◌, ◌≤◌, arith, refl, sym, ap, ◌∙◌, subst, List, [], ◌∷◌, ◌++◌, length, Option, Some, None, Result, Ok, Err, OnOk}
-use Rattle.std.specs.Prelude.{slice_get}
+use Rattle.std.proofs.Common.{◌≡◌, ◌≢◌, ℕ, ◌+◌, ◌-◌, ◌<◌, ◌≤◌, arith, refl, sym, ap, ◌∙◌, subst, List, [], ◌∷◌, ◌++◌, length, Option, Some, None, Result, Ok, Err, OnOk}
 use Rattle.std.proofs.lemmas.List.{length-append}
 use Rattle.std.proofs.lemmas.Option.{none-some, same_Some}
 use Rattle.ipg_core.specs.Part.{part}
@@ -308,16 +307,16 @@ module _ (src : Source) (s : Stage) (e : Evaluation) (at : IsAt src s e) where
   not_ranged held.Range answer sound is range = absurd (sound refl)
 
   some_waits : (lower : List OpenCall) (key : moves.Key) (answer : Result Tree Stop) → IsHolding s.tables src s.top s.frames lower key answer
-      → (frame : Frame) → slice_get s.frames 0 ≡ Some frame → (c : OpenCall) × (more : List OpenCall) × (lower ≡ c ∷ more)
-  some_waits [] key answer h frame first = absurd (none-some frame (sym (ap (λ (frames : List Frame). slice_get frames 0) h.wait.0) ∙ first))
-  some_waits (c ∷ lower) key answer h frame first = (c, lower, refl)
+      → 0 < length s.frames → (c : OpenCall) × (more : List OpenCall) × (lower ≡ c ∷ more)
+  some_waits [] key answer h some = absurd (omega (arith, ap length h.wait.0, some))
+  some_waits (c ∷ lower) key answer h some = (c, lower, refl)
 
-  pub still_waits : (one : Held) → s.top.answer ≡ Some one → one ≢ held.Range → (frame : Frame) → slice_get s.frames 0 ≡ Some frame → ended e ≡ None
-  still_waits one some sound frame first =
+  pub still_waits : (one : Held) → s.top.answer ≡ Some one → one ≢ held.Range → 0 < length s.frames → ended e ≡ None
+  still_waits one some sound more =
       let is = holding s.tables src s.top s.frames e.lower e.highest one at.highest some in
       ap (ended_by e.lower) is.2
       ∙ waits_so e.lower is.0 is.1
-      (some_waits e.lower is.0 is.1 (subst (IsHighest s.tables src s.top s.frames e.lower) is.2 at.highest) frame first) (not_ranged one is.1 sound is.3)
+      (some_waits e.lower is.0 is.1 (subst (IsHighest s.tables src s.top s.frames e.lower) is.2 at.highest) more) (not_ranged one is.1 sound is.3)
 
 -- what it has ended with is what the highest call holds; a tree is that of the lowest call
 

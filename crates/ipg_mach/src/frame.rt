@@ -8,8 +8,8 @@ use ipg_table::row::{AltRow, Instr};
 /// Where the attributes of a call's holder stand in the pile of attributes.
 #[derive(Clone, Copy, Debug, PartialEq, Eq)]
 pub struct Outer {
-    pub from: usize,
-    pub to: usize,
+    pub from: u32,
+    pub to: u32,
 }
 
 /// An open call: its rule and the number of its alternative, its interval of the input, the alternatives after this one,

@@ -24,6 +24,7 @@ use ipg_advance::Entry;
 use ipg_close::Scratch;
 use ipg_nodes::{Mark, Store};
 use ipg_piles::{Bases, Piles};
+use ipg_region::Stack;
 use ipg_table::tables::Tables;
 use std::alloc::{AllocError, Allocator};
 
@@ -153,7 +154,7 @@ impl<'m, A: Allocator + Clone + Drop> Machine<'m, A> {
                 numbers,
             },
             top,
-            frames: Vec::new(alloc.clone()?),
+            frames: Stack::new(alloc.clone()?)?,
             memo,
             counts: counted::opening(),
         };

@@ -16,7 +16,6 @@ ghost use Rattle.ipg_mach.specs.Stage.{staged, kid_of, key_in, IsAt, IsAsking};
 use crate::counted::{with_known, with_opened};
 use crate::frame::{Frame, Held, NewCall};
 use crate::known::known;
-use crate::lent::{first, pop};
 use crate::machine::Turn;
 use crate::reader::Reader;
 use crate::top::Top;
@@ -26,6 +25,7 @@ use ipg_memo::{Entry, Key, Memo};
 use ipg_nodes::Kid;
 use ipg_nodes::laws::trees_stay;
 use ipg_parsed::Counts;
+use ipg_region::Stack;
 use std::alloc::{AllocError, Allocator};
 
 /// The highest call, the frames of those that wait for it, what is known, and what has been counted.
@@ -33,7 +33,7 @@ use std::alloc::{AllocError, Allocator};
 pub struct Work<'m, A: Allocator> {
     pub reader: Reader<'m, A>,
     pub top: Top<'m, A>,
-    pub frames: Vec<Frame<'m>, A>,
+    pub frames: Stack<Frame<'m>, A>,
     pub memo: Option<Memo<A>>,
     pub counts: Counts,
 }
@@ -142,7 +142,7 @@ impl<'m, A: Allocator + Clone + Drop> Work<'m, A> {
     fn back(&mut self, entry: Entry) -> Result<(), AllocError>
         ensures { (src : Source) (e : Evaluation) (key : CallKey) (answer : Result Tree Stop) → IsAt src (staged self.old) e → e.highest ≡ Holds key answer → IsEntryOf src self.old.top.store (key_in self.old.top.frame) (Some entry) (Some answer) → OnOk result (IsAt src (staged self.new) (returns e key answer e.lower)) }
     {
-        match pop(&mut self.frames) {
+        match self.frames.pop() {
             Some(caller) => self.come_back(caller, entry),
             None => Ok(()),
         }
@@ -194,9 +194,10 @@ impl<'m, A: Allocator + Clone + Drop> Work<'m, A> {
     fn turn_below(&self) -> Turn
         ensures { (src : Source) (e : Evaluation) (one : Held) → IsAt src (staged self.now) e → self.now.top.answer ≡ Some one → one ≢ held.Range → result ≡ turn_of (ended e) }
     {
-        match first(self.frames.as_slice()) {
-            Some(_) => Turn::More,
-            None => Turn::Done,
+        if self.frames.is_empty() {
+            Turn::Done
+        } else {
+            Turn::More
         }
     }
 }

@@ -49,7 +49,7 @@ fn a_full_heap_answers_as_before(rt: HostRuntime) -> Result<(), Fail> {
             to,
         };
         if memo.get(key).is_none() {
-            let node = RunId { place: to as usize };
+            let node = RunId { place: to };
             refused = memo.put(key, Entry::Node(node)).is_err();
         }
         if refused {
@@ -65,7 +65,7 @@ fn a_full_heap_answers_as_before(rt: HostRuntime) -> Result<(), Fail> {
             from: 0,
             to,
         });
-        let node = RunId { place: to as usize };
+        let node = RunId { place: to };
         assert!(rt;
             found
                 == if (to as usize) < len {

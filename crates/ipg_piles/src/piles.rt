@@ -1,6 +1,6 @@
 //! Piles of results, attributes and items.
 
-ghost use Rattle.std.specs.Prelude.{◌≡◌, ◌≤◌, length, ◌++◌, ◌∷◌, [], drop, take, ℕ, List, None, Some, OnOk, OnErr, IfOk, slice_set, replicate};
+ghost use Rattle.std.specs.Prelude.{◌≡◌, ◌<◌, ◌≤◌, ◌^◌, length, ◌++◌, ◌∷◌, [], drop, take, ℕ, List, None, Some, OnOk, OnErr, IfOk, slice_set, replicate};
 ghost use Rattle.ipg_piles.specs.Piled as spec;
 ghost use Rattle.ipg_piles.specs.Piled.{below, above, AreTops, IsBase, Turns};
 
@@ -12,9 +12,9 @@ use std::marker::Model;
 /// Where the results, the attributes and the items of a call begin.
 #[derive(Clone, Copy, Debug, PartialEq, Eq)]
 pub struct Bases {
-    pub done: usize,
-    pub own: usize,
-    pub items: usize,
+    pub done: u32,
+    pub own: u32,
+    pub items: u32,
 }
 
 /// The results of terms by their numbers, the attributes and the items so far of all open calls.
@@ -30,8 +30,15 @@ impl<A: Allocator> Model for Piles<A> {
 
     ghost Value = { Piled };
 
+    ghost use Rattle.ipg_piles.specs.Small.{AreSmall};
+
     ghost view = { λ a. record { done = a.done.items; own = a.own.items; items = a.items.items } };
+
+    ghost invariant = { λ a. AreSmall a };
 }
+
+/// So many rows a pile has at most: a base is a number of 32 bits.
+const MOST_ROWS: usize = u32::MAX as usize;
 
 /// The rows behind the first `count`; none where there are fewer.
 fn past<T>(rows: &[T], count: usize) -> &[T]
@@ -77,8 +84,12 @@ fn set_above<T: Copy>(rows: &mut [T], base: usize, at: usize, row: T)
 
 /// So many terms more that haven't run.
 fn add_terms<A: Allocator>(done: &mut Vec<Option<Done>, A>, terms: u32) -> Result<(), AllocError>
-    ensures { OnOk result (done.new.items ≡ done.old.items ++ replicate terms None) }
+    ensures items { OnOk result (done.new.items ≡ done.old.items ++ replicate terms None) }
+    ensures small { length done.old.items < 2 ^ 32 → length done.new.items < 2 ^ 32 }
 {
+    if terms as usize > MOST_ROWS.saturating_sub(done.len()) {
+        return Err(AllocError);
+    }
     done.reserve(terms as usize)?;
     for _ in 0..terms {
         done.push(None)?;
@@ -103,9 +114,9 @@ impl<A: Allocator + Clone + Drop> Piles<A> {
         ensures { AreTops self.now result }
     {
         Bases {
-            done: self.done.len(),
-            own: self.own.len(),
-            items: self.items.len(),
+            done: self.done.len() as u32,
+            own: self.own.len() as u32,
+            items: self.items.len() as u32,
         }
     }
 
@@ -113,34 +124,38 @@ impl<A: Allocator + Clone + Drop> Piles<A> {
     pub fn done(&self, base: Bases) -> &[Option<Done>]
         ensures { result.now ≡ (above self.now base).done }
     {
-        past(self.done.as_slice(), base.done)
+        past(self.done.as_slice(), base.done as usize)
     }
 
     /// A call's attributes so far.
     pub fn own(&self, base: Bases) -> &[(u32, i64)]
         ensures { result.now ≡ (above self.now base).own }
     {
-        past(self.own.as_slice(), base.own)
+        past(self.own.as_slice(), base.own as usize)
     }
 
     /// A call's items so far.
     pub fn items(&self, base: Bases) -> &[Kid]
         ensures { result.now ≡ (above self.now base).items }
     {
-        past(self.items.as_slice(), base.items)
+        past(self.items.as_slice(), base.items as usize)
     }
 
     /// The attributes between two places.
-    pub fn between(&self, from: usize, to: usize) -> &[(u32, i64)]
+    pub fn between(&self, from: u32, to: u32) -> &[(u32, i64)]
         ensures { result.now ≡ spec.between self.now.own from to }
     {
-        first(past(self.own.as_slice(), from), to.saturating_sub(from))
+        let rows = past(self.own.as_slice(), from as usize);
+        first(rows, to.saturating_sub(from) as usize)
     }
 
     /// One attribute more.
     pub fn add_own(&mut self, attr: u32, value: i64) -> Result<(), AllocError>
         ensures { (base : Bases) → IsBase self.old base → OnOk result (Turns self.old self.new base (record (above self.old base) { own = (above self.old base).own ++ (attr, value) ∷ [] })) }
     {
+        if self.own.len() == MOST_ROWS {
+            return Err(AllocError);
+        }
         self.own.push((attr, value))?;
         Ok(())
     }
@@ -149,6 +164,9 @@ impl<A: Allocator + Clone + Drop> Piles<A> {
     pub fn add_item(&mut self, item: Kid) -> Result<(), AllocError>
         ensures { (base : Bases) → IsBase self.old base → OnOk result (Turns self.old self.new base (record (above self.old base) { items = (above self.old base).items ++ item ∷ [] })) }
     {
+        if self.items.len() == MOST_ROWS {
+            return Err(AllocError);
+        }
         self.items.push(item)?;
         Ok(())
     }
@@ -157,14 +175,14 @@ impl<A: Allocator + Clone + Drop> Piles<A> {
     pub fn set_done(&mut self, base: Bases, term: u32, row: Done)
         ensures { IsBase self.old base → Turns self.old self.new base (record (above self.old base) { done = slice_set (above self.old base).done term (Some row) }) }
     {
-        set_above(&mut self.done, base.done, term as usize, Some(row));
+        set_above(&mut self.done, base.done as usize, term as usize, Some(row));
     }
 
     /// The call has no items any more.
     pub fn clear_items(&mut self, base: Bases)
         ensures { IsBase self.old base → Turns self.old self.new base (record (above self.old base) { items = [] }) }
     {
-        self.items.truncate(base.items);
+        self.items.truncate(base.items as usize);
     }
 
     /// The call begins anew, with no term of so many done.
@@ -179,8 +197,8 @@ impl<A: Allocator + Clone + Drop> Piles<A> {
     pub fn cut(&mut self, base: Bases)
         ensures { IsBase self.old base → self.new ≡ below self.old base }
     {
-        self.done.truncate(base.done);
-        self.own.truncate(base.own);
-        self.items.truncate(base.items);
+        self.done.truncate(base.done as usize);
+        self.own.truncate(base.own as usize);
+        self.items.truncate(base.items as usize);
     }
 }

@@ -4,3 +4,7 @@ pub mod Held
 pub mod Pieces
 -- What the blocks of a region promise each other.
 pub mod Stack
+-- What a stack holds.
+pub mod Stacked
+-- What the blocks of a stack promise each other.
+pub mod Piled

@@ -5,11 +5,14 @@ ghost use Rattle.ipg_region.specs.Pieces.{pieces, Rises, end_before};
 use std::alloc::{AllocError, Allocator};
 use std::marker::Model;
 
+/// As many items lie in a block at most: each end is a place of 32 bits.
+const MOST_ITEMS: usize = u32::MAX as usize;
+
 /// Runs that lie one after another. The items never move: where their room ends, a block is full.
 #[derive(Drop)]
 pub(crate) struct Block<T, A: Allocator> {
     items: Vec<T, A>,
-    ends: Vec<usize, A>,
+    ends: Vec<u32, A>,
 }
 
 impl<T, A: Allocator> Model for Block<T, A> {
@@ -25,11 +28,15 @@ impl<T, A: Allocator> Model for Block<T, A> {
 }
 
 /// Where the run at this place begins among the items, or where the last run ends.
-fn start_of(ends: &[usize], place: usize) -> usize
+fn start_of(ends: &[u32], place: usize) -> usize
     requires { place ≤ length ends.now }
     ensures { result ≡ end_before 0 ends.now place }
 {
-    if place == 0 { 0 } else { ends[place - 1] }
+    if place == 0 {
+        0
+    } else {
+        ends[place - 1] as usize
+    }
 }
 
 fn between<T>(items: &[T], from: usize, to: usize) -> &[T]
@@ -41,12 +48,12 @@ fn between<T>(items: &[T], from: usize, to: usize) -> &[T]
 }
 
 /// The run at this place among the items.
-fn run_at<'a, T>(items: &'a [T], ends: &[usize], place: usize) -> &'a [T]
+fn run_at<'a, T>(items: &'a [T], ends: &[u32], place: usize) -> &'a [T]
     requires rises { Rises 0 ends.now (length items.now) }
     requires within { place < length ends.now }
     ensures { slice_get (pieces items.now 0 ends.now) place ≡ Some result.now }
 {
-    between(items, start_of(ends, place), ends[place])
+    between(items, start_of(ends, place), ends[place] as usize)
 }
 
 impl<T: Copy, A: Allocator + Clone + Drop> Block<T, A> {
@@ -54,6 +61,9 @@ impl<T: Copy, A: Allocator + Clone + Drop> Block<T, A> {
     pub(crate) fn with_room(alloc: A, runs: usize, items: usize) -> Result<Block<T, A>, AllocError>
         ensures { IfOk result (λ block. block ≡ with_room nothing_held runs items) }
     {
+        if items > MOST_ITEMS {
+            return Err(AllocError);
+        }
         let again = alloc.clone()?;
         Ok(Block {
             items: Vec::with_capacity(alloc, items)?,
@@ -90,7 +100,7 @@ impl<T: Copy, A: Allocator + Clone + Drop> Block<T, A> {
     pub(crate) fn room(&self) -> usize
         ensures { result ≡ self.now.spare.items }
     {
-        self.items.capacity() - self.items.len()
+        self.items.capacity().min(MOST_ITEMS) - self.items.len()
     }
 
     /// Makes room for so many more runs.
@@ -113,7 +123,7 @@ impl<T: Copy, A: Allocator + Clone + Drop> Block<T, A> {
         ensures items { self.old.spare.items - length run.now ≤ self.new.spare.items }
     {
         self.items.extend_from_slice(run).unwrap();
-        self.ends.push_reserved(self.items.len());
+        self.ends.push_reserved(self.items.len() as u32);
     }
 
     /// The items of a run.

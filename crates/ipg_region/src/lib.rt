@@ -1,10 +1,12 @@
-//! A region of memory seen as a list of runs of items, each read by its place in the list.
+//! A region of memory seen as a list of runs of items, each read by its place in the list; a stack of items.
 #![tactic(auto)]
 
 mod block;
 mod blocks;
 mod region;
+mod stack;
 #[cfg(test)]
 mod tests;
 
 pub use region::{Region, RunId};
+pub use stack::Stack;

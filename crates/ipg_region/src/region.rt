@@ -1,4 +1,4 @@
-ghost use Rattle.std.specs.Prelude.{◌≡◌, ℕ, ◌<◌, ◌≤◌, length, slice_get, Some, IsOk, IfOk, OnOk, OnErr};
+ghost use Rattle.std.specs.Prelude.{◌≡◌, ℕ, ◌+◌, ◌^◌, ◌<◌, ◌≤◌, length, slice_get, Some, IsOk, IfOk, OnOk, OnErr};
 ghost use Rattle.ipg_region.specs.Held.{nothing_held, with_run, with_room, before};
 
 use crate::blocks::Blocks;
@@ -8,7 +8,7 @@ use std::marker::Model;
 /// The place of a run in its region.
 #[derive(Clone, Copy, Debug, PartialEq, Eq)]
 pub struct RunId {
-    pub place: usize,
+    pub place: u32,
 }
 
 /// Room that is set aside, for so many runs and so many items in all.
@@ -51,6 +51,18 @@ impl<T: Copy, A: Allocator + Clone + Drop> Region<T, A> {
         })
     }
 
+    /// Whether so many runs more have places; where they don't, that counts as want of memory.
+    fn count(&self, runs: usize) -> Result<(), AllocError>
+        ensures ok { OnOk result (length self.now.runs + runs < 2 ^ 32) }
+        ensures some { length self.now.runs + runs < 2 ^ 32 → IsOk result }
+    {
+        if runs < (u32::MAX as usize + 1) - self.blocks.len() {
+            Ok(())
+        } else {
+            Err(AllocError)
+        }
+    }
+
     /// Puts a run at the end, and gives its place. It cannot fail where `spare` covers it.
     pub fn place(&mut self, run: &[T]) -> Result<RunId, AllocError>
         ensures id { IfOk result (λ id. id.place ≡ length self.old.runs) }
@@ -59,8 +71,9 @@ impl<T: Copy, A: Allocator + Clone + Drop> Region<T, A> {
         ensures err { OnErr result (self.new ≡ self.old) }
     {
         let runs = self.spare.runs.max(1);
+        self.count(runs)?;
         self.blocks.reserve(runs, run.len(), self.chunk)?;
-        let place = self.blocks.len();
+        let place = self.blocks.len() as u32;
         self.blocks.push(run);
         self.spare = Spare {
             runs: self.spare.runs.saturating_sub(1),
@@ -78,6 +91,7 @@ impl<T: Copy, A: Allocator + Clone + Drop> Region<T, A> {
             runs: self.spare.runs.max(runs as usize),
             items: self.spare.items.max(items as usize),
         };
+        self.count(spare.runs)?;
         self.blocks.reserve(spare.runs, spare.items, self.chunk)?;
         self.spare = spare;
         Ok(())
@@ -88,7 +102,7 @@ impl<T: Copy, A: Allocator + Clone + Drop> Region<T, A> {
         requires { id.place < length self.now.runs }
         ensures { slice_get self.now.runs id.place ≡ Some result.now }
     {
-        self.blocks.read(id.place)
+        self.blocks.read(id.place as usize)
     }
 
     /// The place that the next run gets.
@@ -96,7 +110,7 @@ impl<T: Copy, A: Allocator + Clone + Drop> Region<T, A> {
         ensures { result.place ≡ length self.now.runs }
     {
         RunId {
-            place: self.blocks.len(),
+            place: self.blocks.len() as u32,
         }
     }
 
@@ -106,6 +120,6 @@ impl<T: Copy, A: Allocator + Clone + Drop> Region<T, A> {
         ensures kept { self.new ≡ before self.old to.place }
         ensures reads { (k : ℕ) → k < to.place → slice_get self.new.runs k ≡ slice_get self.old.runs k }
     {
-        self.blocks.cut(to.place);
+        self.blocks.cut(to.place as usize);
     }
 }

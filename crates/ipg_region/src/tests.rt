@@ -49,7 +49,7 @@ fn a_full_heap_reads_as_before(rt: HostRuntime) -> Result<(), Fail> {
     let runs = region.mark().place;
     assert!(rt; runs > 64);
     for place in 0..runs {
-        let i = place as u64;
+        let i = u64::from(place);
         assert!(rt; i < 4096);
         assert!(rt; region.read(RunId { place }) == [i, 2 * i, 3 * i, 4 * i].as_slice());
     }
@@ -75,5 +75,21 @@ fn reads_and_cuts_over_blocks(rt: HostRuntime) -> Result<(), Fail> {
     assert_eq!(rt; next.place, 3);
     assert!(rt; region.read(next) == [7].as_slice());
     assert!(rt; region.read(RunId { place: 2 }) == [2, 4].as_slice());
+    Ok(())
+}
+
+#[test]
+fn stacks_over_blocks(rt: HostRuntime) -> Result<(), Fail> {
+    let heap = LocalHeap::new(rt.alloc(), 1 << 16)?;
+    let mut stack = Stack::new(&heap)?;
+    assert!(rt; stack.is_empty());
+    for i in 0..1000u64 {
+        stack.push(i)?;
+    }
+    assert_eq!(rt; stack.len(), 1000);
+    for i in 0..1000u64 {
+        assert_eq!(rt; stack.pop(), Some(999 - i));
+    }
+    assert_eq!(rt; stack.pop(), None);
     Ok(())
 }

@@ -7,5 +7,5 @@ pub returns : goal.returns
 returns g c src e at =
     let s = staged c.args.self.now.work in
     let waits = stepping.count_waits s.tables src s.top s.frames e.lower e.highest at.highest in
-    let count = c.len.ensures in
+    let count = c.len.ensures.value in
     omega arith

@@ -25,9 +25,9 @@ returns g c src e call from to q at works begins ends =
     let called : NewCall = record { rule = c.args.key.rule; from = c.args.key.from; to = c.args.key.to; outer = c.outer-outer.result } in
     let new = stepping.is_new t src s.top s.frames e.lower call work c.args.key.rule from to q called refl begins ends outer
     (c.outer-outer.ensures.inside is.outer_inside work.at_work.base) in
-    let frames = c.in_ok-push.ensures.items in
+    let frames = c.in_ok-push.ensures.ok in
     let opened : c.len.result + 1 ≡ length e.lower + 2 =
-    let count = c.len.ensures in
+    let count = c.len.ensures.value in
     let same = ap length frames in
     let more = length-append s.frames (s.top.frame ∷ []) in
     let frame = s.top.frame in
