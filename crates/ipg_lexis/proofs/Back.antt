@@ -1,5 +1,5 @@
 -- The tokens of a canonical text, token after token.
-use Rattle.std.proofs.Common.{◌≡◌, ℕ, suc, ◌+◌, ◌-◌, ◌^◌, Bool, true, false, List, [], ◌∷◌, ◌++◌, Ok, Err, length, cond, refl, ap, ◌∙◌, sym, arith, true≢false, le-ltb}
+use Rattle.std.proofs.Common.{◌≡◌, ℕ, ◌+◌, ◌^◌, Bool, true, false, List, [], ◌∷◌, ◌++◌, Ok, Err, length, cond, refl, ap, ◌∙◌, sym, arith, true≢false, le-ltb, drop_at}
 use Rattle.std.specs.List.{AllByRecursion}
 use Rattle.std.proofs.lemmas.Bool.Decides.{nat_tests}
 use Rattle.ipg_ast.specs.declared.token.TokenKind.{TokenKind}
@@ -8,23 +8,19 @@ use Rattle.ipg_tokens.specs.declared.fault.ReadFault.TheVariants.{TooLong}
 use Rattle.ipg_tokens.specs.declared.front.Front.{Front}
 use Rattle.ipg_tokens.specs.declared.front.Front.TheVariants.{Nothing, Blank, Large, Token as Begins}
 use Rattle.ipg_tokens.specs.declared.class.Class.TheVariants.{White}
-use Rattle.ipg_tokens.specs.Lexical.{run, is_white, front_at, front_of, beginning, token_first, lexed}
+use Rattle.ipg_tokens.specs.Lexical.{run, is_white, front_of, beginning, token_first, lexed}
 use Rattle.ipg_tokens.specs.Shaped.{IsToken, placed}
 use Rattle.ipg_lexis.specs.Back.{GivesTokensBack}
+use Rattle.ipg_lexis.proofs.Bytes.{white_front}
+use Rattle.ipg_lexis.proofs.Law.{law}
+use Rattle.ipg_lexis.proofs.Pieces.{piece_first}
 use Rattle.ipg_lexis.proofs.Spelled.{IsGap, gap_is, token_begins}
-
-skipped : (at : ℕ) (xs rest : List ℕ) → lexed at (length xs) (xs ++ rest) ≡ lexed (at + length xs) 0 rest
-skipped at [] rest = ap (λ a. lexed a 0 rest) (let e : at ≡ at + 0 = omega arith in e)
-skipped at (x ∷ xs) rest = skipped (at + 1) xs rest ∙ ap (λ a. lexed a 0 rest) (let e : at + 1 + length xs ≡ at + suc (length xs) = omega arith in e)
 
 abbrev is_blank : Front → Bool
 is_blank Nothing = false
 is_blank (Blank n) = true
 is_blank (Large n) = false
 is_blank (Begins kind n) = false
-
-white_front : (b : ℕ) (bs : List ℕ) → is_white b ≡ true → front_at b bs ≡ Blank (run White (b ∷ bs))
-white_front b bs white = rw white refl
 
 -- where a token begins no white space does
 no_white : (bs : List ℕ) (t : TokenKind) (n : ℕ) → front_of bs ≡ Begins t n → run White bs ≡ 0
@@ -36,21 +32,11 @@ no_white (b ∷ bs) t n is =
 gap_white : (g : ℕ) → IsGap g → is_white g ≡ true
 gap_white g gap = grind (arith, nat_tests)
 
-pred_suc : (n : ℕ) → suc n - 1 ≡ n
-pred_suc n = omega arith
-
--- past a front that takes these bytes
-past : (at : ℕ) (x : ℕ) (xs rest : List ℕ) → lexed (at + 1) (suc (length xs) - 1) (xs ++ rest) ≡ lexed (at + suc (length xs)) 0 rest
-past at x xs rest =
-    ap (λ k. lexed (at + 1) k (xs ++ rest)) (pred_suc (length xs)) ∙ skipped (at + 1) xs rest
-    ∙ ap (λ a. lexed a 0 rest) (let e : at + 1 + length xs ≡ at + suc (length xs) = omega arith in e)
-
-one_token : (at : ℕ) (t : TokenKind) (xs : List ℕ) (g : ℕ) (rest : List ℕ) → IsGap g → front_of (xs ++ g ∷ rest) ≡ Begins t (length xs)
+one_token : (at : ℕ) (t : TokenKind) (xs : List ℕ) (g : ℕ) (rest : List ℕ) → front_of (xs ++ g ∷ rest) ≡ Begins t (length xs)
     → lexed at 0 (xs ++ g ∷ rest) ≡ token_first (record { kind = t; span = record { from = at; to = at + length xs } }) (lexed (at + length xs) 0 (g ∷ rest))
-one_token at t [] g rest gap is = absurd (true≢false (ap is_blank (sym (white_front g rest (gap_white g gap)) ∙ is)))
-one_token at t (x ∷ xs) g rest gap is =
-    ap (λ f. beginning f at (λ more. lexed (at + 1) more (xs ++ g ∷ rest))) is
-    ∙ ap (token_first (record { kind = t; span = record { from = at; to = at + suc (length xs) } })) (past at x xs (g ∷ rest))
+one_token at t xs g rest is =
+    piece_first at (Begins t (length xs)) (xs ++ g ∷ rest) ((law (xs ++ g ∷ rest) (Begins t (length xs))).0 is) (λ e. cc)
+    ∙ ap (token_first _) (ap (lexed (at + length xs) 0) (drop_at xs (g ∷ rest) (length xs) refl))
 
 one_gap : (at g : ℕ) (rest : List ℕ) → IsGap g → run White rest ≡ 0 → lexed at 0 (g ∷ rest) ≡ lexed (at + 1) 0 rest
 one_gap at g rest gap none =
@@ -65,7 +51,7 @@ back_from : (at : ℕ) (ts : List TokenKind) → AllByRecursion IsToken ts → l
 back_from at [] all = refl
 back_from at (t ∷ ts) all =
     let width = length (kind_text t) in
-    one_token at t (kind_text t) (gap t) (tokens_text ts) (gap_is t) (token_begins t (tokens_text ts) all.0)
+    one_token at t (kind_text t) (gap t) (tokens_text ts) (token_begins t (tokens_text ts) all.0)
     ∙ ap (token_first (record { kind = t; span = record { from = at; to = at + width } }))
     (one_gap (at + width) (gap t) (tokens_text ts) (gap_is t) (begins_dark ts all.1) ∙ back_from (at + width + 1) ts all.1)
 
