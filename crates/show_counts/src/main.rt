@@ -18,6 +18,9 @@ use std::alloc::Global;
 use std::env;
 use std::io::{self, Write};
 
+#[cfg(test)]
+mod tests;
+
 /// The heap of a parse.
 const HEAP: usize = 1 << 20;
 
