@@ -4,10 +4,9 @@ docs/MEANING.md. Repetitions aren't among them; the cases of vectors.py have the
   random_grammars.py COMMAND [COUNT [CHECKED [SEED]]]
 
 COMMAND parse G FILE is run for COUNT grammars whose calls go on to later rules, each with an input, with the memo and
-without. Then CHECKED
-grammars whose calls go anywhere are checked: of those accepted the certificate is verified and inputs are parsed, of
-those refused the edges must be calls that lead into one another. The first that differs is printed, and ends the script
-with status 1.
+without. Then CHECKED grammars whose calls go anywhere are checked: of those accepted the certificate is verified and
+inputs are parsed, of those refused the edges must be calls that lead into one another. The first that differs is
+printed, and ends the script with status 1.
 """
 
 import os

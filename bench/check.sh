@@ -1,10 +1,10 @@
 #!/usr/bin/env bash
 # Times `check` and `verify` of the built-in grammars, the program's start alone, and `check` of grammars that ask much of
-# it. Run `./prove` once before, which builds it.
+# it. IPG may name another program than the one that ./ipg runs.
 set -eu
 cd "$(dirname "$0")/.."
 . bench/least.sh
-ipg=crates/ipg_app/out/ipg_app
+. bench/program.sh
 work=$(mktemp -d)
 trap 'rm -rf "$work"' EXIT
 

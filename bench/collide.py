@@ -57,7 +57,10 @@ def timed(command, data, memo):
         file.flush()
         begun = time.monotonic()
         done = subprocess.run([command, "parse", "@gif", file.name, "--memo", memo, "--arena", "2048"], stdout=subprocess.DEVNULL)
-        return f"{time.monotonic() - begun:.1f} s (status {done.returncode})"
+        took = time.monotonic() - begun
+    if done.returncode:
+        sys.exit(f"memo {memo}: status {done.returncode}")
+    return f"{took:.1f} s"
 
 
 def main():

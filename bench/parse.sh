@@ -1,9 +1,12 @@
 #!/usr/bin/env bash
 # Times `parse` on samples of the built-in formats at two sizes, and on a GIF of 5,000 frames, with the peak of memory and
-# how many lines come out. Run `./prove` and `rt run show_sample` once before, which build them.
+# how many lines come out. Run `rt run show_sample` once before, which builds it. IPG may name another program than the one
+# that ./ipg runs.
 set -eu
 cd "$(dirname "$0")/.."
-ipg=crates/ipg_app/out/ipg_app
+. bench/program.sh
+sample=crates/show_sample/out/show_sample
+[ -x "$sample" ] || { echo "$sample is not built" >&2; exit 1; }
 work=$(mktemp -d)
 trap 'rm -rf "$work"' EXIT
 
@@ -21,7 +24,7 @@ timed() {
 
 for count in 5000 10000; do
   for kind in gif pe; do
-    crates/show_sample/out/show_sample "$kind" "$count" >"$work/$kind-$count"
+    "$sample" "$kind" "$count" >"$work/$kind-$count"
     timed "$kind" "$work/$kind-$count"
   done
 done

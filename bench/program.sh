@@ -1,3 +1,4 @@
+# shellcheck shell=bash disable=SC2034
 # For the scripts beside it, which run from the repository's folder: `ipg` is the program that IPG names, else the one that
 # `./ipg` runs.
 top=$PWD

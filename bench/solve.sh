@@ -15,6 +15,7 @@ for size in "chain 1000" "chain 10000" "cycle 1000" "cycle 10000" "open 50" "ope
 done
 tests=crates/ipg_solve/out/ipg_solve_tests
 [ -x "$tests" ] || { echo "$tests is not built" >&2; exit 1; }
-for name in $("$tests" --list | sed -n 's/: test$//p'); do
+listed=$("$tests" --list)
+for name in $(sed -n 's/: test$//p' <<<"$listed"); do
   least "$tests" "$name"
 done

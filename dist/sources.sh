@@ -1,4 +1,5 @@
-# For `ipg`, `prove` and the checks: what the program is built from. They set `top`, the repository's folder.
+# shellcheck shell=bash disable=SC2154
+# For `ipg`, `prove` and the checks: what the program is built from, and how. They set `top`, the repository's folder.
 program="$top/crates/ipg_app/out/ipg_app"
 
 # the program's own crates: ipg_app and all that it stands on, by their lines of crates.txt
@@ -38,10 +39,25 @@ is_kept() {
   [ -x "$top/dist/ipg" ] && [ -f "$top/dist/SOURCES" ] && [ "$(sources)" = "$(cat "$top/dist/SOURCES")" ]
 }
 
-# whether the program was built here, and no source is newer
+# whether the program was built here, and no source is newer, nor a folder of sources, which a file came into or left
 is_built() {
   [ -x "$program" ] || return 1
   local folders
   mapfile -t folders < <(own_folders)
-  [ -z "$(cd "$top" && find crates.txt "${folders[@]}" -newer "$program" -type f -print -quit)" ]
+  [ -z "$(cd "$top" && find crates.txt "${folders[@]}" -newer "$program" -print -quit)" ]
+}
+
+# how many crates are proved at a time: as many as there are processors, and 4 GiB of memory for each
+at_once() {
+  awk -v most="$(nproc)" '/^MemAvailable:/ { n = int($2 / 2 ^ 22) } END { print n < 1 ? 1 : n < most ? n : most }' /proc/meminfo
+}
+
+# Proves and builds the program here; what is edited meanwhile is newer than it. Where none was built yet, crates are proved
+# side by side first. Whatever comes of that, `rt run` proves what isn't proved then.
+build() {
+  local began
+  began=$(date +%s.%N)
+  [ -e "$program" ] || (cd "$top/crates" && rt all check --jobs "$(at_once)") </dev/null >&2
+  (cd "$top/crates/ipg_app" && rt run -- parse data/row.ipg data/row.bin) </dev/null >&2 || return 1
+  touch -d "@$began" "$program" || true
 }

@@ -29,7 +29,7 @@ each() {
   due=$(./ipg "$@") || return 1
   while true; do
     number=$((number + 1))
-    REFUSED=$number LD_PRELOAD="$folder/refuse.so" "$program" "$@" >"$folder/out" 2>"$folder/err"
+    timeout 60 env REFUSED="$number" LD_PRELOAD="$folder/refuse.so" "$program" "$@" >"$folder/out" 2>"$folder/err"
     status=$?
     [ -s "$folder/err" ] || break
     if [ "$(cat "$folder/err")" != refused ]; then

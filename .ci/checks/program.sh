@@ -59,7 +59,9 @@ for name in "$grammar" "$folder/list.ipg" "$folder/int.ipg"; do
   ./ipg cert "$name" >"$folder/cert"
   expect 0 $'verified\n' verify "$name" "$folder/cert"
 done
-expect 0 $'0 Int 0 2 start=0 end=2\n1 Int 0 1 start=0 end=1\n2 Digit 0 1 start=0 end=1\n3 U8 0 1 val=52\n1 Digit 1 2 start=1 end=2\n2 U8 1 2 val=50\n' parse "$folder/int.ipg" "$folder/42"
+int=$'0 Int 0 2 start=0 end=2\n1 Int 0 1 start=0 end=1\n2 Digit 0 1 start=0 end=1\n3 U8 0 1 val=52\n'
+int+=$'1 Digit 1 2 start=1 end=2\n2 U8 1 2 val=50\n'
+expect 0 "$int" parse "$folder/int.ipg" "$folder/42"
 expect 0 $'verified\n' verify "$folder/list.ipg" "$folder/list.cert"
 expect 9 $'refused C1 CertText 0\n' verify "$folder/list.ipg" "$folder/empty"
 expect 9 $'refused C2 Mismatch 0\n' verify "$folder/list.ipg" "$folder/none.cert"
