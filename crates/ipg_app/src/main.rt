@@ -40,7 +40,7 @@ fn main(rt: HostRuntime) -> ExitCode {
 fn answer(rt: &HostRuntime) -> Result<Status, AllocError> {
     let words = words(rt)?;
     let mut files = DiskFiles::new(rt);
-    let mut out = StdSink::new(rt.alloc(), io::writer(rt))?;
+    let mut out = StdSink::new(io::writer(rt));
     Ok(run(rt.alloc(), &words, &mut files, &mut out))
 }
 
