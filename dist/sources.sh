@@ -1,13 +1,13 @@
 # shellcheck shell=bash disable=SC2154
-# For `ipg`, `prove` and the checks: what the program is built from, and how. They set `top`, the repository's folder.
+# For `ipg`, `prove` and the checks: what a program is built from, and how. They set `top`, the repository's folder.
 program="$top/crates/ipg_app/out/ipg_app"
 
-# the program's own crates: ipg_app and all that it stands on, by their lines of crates.txt
+# own_crates NAME: a program's own crates, itself and all that it stands on, by their lines of crates.txt
 own_crates() {
-  awk '
+  awk -v program="$1" '
     { sub(/#.*/, "") }
     NF { name = $1; sub(/:$/, "", name); line[name] = $0; for (i = 2; i <= NF; i++) stands[name] = stands[name] " " $i }
-    END { add("ipg_app"); for (name in own) print line[name] }
+    END { add(program); for (name in own) print line[name] }
     function add(name,   n, i, names) {
       if (!(name in line) || name in own) return
       own[name] = 1
@@ -16,21 +16,21 @@ own_crates() {
     }' "$top/crates.txt" | LC_ALL=C sort
 }
 
-# the folders of their sources, from the top
+# own_folders NAME: the folders of their sources, from the top
 own_folders() {
   local crate part
-  own_crates | while IFS=': ' read -r crate _; do
+  own_crates "$1" | while IFS=': ' read -r crate _; do
     for part in src specs proofs; do
       [ -d "$top/crates/$crate/$part" ] && echo "crates/$crate/$part"
     done
   done
 }
 
-# these lines, and the checksum of each source
+# these lines for `ipg_app`, and the checksum of each source
 sources() {
   local folders
-  mapfile -t folders < <(own_folders)
-  own_crates
+  mapfile -t folders < <(own_folders ipg_app)
+  own_crates ipg_app
   (cd "$top" && find "${folders[@]}" -type f -print0 | LC_ALL=C sort -z | xargs -0 sha256sum)
 }
 
@@ -39,12 +39,14 @@ is_kept() {
   [ -x "$top/dist/ipg" ] && [ -f "$top/dist/SOURCES" ] && [ "$(sources)" = "$(cat "$top/dist/SOURCES")" ]
 }
 
-# whether the program was built here, and no source is newer, nor a folder of sources, which a file came into or left
+# is_built [NAME]: whether a program, `ipg_app` if none is named, was built here, and no source is newer, nor a folder of
+# sources, which a file came into or left
 is_built() {
-  [ -x "$program" ] || return 1
-  local folders
-  mapfile -t folders < <(own_folders)
-  [ -z "$(cd "$top" && find crates.txt "${folders[@]}" -newer "$program" -print -quit)" ]
+  local name="${1-ipg_app}" folders
+  local built="$top/crates/$name/out/$name"
+  [ -x "$built" ] || return 1
+  mapfile -t folders < <(own_folders "$name")
+  [ -z "$(cd "$top" && find crates.txt "${folders[@]}" -newer "$built" -print -quit)" ]
 }
 
 # how many crates are proved at a time: as many as there are processors, and 4 GiB of memory for each

@@ -2,7 +2,9 @@
 # Cases from independent implementations: trees, what a parse counts, answers to certificates, conditions of calls.
 set -u
 cd "$(dirname "$0")/../.." || exit 1
+top=$PWD
 . .ci/skips.sh
+. dist/sources.sh
 command -v python3 >/dev/null || {
   skip vectors python3
   exit 0
@@ -11,7 +13,7 @@ failed=0
 
 # built NAME WORDS..: proves and builds a small program, where it isn't yet
 built() {
-  (cd "crates/$1" && rt run -- "${@:2}") >/dev/null || failed=1
+  is_built "$1" || (cd "crates/$1" && rt run -- "${@:2}") </dev/null >/dev/null || failed=1
 }
 
 python3 .ci/vectors.py parses ./ipg parse || failed=1

@@ -1,4 +1,4 @@
-//! Places runs and puts entries, and says how many and in how many bytes: `bench_region region|memo global|heap COUNT`.
+//! Places runs and puts entries, and says how many, and how many bytes of a heap they take: `bench_region region|memo global|heap COUNT`.
 #![tactic(auto)]
 
 use anyhow::{Result, bail};
@@ -85,8 +85,8 @@ fn main(rt: HostRuntime) -> Result<()> {
     match args.as_slice() {
         [_, what, place, count] => run(&rt, what, place, count.parse::<u32>()?),
         _ => {
-            run(&rt, "region", "heap", 1000)?;
-            run(&rt, "memo", "heap", 1000)
+            run(&rt, "region", "global", 1000)?;
+            run(&rt, "memo", "global", 1000)
         }
     }
 }
