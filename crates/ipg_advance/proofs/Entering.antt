@@ -1,5 +1,6 @@
 -- A term is entered by the values of its expressions.
-use Rattle.std.proofs.Common.{◌≡◌, ◌≢◌, ℕ, suc, zero, ◌≤◌, refl, sym, ap, ◌∙◌, subst, arith, [], Option, Some, None, Ok, true, false, ℤ, pos, negsuc, ◌+ℤ◌, ◌-ℤ◌, FitsSigned}
+use Rattle.std.proofs.Common.{◌≡◌, ◌≢◌, ℕ, suc, zero, ◌≤◌, refl, sym, ap, ◌∙◌, subst, arith, [], Option, Some, None, Ok, true, false, ℤ, pos, negsuc}
+use Rattle.std.proofs.Common.{◌+ℤ◌, ◌-ℤ◌, FitsSigned}
 use Rattle.std.specs.Prelude.{slice_get}
 use Rattle.std.specs.Int.{w64}
 use Rattle.std.proofs.lemmas.Int.{ints}

@@ -1,5 +1,6 @@
 -- A term is made of what was parsed for it.
-use Rattle.std.proofs.Common.{◌≡◌, ℕ, suc, zero, ◌<◌, ◌-◌, refl, sym, ap, subst, arith, List, [], ◌∷◌, ◌++◌, Option, Some, Result, Ok, Err, Bool, false, length, ℤ, pos, ◌+ℤ◌, FitsSigned}
+use Rattle.std.proofs.Common.{◌≡◌, ℕ, suc, zero, ◌<◌, ◌-◌, refl, sym, ap, subst, arith, List, [], ◌∷◌, ◌++◌, Option, Some, Result, Ok, Err, Bool}
+use Rattle.std.proofs.Common.{false, length, ℤ, pos, ◌+ℤ◌, FitsSigned}
 use Rattle.std.specs.Int.{w64}
 use Rattle.std.proofs.lemmas.Int.{ints}
 use Rattle.ipg_core.specs.declared.grammar.Sym.{Sym}

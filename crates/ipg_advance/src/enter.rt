@@ -31,7 +31,9 @@ pub(crate) fn set<R: Results>(
     area: &mut [i64],
 ) -> Advance
     requires { site.now.tables.now.depth ≤ length area.now }
-    ensures made { (src : Source) (st : Stored) (at n u : ℕ) (f : Frame) (state : State) (e : CoreExpr) → R.stands results.now (environment f state None) → HoldsExpr site.now.tables.now expr e → IsMade src st at n u state [] result (moves.advance silent f state u moves.Outside (Some (core.Set attr e))) }
+    ensures made { (src : Source) (st : Stored) (at n u : ℕ) (f : Frame) (state : State) (e : CoreExpr)
+        → R.stands results.now (environment f state None) → HoldsExpr site.now.tables.now expr e
+        → IsMade src st at n u state [] result (moves.advance silent f state u moves.Outside (Some (core.Set attr e))) }
     ensures area { length area.new ≡ length area.old }
 {
     match value(site.tables, results, expr, area) {
@@ -60,7 +62,9 @@ pub(crate) fn test<R: Results>(
     area: &mut [i64],
 ) -> Advance
     requires { site.now.tables.now.depth ≤ length area.now }
-    ensures made { (src : Source) (st : Stored) (at n u : ℕ) (f : Frame) (state : State) (e : CoreExpr) → R.stands results.now (environment f state None) → HoldsExpr site.now.tables.now cond e → IsMade src st at n u state [] result (moves.advance silent f state u moves.Outside (Some (core.Test e))) }
+    ensures made { (src : Source) (st : Stored) (at n u : ℕ) (f : Frame) (state : State) (e : CoreExpr)
+        → R.stands results.now (environment f state None) → HoldsExpr site.now.tables.now cond e
+        → IsMade src st at n u state [] result (moves.advance silent f state u moves.Outside (Some (core.Test e))) }
     ensures area { length area.new ≡ length area.old }
 {
     match value(site.tables, results, cond, area) {
@@ -83,7 +87,8 @@ fn count(first: i64, last: i64) -> u64
 
 /// An array is entered, or is past where it has no items.
 fn array_between(first: i64, last: i64, sym: u32) -> Advance
-    ensures { (src : Source) (st : Stored) (at n u : ℕ) (state : State) (name : Sym) → slice_get src.syms sym ≡ Some name → IsMade src st at n u state [] result (parts.array_between state u name first last) }
+    ensures { (src : Source) (st : Stored) (at n u : ℕ) (state : State) (name : Sym) → slice_get src.syms sym ≡ Some name
+        → IsMade src st at n u state [] result (parts.array_between state u name first last) }
 {
     let left = count(first, last);
     if left == 0 {
@@ -103,7 +108,9 @@ fn array_from<R: Results>(
     area: &mut [i64],
 ) -> Advance
     requires { site.now.tables.now.depth ≤ length area.now }
-    ensures made { (src : Source) (st : Stored) (at n u : ℕ) (f : Frame) (state : State) (name : Sym) (b : CoreExpr) → R.stands results.now (environment f state None) → HoldsExpr site.now.tables.now last b → slice_get src.syms sym ≡ Some name → IsMade src st at n u state [] result (parts.array_from f state u name first b) }
+    ensures made { (src : Source) (st : Stored) (at n u : ℕ) (f : Frame) (state : State) (name : Sym) (b : CoreExpr)
+        → R.stands results.now (environment f state None) → HoldsExpr site.now.tables.now last b → slice_get src.syms sym ≡ Some name
+        → IsMade src st at n u state [] result (parts.array_from f state u name first b) }
     ensures area { length area.new ≡ length area.old }
 {
     match value(site.tables, results, last, area) {
@@ -123,7 +130,10 @@ pub(crate) fn array<R: Results>(
     area: &mut [i64],
 ) -> Advance
     requires { site.now.tables.now.depth ≤ length area.now }
-    ensures made { (src : Source) (st : Stored) (at n u : ℕ) (f : Frame) (state : State) (a b : CoreExpr) (slot : CoreSlot) → R.stands results.now (environment f state None) → HoldsExpr site.now.tables.now first a → HoldsExpr site.now.tables.now last b → slice_get src.syms sym ≡ Some slot.sym → IsMade src st at n u state [] result (moves.advance silent f state u moves.Outside (Some (core.Repeat a b slot.sym slot.from slot.to))) }
+    ensures made { (src : Source) (st : Stored) (at n u : ℕ) (f : Frame) (state : State) (a b : CoreExpr) (slot : CoreSlot)
+        → R.stands results.now (environment f state None) → HoldsExpr site.now.tables.now first a → HoldsExpr site.now.tables.now last b
+        → slice_get src.syms sym ≡ Some slot.sym
+        → IsMade src st at n u state [] result (moves.advance silent f state u moves.Outside (Some (core.Repeat a b slot.sym slot.from slot.to))) }
     ensures area { length area.new ≡ length area.old }
 {
     match value(site.tables, results, first, area) {
@@ -135,7 +145,8 @@ pub(crate) fn array<R: Results>(
 
 /// A repetition is entered, where its ends are those of an interval.
 fn many_between(size: u32, from: i64, to: i64) -> Advance
-    ensures { (src : Source) (st : Stored) (at u : ℕ) (f : Frame) (state : State) → length f.bytes ≡ size → IsMade src st at size u state [] result (parts.many_between f from to) }
+    ensures { (src : Source) (st : Stored) (at u : ℕ) (f : Frame) (state : State) → length f.bytes ≡ size
+        → IsMade src st at size u state [] result (parts.many_between f from to) }
 {
     match interval(size, from, to) {
         Some((at, to)) => Advance::Inside(Entry::Turns { at, to }),
@@ -152,7 +163,9 @@ fn many_from<R: Results>(
     area: &mut [i64],
 ) -> Advance
     requires { site.now.tables.now.depth ≤ length area.now }
-    ensures made { (src : Source) (st : Stored) (at u : ℕ) (f : Frame) (state : State) (e : CoreExpr) → R.stands results.now (environment f state None) → HoldsExpr site.now.tables.now to e → length f.bytes ≡ site.now.size → IsMade src st at site.now.size u state [] result (parts.many_from f state from e) }
+    ensures made { (src : Source) (st : Stored) (at u : ℕ) (f : Frame) (state : State) (e : CoreExpr)
+        → R.stands results.now (environment f state None) → HoldsExpr site.now.tables.now to e → length f.bytes ≡ site.now.size
+        → IsMade src st at site.now.size u state [] result (parts.many_from f state from e) }
     ensures area { length area.new ≡ length area.old }
 {
     match value(site.tables, results, to, area) {
@@ -170,7 +183,10 @@ pub(crate) fn many<R: Results>(
     area: &mut [i64],
 ) -> Advance
     requires { site.now.tables.now.depth ≤ length area.now }
-    ensures made { (src : Source) (st : Stored) (at u : ℕ) (f : Frame) (state : State) (slot : CoreSlot) → R.stands results.now (environment f state None) → HoldsSlot site.now.tables.now row slot → length f.bytes ≡ site.now.size → IsMade src st at site.now.size u state [] result (moves.advance silent f state u moves.Outside (Some (core.Many slot.sym slot.from slot.to))) }
+    ensures made { (src : Source) (st : Stored) (at u : ℕ) (f : Frame) (state : State) (slot : CoreSlot)
+        → R.stands results.now (environment f state None) → HoldsSlot site.now.tables.now row slot → length f.bytes ≡ site.now.size
+        → IsMade src st at site.now.size u state [] result
+        (moves.advance silent f state u moves.Outside (Some (core.Many slot.sym slot.from slot.to))) }
     ensures area { length area.new ≡ length area.old }
 {
     match value(site.tables, results, row.from, area) {

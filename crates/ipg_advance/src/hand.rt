@@ -36,7 +36,11 @@ fn made<A: Allocator + Clone + Drop>(
     entry: Entry,
     found: Found,
 ) -> AtHand
-    ensures { (src : Source) (at n u : ℕ) (f : Frame) (state : State) (items : List tree.Kid) (e : moves.Entry) (term : CoreTerm) (run : Run tree.Kid) → src.syms ≡ tables.now.syms → length f.bytes ≡ n → HoldsTerm tables.now action term → IsEntry n entry items e → IsFound src store.now at f state.own found run → FoundEndsBy entry found run → moves.taken state u e term (Result.Err OutOfRange) ≡ Result.Err OutOfRange → IsAtHand src store.now at n u state items f entry result (made_of state u e term run) }
+    ensures { (src : Source) (at n u : ℕ) (f : Frame) (state : State) (items : List tree.Kid) (e : moves.Entry) (term : CoreTerm) (run : Run tree.Kid)
+        → src.syms ≡ tables.now.syms → length f.bytes ≡ n → HoldsTerm tables.now action term → IsEntry n entry items e
+        → IsFound src store.now at f state.own found run → FoundEndsBy entry found run
+        → moves.taken state u e term (Result.Err OutOfRange) ≡ Result.Err OutOfRange
+        → IsAtHand src store.now at n u state items f entry result (made_of state u e term run) }
 {
     match found {
         Found::Kid(kid) => AtHand::Makes(taken(tables, store, action, entry, Some(kid))),
@@ -56,7 +60,9 @@ fn outside<R: Results, A: Allocator + Clone + Drop>(
 ) -> AtHand
     requires depth { site.now.tables.now.depth ≤ length area.now }
     requires size { length site.now.bytes.now ≡ site.now.size }
-    ensures found { (src : Source) (at u : ℕ) (f : Frame) (state : State) (term : CoreTerm) → R.stands results.now (environment f state None) → HoldsTerm site.now.tables.now action term → Shares src at f site.now.tables.now site.now.bytes.now → IsAtHand src store.now at site.now.size u state [] f entries.Outside result (moves.advance silent f state u moves.Outside (Some term)) }
+    ensures found { (src : Source) (at u : ℕ) (f : Frame) (state : State) (term : CoreTerm) → R.stands results.now (environment f state None)
+        → HoldsTerm site.now.tables.now action term → Shares src at f site.now.tables.now site.now.bytes.now
+        → IsAtHand src store.now at site.now.size u state [] f entries.Outside result (moves.advance silent f state u moves.Outside (Some term)) }
     ensures area { length area.new ≡ length area.old }
 {
     let tables = site.tables;
@@ -89,7 +95,10 @@ fn item<R: Results, A: Allocator + Clone + Drop>(
 ) -> AtHand
     requires depth { site.now.tables.now.depth ≤ length area.now }
     requires size { length site.now.bytes.now ≡ site.now.size }
-    ensures found { (src : Source) (at u left : ℕ) (z : ℤ) (f : Frame) (state : State) (items : List tree.Kid) (e : moves.Entry) (term : CoreTerm) → entry ≡ entries.Items left z → R.stands results.now (environment_at f state u e term) → HoldsTerm site.now.tables.now action term → IsEntry site.now.size entry items e → Shares src at f site.now.tables.now site.now.bytes.now → IsAtHand src store.now at site.now.size u state items f entry result (moves.advance silent f state u e (Some term)) }
+    ensures found { (src : Source) (at u left : ℕ) (z : ℤ) (f : Frame) (state : State) (items : List tree.Kid) (e : moves.Entry) (term : CoreTerm)
+        → entry ≡ entries.Items left z → R.stands results.now (environment_at f state u e term) → HoldsTerm site.now.tables.now action term
+        → IsEntry site.now.size entry items e → Shares src at f site.now.tables.now site.now.bytes.now
+        → IsAtHand src store.now at site.now.size u state items f entry result (moves.advance silent f state u e (Some term)) }
     ensures area { length area.new ≡ length area.old }
 {
     match action {
@@ -104,7 +113,9 @@ fn item<R: Results, A: Allocator + Clone + Drop>(
 /// An item of a repetition, on what is left of an interval of the part.
 fn turn_within(site: &Site<'_>, sym: u32, at: u32, to: u32) -> Found
     requires { length site.now.bytes.now ≡ site.now.size }
-    ensures { (src : Source) (st : Stored) (begin : ℕ) (f : Frame) (place : Place) (own : Values) (one : Sym) → at ≤ to → to ≤ site.now.size → slice_get site.now.tables.now.syms sym ≡ Some one → Shares src begin f site.now.tables.now site.now.bytes.now → IsFound src st begin f own result (spec.item_on silent f place own at to one) }
+    ensures { (src : Source) (st : Stored) (begin : ℕ) (f : Frame) (place : Place) (own : Values) (one : Sym) → at ≤ to → to ≤ site.now.size
+        → slice_get site.now.tables.now.syms sym ≡ Some one → Shares src begin f site.now.tables.now site.now.bytes.now
+        → IsFound src st begin f own result (spec.item_on silent f place own at to one) }
 {
     if at > to {
         return Found::NoTree;
@@ -124,7 +135,10 @@ fn next_turn<A: Allocator + Clone + Drop>(
     to: u32,
 ) -> AtHand
     requires { length site.now.bytes.now ≡ site.now.size }
-    ensures { (src : Source) (begin u : ℕ) (f : Frame) (state : State) (items : List tree.Kid) (e : moves.Entry) (term : CoreTerm) → HoldsTerm site.now.tables.now action term → IsEntry site.now.size (entries.Turns at to) items e → Shares src begin f site.now.tables.now site.now.bytes.now → IsAtHand src store.now begin site.now.size u state items f (entries.Turns at to) result (moves.advance silent f state u e (Some term)) }
+    ensures { (src : Source) (begin u : ℕ) (f : Frame) (state : State) (items : List tree.Kid) (e : moves.Entry) (term : CoreTerm)
+        → HoldsTerm site.now.tables.now action term → IsEntry site.now.size (entries.Turns at to) items e
+        → Shares src begin f site.now.tables.now site.now.bytes.now
+        → IsAtHand src store.now begin site.now.size u state items f (entries.Turns at to) result (moves.advance silent f state u e (Some term)) }
 {
     match action {
         Action::Many(row) => {
@@ -146,7 +160,10 @@ pub fn at_hand<R: Results, A: Allocator + Clone + Drop>(
 ) -> AtHand
     requires depth { site.now.tables.now.depth ≤ length area.now }
     requires size { length site.now.bytes.now ≡ site.now.size }
-    ensures found { (src : Source) (at u : ℕ) (f : Frame) (state : State) (items : List tree.Kid) (e : moves.Entry) (term : CoreTerm) → R.stands results.now (environment_at f state u e term) → HoldsTerm site.now.tables.now instr.action term → instr.term ≡ u → IsEntry site.now.size entry items e → Shares src at f site.now.tables.now site.now.bytes.now → IsAtHand src store.now at site.now.size u state items f entry result (moves.advance silent f state u e (Some term)) }
+    ensures found { (src : Source) (at u : ℕ) (f : Frame) (state : State) (items : List tree.Kid) (e : moves.Entry) (term : CoreTerm)
+        → R.stands results.now (environment_at f state u e term) → HoldsTerm site.now.tables.now instr.action term → instr.term ≡ u
+        → IsEntry site.now.size entry items e → Shares src at f site.now.tables.now site.now.bytes.now
+        → IsAtHand src store.now at site.now.size u state items f entry result (moves.advance silent f state u e (Some term)) }
     ensures area { length area.new ≡ length area.old }
 {
     match entry {

@@ -25,7 +25,9 @@ use std::alloc::Allocator;
 
 /// A slot or a switch is past with its result.
 fn past(is_switch: bool, parsed: Option<Kid>) -> Advance
-    ensures { (src : Source) (st : Stored) (at n u : ℕ) (state : State) (items : List tree.Kid) (answer : Result tree.Kid Stop) → IsParsed src st at n entries.Outside parsed answer → IsAdvance src st at n u state items result (moves.lifted (λ k. moves.Past (with_kid state u is_switch k)) answer) }
+    ensures { (src : Source) (st : Stored) (at n u : ℕ) (state : State) (items : List tree.Kid) (answer : Result tree.Kid Stop)
+        → IsParsed src st at n entries.Outside parsed answer
+        → IsAdvance src st at n u state items result (moves.lifted (λ k. moves.Past (with_kid state u is_switch k)) answer) }
 {
     match parsed {
         Some(kid) => Advance::Result(Done { is_switch, kid }),
@@ -35,7 +37,9 @@ fn past(is_switch: bool, parsed: Option<Kid>) -> Advance
 
 /// What a slot or a switch makes of what was parsed.
 fn outside(action: Action, parsed: Option<Kid>) -> Advance
-    ensures { (src : Source) (st : Stored) (t : Rows) (at n u : ℕ) (state : State) (items : List tree.Kid) (term : CoreTerm) (answer : Result tree.Kid Stop) → HoldsTerm t action term → IsParsed src st at n entries.Outside parsed answer → IsAdvance src st at n u state items result (moves.taken state u moves.Outside term answer) }
+    ensures { (src : Source) (st : Stored) (t : Rows) (at n u : ℕ) (state : State) (items : List tree.Kid) (term : CoreTerm)
+        (answer : Result tree.Kid Stop) → HoldsTerm t action term → IsParsed src st at n entries.Outside parsed answer
+        → IsAdvance src st at n u state items result (moves.taken state u moves.Outside term answer) }
 {
     match action {
         Action::Slot(_) => past(false, parsed),
@@ -56,7 +60,9 @@ fn next(item: i64) -> i64
 
 /// An array with one item more.
 fn one_more(sym: u32, left: u64, item: i64, kid: Kid) -> Advance
-    ensures { (src : Source) (st : Stored) (at n u k : ℕ) (state : State) (items : List tree.Kid) (one : tree.Kid) (name : Sym) → slice_get src.syms sym ≡ Some name → left ≡ suc k → FitsSigned w64 item → FitsSigned w64 (item +ℤ pos left) → IsItem src st at n kid one → IsAdvance src st at n u state items result (Result.Ok (moves.array_on state u name k (item +ℤ pos 1) (items ++ one ∷ []))) }
+    ensures { (src : Source) (st : Stored) (at n u k : ℕ) (state : State) (items : List tree.Kid) (one : tree.Kid) (name : Sym)
+        → slice_get src.syms sym ≡ Some name → left ≡ suc k → FitsSigned w64 item → FitsSigned w64 (item +ℤ pos left) → IsItem src st at n kid one
+        → IsAdvance src st at n u state items result (Result.Ok (moves.array_on state u name k (item +ℤ pos 1) (items ++ one ∷ []))) }
 {
     if left <= 1 {
         return Advance::Last { sym, item: kid };
@@ -72,7 +78,10 @@ fn one_more(sym: u32, left: u64, item: i64, kid: Kid) -> Advance
 
 /// What an array makes of its next item.
 fn array(action: Action, left: u64, item: i64, parsed: Option<Kid>) -> Advance
-    ensures { (src : Source) (t : Rows) (st : Stored) (at n u : ℕ) (state : State) (items : List tree.Kid) (e : moves.Entry) (term : CoreTerm) (answer : Result tree.Kid Stop) → src.syms ≡ t.syms → HoldsTerm t action term → IsEntry n (entries.Items left item) items e → IsParsed src st at n (entries.Items left item) parsed answer → IsAdvance src st at n u state items result (moves.taken state u e term answer) }
+    ensures { (src : Source) (t : Rows) (st : Stored) (at n u : ℕ) (state : State) (items : List tree.Kid) (e : moves.Entry) (term : CoreTerm)
+        (answer : Result tree.Kid Stop) → src.syms ≡ t.syms → HoldsTerm t action term → IsEntry n (entries.Items left item) items e
+        → IsParsed src st at n (entries.Items left item) parsed answer
+        → IsAdvance src st at n u state items result (moves.taken state u e term answer) }
 {
     match action {
         Action::Repeat { item: slot, .. } => match parsed {
@@ -101,7 +110,9 @@ fn one_turn<A: Allocator + Clone + Drop>(
     to: u32,
     kid: Kid,
 ) -> Advance
-    ensures { (src : Source) (at n u : ℕ) (state : State) (items : List tree.Kid) (one : tree.Kid) (name : Sym) → src.syms ≡ tables.now.syms → slice_get src.syms sym ≡ Some name → to ≤ n → IsItem src store.now at n kid one → (touch.ends_of one).end ≤ to → IsAdvance src store.now at n u state items result (moves.repeated state u name to items (Result.Ok one)) }
+    ensures { (src : Source) (at n u : ℕ) (state : State) (items : List tree.Kid) (one : tree.Kid) (name : Sym) → src.syms ≡ tables.now.syms
+        → slice_get src.syms sym ≡ Some name → to ≤ n → IsItem src store.now at n kid one → (touch.ends_of one).end ≤ to
+        → IsAdvance src store.now at n u state items result (moves.repeated state u name to items (Result.Ok one)) }
 {
     let ends = ends_of(store, tables, kid);
     if touches(ends) {
@@ -123,7 +134,10 @@ fn repetition<A: Allocator + Clone + Drop>(
     to: u32,
     parsed: Option<Kid>,
 ) -> Advance
-    ensures { (src : Source) (at n u from : ℕ) (state : State) (items : List tree.Kid) (e : moves.Entry) (term : CoreTerm) (answer : Result tree.Kid Stop) → src.syms ≡ tables.now.syms → HoldsTerm tables.now action term → IsEntry n (entries.Turns from to) items e → IsParsed src store.now at n (entries.Turns from to) parsed answer → IsAdvance src store.now at n u state items result (moves.taken state u e term answer) }
+    ensures { (src : Source) (at n u from : ℕ) (state : State) (items : List tree.Kid) (e : moves.Entry) (term : CoreTerm)
+        (answer : Result tree.Kid Stop) → src.syms ≡ tables.now.syms → HoldsTerm tables.now action term → IsEntry n (entries.Turns from to) items e
+        → IsParsed src store.now at n (entries.Turns from to) parsed answer
+        → IsAdvance src store.now at n u state items result (moves.taken state u e term answer) }
 {
     match action {
         Action::Many(slot) => match parsed {
@@ -142,7 +156,9 @@ pub fn taken<A: Allocator + Clone + Drop>(
     entry: Entry,
     parsed: Option<Kid>,
 ) -> Advance
-    ensures { (src : Source) (at n u : ℕ) (state : State) (items : List tree.Kid) (e : moves.Entry) (term : CoreTerm) (answer : Result tree.Kid Stop) → src.syms ≡ tables.now.syms → HoldsTerm tables.now action term → IsEntry n entry items e → IsParsed src store.now at n entry parsed answer → IsAdvance src store.now at n u state items result (moves.taken state u e term answer) }
+    ensures { (src : Source) (at n u : ℕ) (state : State) (items : List tree.Kid) (e : moves.Entry) (term : CoreTerm) (answer : Result tree.Kid Stop)
+        → src.syms ≡ tables.now.syms → HoldsTerm tables.now action term → IsEntry n entry items e → IsParsed src store.now at n entry parsed answer
+        → IsAdvance src store.now at n u state items result (moves.taken state u e term answer) }
 {
     match entry {
         Entry::Outside => outside(action, parsed),

@@ -1,5 +1,6 @@
 -- What an accepted grammar means, and what is told of a parse.
-use Rattle.std.proofs.Common.{◌≡◌, ◌≢◌, ℕ, suc, ◌<◌, ◌≤◌, ◌-◌, ◌^◌, List, length, [], ◌∷◌, min, get_or, Option, Some, Result, Ok, Err, IfOk, Fits as IsBelow, w8, refl, sym, ap, ◌∙◌, subst, arith}
+use Rattle.std.proofs.Common.{◌≡◌, ◌≢◌, ℕ, suc, ◌<◌, ◌≤◌, ◌-◌, ◌^◌, List, length, [], ◌∷◌, min, get_or, Option, Some, Result, Ok, Err, IfOk}
+use Rattle.std.proofs.Common.{Fits as IsBelow, w8, refl, sym, ap, ◌∙◌, subst, arith}
 use Rattle.std.proofs.lemmas.Option.{slice_get_within}
 use Rattle.std.specs.List.{AllByRecursion}
 use Rattle.ipg_core.specs.Grammar.{Grammar, holder_of}
@@ -85,7 +86,8 @@ module _ (g : Grammar) (input : List ℕ) (answer : Result Tree Stop) (means : M
 
 -- ---- how large a tree is
 
-pub size_is : (counts_with_memo : CountsWithMemo) (g : Grammar) (input : List ℕ) (answer : Result Tree Stop) (m : Means g input answer) (one : Tree) (tally : Tally)
+pub size_is : (counts_with_memo : CountsWithMemo) (g : Grammar) (input : List ℕ) (answer : Result Tree Stop) (m : Means g input answer) (one : Tree)
+    (tally : Tally)
     (counts : Counts) (size : Size) → answer ≡ Ok one → Evaluates g input (Some []) answer tally → IsTally counts tally
     → size.lines ≡ min (length (tree_lines g 0 0 one)) (2 ^ 64 - 1) → size.bodies ≡ counts.bodies → IsSize g input one size
 size_is counts_with_memo g input answer m one tally counts size is_one e is_tally lines bodies =

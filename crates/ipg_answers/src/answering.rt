@@ -70,7 +70,8 @@ fn put<A: Allocator + Clone + Drop, S: Sink>(
     parsed: &mut Parsed<'_, A>,
     out: &mut S,
 ) -> Result<Given, AnswerFault>
-    ensures { (src : Source) (g : Grammar) (one : Tree) → IsTree parsed.old.parse src g one → PutsTree result (tree.lines g one 0) (S.output out.old) (S.faults out.old) (S.output out.new) (S.faults out.new) }
+    ensures { (src : Source) (g : Grammar) (one : Tree) → IsTree parsed.old.parse src g one
+        → PutsTree result (tree.lines g one 0) (S.output out.old) (S.faults out.old) (S.output out.new) (S.faults out.new) }
 {
     match print(parsed, out) {
         Ok(()) => Ok(Given::Tree),

@@ -34,7 +34,8 @@ pub enum Measured {
 }
 
 fn size_of<A: Allocator + Clone + Drop>(parsed: &mut Parsed<'_, A>) -> Size
-    ensures lines { (src : Source) (g : Grammar) (one : Tree) → IsTree parsed.old.parse src g one → result.lines ≡ min (length (tree_lines g 0 0 one)) (2 ^ 64 - 1) }
+    ensures lines { (src : Source) (g : Grammar) (one : Tree) → IsTree parsed.old.parse src g one
+        → result.lines ≡ min (length (tree_lines g 0 0 one)) (2 ^ 64 - 1) }
     ensures bodies { result.bodies ≡ parsed.old.parse.counts.bodies }
 {
     let bodies = parsed.counts().bodies;

@@ -1,5 +1,6 @@
 -- What is settled, step by step.
-use Rattle.std.proofs.Common.{◌≡◌, ℕ, ◌≤◌, ◌<◌, inl, inr, List, length, true, false, cond, nat_le, Result, Ok, Err, Option, Some, None, refl, sym, subst, ap, ◌∙◌, arith}
+use Rattle.std.proofs.Common.{◌≡◌, ℕ, ◌≤◌, ◌<◌, inl, inr, List, length, true, false, cond, nat_le, Result, Ok, Err, Option, Some, None, refl, sym}
+use Rattle.std.proofs.Common.{subst, ap, ◌∙◌, arith}
 use Rattle.std.proofs.lemmas.Bool.Decides.{nat_tests}
 use Rattle.ipg_outside.specs.Files.{Told, MayHold}
 use Rattle.ipg_ast.specs.declared.grammar.Grammar as written
@@ -161,6 +162,8 @@ input_fits : (bytes : List ℕ) → length bytes ≤ max_input → input_in byte
 input_fits bytes h = ap (λ b. cond b (Ok bytes) (Err too_large)) (let e : nat_le (length bytes) max_input ≡ true = grind (arith, nat_tests) in e)
 
 pub read_on : (told : List ℕ → Told) (before after : List ℕ → ℕ) (name : List ℕ) (next : List ℕ → Order) (said : Said) (bytes : List ℕ)
-    → MayHold (told name) bytes → length bytes ≤ max_input → Answers told (next bytes) said → Settles told before after (reads name (λ b. have (input_in b) next)) said
+    → MayHold (told name) bytes → length bytes ≤ max_input → Answers told (next bytes) said
+    → Settles told before after (reads name (λ b. have (input_in b) next)) said
 read_on told before after name next said bytes held fits a =
-    goes_on told before after name (λ b. have (input_in b) next) said bytes held (inl (subst (λ r. Answers told (have r next) said) (sym (input_fits bytes fits)) a))
+    goes_on told before after name (λ b. have (input_in b) next) said bytes held
+    (inl (subst (λ r. Answers told (have r next) said) (sym (input_fits bytes fits)) a))

@@ -1,5 +1,6 @@
 -- What a sink tells over the lines of a text.
-use Rattle.std.proofs.Common.{◌≡◌, ℕ, suc, ◌+◌, ◌<◌, ◌≤◌, inl, inr, List, [], ◌++◌, length, get_or, drop, Option, None, Some, refl, sym, ap, ◌∙◌, add-one, drop-cons, append_assoc, append-nil, arith, Result, Ok, Err, OnOk, OnErr}
+use Rattle.std.proofs.Common.{◌≡◌, ℕ, suc, ◌+◌, ◌<◌, ◌≤◌, inl, inr, List, [], ◌++◌, length, get_or, drop, Option, None, Some, refl, sym, ap, ◌∙◌}
+use Rattle.std.proofs.Common.{add-one, drop-cons, append_assoc, append-nil, arith, Result, Ok, Err, OnOk, OnErr}
 use Rattle.std.proofs.lemmas.Grind.{common_steps}
 use Rattle.std.specs.declared.vec.Vec.{Vec}
 use Rattle.std.specs.declared.alloc.Global.{Global}
@@ -22,7 +23,11 @@ takes-more xs ys a b c p q = record {
 
 breaks-more : (xs ys zs text : List ℕ) (a b c : Output) → text ≡ xs ++ (ys ++ zs) → Takes xs a b → Breaks ys b c → Breaks text a c
 breaks-more xs ys zs text a b c e p q = record {
-  part = prefix-more _ _ _ q.part (zs, ap (λ t. given a ++ t) e ∙ sym (append_assoc (given a) xs (ys ++ zs)) ∙ sym (append_assoc (given a ++ xs) ys zs) ∙ ap (λ t. (t ++ ys) ++ zs) (sym p.all));
+  part = prefix-more _ _ _ q.part (
+    zs,
+    ap (λ t. given a ++ t) e ∙ sym (append_assoc (given a) xs (ys ++ zs))
+        ∙ sym (append_assoc (given a ++ xs) ys zs) ∙ ap (λ t. (t ++ ys) ++ zs) (sym p.all),
+  );
   kept = prefix-more _ _ _ p.kept q.kept;
   none_held = q.none_held;
 }
@@ -68,17 +73,20 @@ later a b c h (inl r) = inl (omega arith)
 later a b c h (inr r) = inr r
 
 -- the next line stands in front
-pub next-line : (lines : List (Vec ℕ Global)) (i : ℕ) (line : Vec ℕ Global) → i < length lines → line ≡ get_or lines i line → text_of (drop i lines) ≡ line.items ++ text_of (drop (i + 1) lines)
+pub next-line : (lines : List (Vec ℕ Global)) (i : ℕ) (line : Vec ℕ Global) → i < length lines → line ≡ get_or lines i line
+    → text_of (drop i lines) ≡ line.items ++ text_of (drop (i + 1) lines)
 next-line lines i line h e =
     ap (λ t. text_of t) (drop-cons lines i line h)
     ∙ ap (λ l. l.items ++ text_of (drop (suc i) lines)) (sym e)
     ∙ ap (λ k. line.items ++ text_of (drop k lines)) (sym (add-one i))
 
-pub ended-written : {E : Type 0} (r : Result (Unit {0}) E) (a b c : Option Output) (text rest : List ℕ) → rest ≡ [] → Progress a b text rest → OnOk r (Tells b c HandsOn) → OnOk r (Tells a c (Writes text))
+pub ended-written : {E : Type 0} (r : Result (Unit {0}) E) (a b c : Option Output) (text rest : List ℕ) → rest ≡ [] → Progress a b text rest
+    → OnOk r (Tells b c HandsOn) → OnOk r (Tells a c (Writes text))
 ended-written (Ok u) a b c text rest e p h = all-out a b c text rest e p h
 ended-written (Err x) a b c text rest e p h = tt
 
-pub ended-broken : {E : Type 0} (r : Result (Unit {0}) E) (a b c : Option Output) (text rest : List ℕ) → Progress a b text rest → OnErr r (Tells b c (Breaks [])) → OnErr r (Tells a c (Breaks text))
+pub ended-broken : {E : Type 0} (r : Result (Unit {0}) E) (a b c : Option Output) (text rest : List ℕ) → Progress a b text rest
+    → OnErr r (Tells b c (Breaks [])) → OnErr r (Tells a c (Breaks text))
 ended-broken (Ok u) a b c text rest p h = tt
 ended-broken (Err x) a b c text rest p h = broken a b c text [] rest p h
 

@@ -28,7 +28,9 @@ pub fn parse<S: Sink>(alloc: Global, due: &Due, out: &mut S) -> Status
 
 /// Writes what is left to say of what is given.
 fn end<S: Sink>(given: Given, out: &mut S) -> Status
-    ensures { (g : Grammar) (answer : Result Tree Stop) (before : Option Output) (counted : ℕ) → IsGiven g answer given before counted (S.output out.old) (S.faults out.old) → Concludes g answer before counted (S.output out.new) (S.faults out.new) result }
+    ensures { (g : Grammar) (answer : Result Tree Stop) (before : Option Output) (counted : ℕ)
+        → IsGiven g answer given before counted (S.output out.old) (S.faults out.old)
+        → Concludes g answer before counted (S.output out.new) (S.faults out.new) result }
 {
     match given {
         Given::Tree => finish(Status::Done, out),

@@ -109,7 +109,8 @@ fn fmt_built_in(alloc: Global, kind: Kind) -> Result<Settled, AllocError>
 }
 
 fn fmt_file<F: Files>(alloc: Global, name: &str, files: &mut F) -> Result<Settled, AllocError>
-    ensures { IfOk result (λ settled. Settles (F.told files.old) (F.faults files.old) (F.faults files.new) (grammar_in_file name.now formatted) (said_of settled)) }
+    ensures { IfOk result (λ settled. Settles (F.told files.old) (F.faults files.old) (F.faults files.new) (grammar_in_file name.now formatted)
+        (said_of settled)) }
 {
     match grammar_in_file(alloc, name, files)? {
         Ok(grammar) => format(alloc, &grammar),
@@ -123,7 +124,8 @@ fn core_in_file<F: Files>(
     name: &str,
     files: &mut F,
 ) -> Result<Result<Core, Settled>, AllocError>
-    ensures found { IfOk result (λ made. MatchResult made (λ core. FoundCore (F.told files.old name.now) core) (λ settled. Settles (F.told files.old) (F.faults files.old) (F.faults files.new) (core_in_file name.now (λ g. silence)) (said_of settled))) }
+    ensures found { IfOk result (λ made. MatchResult made (λ core. FoundCore (F.told files.old name.now) core)
+        (λ settled. Settles (F.told files.old) (F.faults files.old) (F.faults files.new) (core_in_file name.now (λ g. silence)) (said_of settled))) }
     ensures told { (n : List ℕ) → F.told files.new n ≡ F.told files.old n }
     ensures counts { (n : List ℕ) → F.faults files.old n ≤ F.faults files.new n }
 {
@@ -139,7 +141,8 @@ fn grammar_in_file<F: Files>(
     name: &str,
     files: &mut F,
 ) -> Result<Result<Grammar, Settled>, AllocError>
-    ensures found { IfOk result (λ read. MatchResult read (Found (F.told files.old name.now)) (λ settled. Settles (F.told files.old) (F.faults files.old) (F.faults files.new) (grammar_in_file name.now (λ g. silence)) (said_of settled))) }
+    ensures found { IfOk result (λ read. MatchResult read (Found (F.told files.old name.now))
+        (λ settled. Settles (F.told files.old) (F.faults files.old) (F.faults files.new) (grammar_in_file name.now (λ g. silence)) (said_of settled))) }
     ensures readable { IfOk result (λ read. IfOk read IsReadable) }
     ensures flat { IfOk result (λ read. IfOk read IsFlat) }
     ensures told { (n : List ℕ) → F.told files.new n ≡ F.told files.old n }

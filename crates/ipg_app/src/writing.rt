@@ -35,7 +35,8 @@ pub fn say<S: Sink>(settled: &Settled, out: &mut S) -> Status
 
 /// Hands on the whole of a text.
 pub fn finish<S: Sink>(status: Status, out: &mut S) -> Status
-    ensures { (before : Option Output) (counted : ℕ) (text : List ℕ) → Whole text before counted (S.output out.old) (S.faults out.old) → GoesOut (record { status = status; text = text }) before counted (S.output out.new) (S.faults out.new) result }
+    ensures { (before : Option Output) (counted : ℕ) (text : List ℕ) → Whole text before counted (S.output out.old) (S.faults out.old)
+        → GoesOut (record { status = status; text = text }) before counted (S.output out.new) (S.faults out.new) result }
 {
     match out.flush() {
         Ok(()) => status,

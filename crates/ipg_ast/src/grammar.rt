@@ -10,17 +10,20 @@ pub struct Span {
     pub to: u32,
 }
 
+/// A name, and where it stands.
 #[derive(Debug, Drop)]
 pub struct Ident {
     pub name: Name,
     pub span: Span,
 }
 
+/// A grammar's rules in the order of the text. The first is where parsing begins.
 #[derive(Drop)]
 pub struct Grammar {
     pub rules: List<Rule>,
 }
 
+/// A rule and its alternatives, which are tried in this order.
 #[cycle(rules)]
 #[derive(Drop)]
 pub struct Rule {
@@ -36,6 +39,7 @@ pub struct Alt {
     pub locals: List<Rule>,
 }
 
+/// A term of an alternative.
 #[derive(Drop)]
 pub enum Term {
     Slot(Slot),
@@ -72,6 +76,7 @@ pub enum Term {
     },
 }
 
+/// A case of a switch: its slot is parsed where the condition isn't 0.
 #[derive(Drop)]
 pub struct Case {
     pub cond: Expr,
@@ -86,6 +91,7 @@ pub struct Slot {
     pub place: Place,
 }
 
+/// A string of bytes, or the name of a rule or a primitive.
 #[derive(Drop)]
 pub enum What {
     Text(Name),
@@ -100,6 +106,7 @@ pub enum Place {
     Ends(Expr, Expr),
 }
 
+/// An expression, as it is written.
 #[derive(Drop)]
 pub enum Expr {
     Num(i64),
@@ -119,6 +126,7 @@ pub enum Expr {
     Cond(Held<Expr>, Held<Expr>, Held<Expr>),
 }
 
+/// What is read of a part: an attribute, or one of its ends.
 #[derive(Drop)]
 pub enum Field {
     Id(Ident),

@@ -111,7 +111,8 @@ same_bare t u ft fu same = ap (λ v. record { rules = rules_in v (every bare_rul
 
 -- ---- back
 
-read_back : (text : List ℕ) (ts : List Token) (u : List RuleTree) → Fits u → first_over (sizes u) ≡ None → tokens_of text ≡ Ok ts → plains (classes ts) ≡ plains (spell u)
+read_back : (text : List ℕ) (ts : List Token) (u : List RuleTree) → Fits u → first_over (sizes u) ≡ None → tokens_of text ≡ Ok ts
+    → plains (classes ts) ≡ plains (spell u)
     → ReadsBack text (grammar_of u)
 read_back text ts u fits within falls same = go (verdict trees 0 (start_state trees) (classes ts)) (run_spelled (classes ts) 0 (start_state trees) tt)
     (same_fault_plain trees (classes ts) (spell u) same ∙ ap fault (tree_taken u fits))

@@ -4,12 +4,14 @@ use Rattle.ipg_ast.specs.declared.grammar.Ident.{Ident}
 use Rattle.ipg_ast.specs.declared.grammar.Expr.{Expr}
 use Rattle.ipg_ast.specs.declared.grammar.Expr.TheOpen.{Expr-F}
 use Rattle.ipg_ast.specs.declared.grammar.Expr.TheFolds.{fold-roll-Expr}
-use Rattle.ipg_ast.specs.declared.grammar.Expr.TheVariants.{rolls-Num, rolls-Eoi, rolls-Id, rolls-Part, rolls-Item, rolls-Group, rolls-Neg, rolls-Not, rolls-Two, rolls-Both, rolls-Either, rolls-Cond}
+use Rattle.ipg_ast.specs.declared.grammar.Expr.TheVariants.{rolls-Num, rolls-Eoi, rolls-Id, rolls-Part, rolls-Item, rolls-Group, rolls-Neg, rolls-Not}
+use Rattle.ipg_ast.specs.declared.grammar.Expr.TheVariants.{rolls-Two, rolls-Both, rolls-Either, rolls-Cond}
 use Rattle.ipg_ast.specs.declared.grammar.Alt.{Alt, out-roll-Alt, roll-Alt}
 use Rattle.ipg_ast.specs.declared.grammar.Rule.{Rule, out-roll-Rule, roll-Rule}
 use Rattle.ipg_ast.specs.declared.grammar.Term.{Term}
 use Rattle.ipg_syntax.specs.Classes.{Infix, either, both, op}
-use Rattle.ipg_canon.specs.Bare.{bare_ident, bare_step, bare_expr, every, bare_place, bare_slot, bare_case, bare_term, bare_local_alt, bare_local, bare_alt, bare_rule}
+use Rattle.ipg_canon.specs.Bare.{bare_ident, bare_step, bare_expr, every, bare_place, bare_slot, bare_case, bare_term, bare_local_alt, bare_local}
+use Rattle.ipg_canon.specs.Bare.{bare_alt, bare_rule}
 use Rattle.ipg_syntax.specs.Making.{made, last, infix_expr, alt_of, rule_of}
 use Rattle.ipg_syntax.proofs.Maps.{Maps}
 
@@ -23,13 +25,15 @@ every_last f [] x y same = ap (λ z. z ∷ []) same
 every_last f (z ∷ xs) x y same = ap (λ zs. f z ∷ zs) (every_last f xs x y same)
 
 pub bare_alt_of : (ts : List Term) (ls : List Rule) → bare_alt (alt_of ts ls) ≡ alt_of (every bare_term ts) (every bare_local ls)
-bare_alt_of ts ls = ap (λ a. roll-Alt (record { terms = every bare_term a.terms; locals = every bare_local a.locals })) (out-roll-Alt (record { terms = ts; locals = ls }))
+bare_alt_of ts ls = ap (λ a. roll-Alt (record { terms = every bare_term a.terms; locals = every bare_local a.locals }))
+    (out-roll-Alt (record { terms = ts; locals = ls }))
 
 pub bare_local_alt_of : (ts : List Term) → bare_local_alt (alt_of ts []) ≡ alt_of (every bare_term ts) []
 bare_local_alt_of ts = ap (λ a. roll-Alt (record { terms = every bare_term a.terms; locals = a.locals })) (out-roll-Alt (record { terms = ts; locals = [] }))
 
 pub bare_local_of : (n : Ident) (alts : List Alt) → bare_local (rule_of n alts) ≡ rule_of (bare_ident n) (every bare_local_alt alts)
-bare_local_of n alts = ap (λ r. roll-Rule (record { name = bare_ident r.name; alts = every bare_local_alt r.alts })) (out-roll-Rule (record { name = n; alts = alts }))
+bare_local_of n alts = ap (λ r. roll-Rule (record { name = bare_ident r.name; alts = every bare_local_alt r.alts }))
+    (out-roll-Rule (record { name = n; alts = alts }))
 
 pub bare_rule_of : (n : Ident) (alts : List Alt) → bare_rule (rule_of n alts) ≡ rule_of (bare_ident n) (every bare_alt alts)
 bare_rule_of n alts = ap (λ r. roll-Rule (record { name = bare_ident r.name; alts = every bare_alt r.alts })) (out-roll-Rule (record { name = n; alts = alts }))

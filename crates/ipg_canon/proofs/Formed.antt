@@ -1,15 +1,21 @@
 -- What a text reads as within the limits is well formed.
-use Rattle.std.proofs.Common.{◌≡◌, ℕ, ◌+◌, ◌≤◌, ◌<◌, Bool, true, false, cond, ◌&&◌, nat_le, List, [], ◌∷◌, ◌++◌, length, Some, None, refl, ap, ◌∙◌, sym, subst, arith, lit≤, le_refl}
+use Rattle.std.proofs.Common.{◌≡◌, ℕ, ◌+◌, ◌≤◌, ◌<◌, Bool, true, false, cond, ◌&&◌, nat_le, List, [], ◌∷◌, ◌++◌, length, Some, None, refl, ap, ◌∙◌}
+use Rattle.std.proofs.Common.{sym, subst, arith, lit≤, le_refl}
 use Rattle.std.proofs.lemmas.Bool.{le-leb, ltb-false, and_from}
 use Rattle.std.proofs.lemmas.List.Sums.{sum_by_from}
 use Rattle.std.proofs.lemmas.Option.{none-some}
 use Rattle.std.specs.List.{AllByRecursion}
 use Rattle.ipg_ast.specs.declared.grammar.Alt.{out-roll-Alt}
 use Rattle.ipg_ast.specs.declared.grammar.Rule.{out-Rule, out-roll-Rule}
-use Rattle.ipg_ast.specs.Shape.{Form, stands, IsFilled, IsFormedExpr, IsFormedPlace, IsFormedCase, IsFormedTerm, IsFormedTerms, IsFormedLocalAlt, IsFormedLocal, IsFormedAlt, IsFormedRule, IsFormed, rules_in, count_rules}
+use Rattle.ipg_ast.specs.Shape.{Form, stands, IsFilled, IsFormedExpr, IsFormedPlace, IsFormedCase, IsFormedTerm, IsFormedTerms, IsFormedLocalAlt}
+use Rattle.ipg_ast.specs.Shape.{IsFormedLocal, IsFormedAlt, IsFormedRule, IsFormed, rules_in, count_rules}
 use Rattle.ipg_syntax.specs.Classes.{level}
-use Rattle.ipg_syntax.specs.Written.{ExprTree, num, eoi, own, part, item, group, neg, isnt, two, choose, PlaceTree, anywhere, long, ends, CaseTree, TermTree, slot_term, set_term, test_term, repeat_term, many_term, pick_term, LocalTree, AltTree, RuleTree, spell_expr, spell_case, spell_cases, spell_term, spell_terms, spell_local, spell_alt, spell_rule, Stands, prefix_level, Each, SomeEach, PlaceFits, CaseFits, TermFits, TermsFit, LocalFits, AltFits, RuleFits, Fits}
-use Rattle.ipg_syntax.specs.Limits.{Size, past, depth, is_over, first_over, expr_size, place_sizes, slot_sizes, case_sizes, cases_sizes, term_sizes, terms_sizes, local_alts_sizes, locals_sizes, alt_sizes, alts_sizes, locals_in, rules_sizes, sizes}
+use Rattle.ipg_syntax.specs.Written.{ExprTree, num, eoi, own, part, item, group, neg, isnt, two, choose, PlaceTree, anywhere, long, ends, CaseTree}
+use Rattle.ipg_syntax.specs.Written.{TermTree, slot_term, set_term, test_term, repeat_term, many_term, pick_term, LocalTree, AltTree, RuleTree}
+use Rattle.ipg_syntax.specs.Written.{spell_expr, spell_case, spell_cases, spell_term, spell_terms, spell_local, spell_alt, spell_rule, Stands}
+use Rattle.ipg_syntax.specs.Written.{prefix_level, Each, SomeEach, PlaceFits, CaseFits, TermFits, TermsFit, LocalFits, AltFits, RuleFits, Fits}
+use Rattle.ipg_syntax.specs.Limits.{Size, past, depth, is_over, first_over, expr_size, place_sizes, slot_sizes, case_sizes, cases_sizes, term_sizes}
+use Rattle.ipg_syntax.specs.Limits.{terms_sizes, local_alts_sizes, locals_sizes, alt_sizes, alts_sizes, locals_in, rules_sizes, sizes}
 use Rattle.ipg_canon.specs.Bare.{every}
 use Rattle.ipg_syntax.specs.Making.{made, expr_by, place_by, term_by, grammar_of}
 use Rattle.ipg_canon.specs.Laws.{ReadsFormed}
@@ -23,7 +29,8 @@ none_within : (zs : List Size) → first_over zs ≡ None → Within zs
 none_within [] none = tt
 none_within (z ∷ zs) none = go (is_over z) refl none (none_within zs)
   where
-    go : (b : Bool) → is_over z ≡ b → cond b (Some (record { which = z.which; at = z.at })) (first_over zs) ≡ None → (first_over zs ≡ None → Within zs) → Within (z ∷ zs)
+    go : (b : Bool) → is_over z ≡ b → cond b (Some (record { which = z.which; at = z.at })) (first_over zs) ≡ None
+        → (first_over zs ≡ None → Within zs) → Within (z ∷ zs)
     go true is over rest = absurd (none-some (record { which = z.which; at = z.at }) (sym over))
     go false is over rest = (is, rest over)
 
@@ -96,8 +103,11 @@ formed_case c at fits within =
 formed_cases : (cs : List CaseTree) (at : ℕ) → Each CaseFits cs → Within (cases_sizes at cs) → AllByRecursion IsFormedCase (every made_case cs)
 formed_cases [] at fits within = tt
 formed_cases (c ∷ cs) at fits within =
-    let rest : List Size = cases_sizes (past at (spell_case c)) cs in
-    (formed_case c at fits.0 (within_left (case_sizes at c) rest within), formed_cases cs (past at (spell_case c)) fits.1 (within_right (case_sizes at c) rest within))
+    let rest : List Size = cases_sizes (past at (spell_case c)) cs in (
+      formed_case c at fits.0 (within_left (case_sizes at c) rest within),
+      formed_cases cs (past at (spell_case c)) fits.1
+          (within_right (case_sizes at c) rest within),
+    )
 
 -- one at least
 filled : {X Y : Type 0} (f : X → Y) (P : X → Type 0) (xs : List X) → SomeEach P xs → 0 < length (every f xs)
@@ -165,9 +175,11 @@ formed_local_alts n at (ts ∷ las) few fits within =
 
 formed_local : (l : LocalTree) (at : ℕ) → LocalFits l → Within (local_alts_sizes 0 (at + 1) l.alts) → IsFormedLocal (made_local l)
 formed_local l at fits within =
-    let shown : every made_local_alt l.alts ≡ (out-Rule (made_local l)).alts = ap (λ r. r.alts) (sym (out-roll-Rule (record { name = l.head; alts = every made_local_alt l.alts }))) in
+    let shown : every made_local_alt l.alts ≡ (out-Rule (made_local l)).alts =
+    ap (λ r. r.alts) (sym (out-roll-Rule (record { name = l.head; alts = every made_local_alt l.alts }))) in
     let all = formed_local_alts 0 (at + 1) l.alts (lit≤ tt) (all_each TermsFit l.alts fits) within in
-    let count : IsFilled 64 (every made_local_alt l.alts) = (filled made_local_alt TermsFit l.alts fits, omega (arith, all.1, length_every made_local_alt l.alts)) in
+    let count : IsFilled 64 (every made_local_alt l.alts) =
+    (filled made_local_alt TermsFit l.alts fits, omega (arith, all.1, length_every made_local_alt l.alts)) in
     record { count = subst (IsFilled 64) shown count; each = subst (AllByRecursion IsFormedLocalAlt) shown all.0 }
 
 formed_locals : (k at : ℕ) (ls : List LocalTree) → k ≤ 1024 → Each LocalFits ls → Within (locals_sizes k at ls)
@@ -214,8 +226,10 @@ formed_rules k at (r ∷ rs) few fits within =
     let rest : List Size = rules_sizes (k + 1 + locals_in r.alts) next rs in
     let counted : count_rules (every made_rule (r ∷ rs)) ≡ 0 + (locals_in r.alts + 1) + count_rules (every made_rule rs) =
     sum_by_from rules_in (0 + rules_in (made_rule r)) (every made_rule rs) ∙ ap (λ n. 0 + n + count_rules (every made_rule rs)) (rule_counted r) in
-    let shown : every made_alt r.alts ≡ (out-Rule (made_rule r)).alts = ap (λ x. x.alts) (sym (out-roll-Rule (record { name = r.head; alts = every made_alt r.alts }))) in
-    let alts = formed_alts (k + 1) 0 (at + 1) r.alts (ltb-false 1024 (k + 1) within.0) (lit≤ tt) (all_each AltFits r.alts fits.0) (within_left first rest within.1) in
+    let shown : every made_alt r.alts ≡ (out-Rule (made_rule r)).alts =
+    ap (λ x. x.alts) (sym (out-roll-Rule (record { name = r.head; alts = every made_alt r.alts }))) in
+    let alts = formed_alts (k + 1) 0 (at + 1) r.alts (ltb-false 1024 (k + 1) within.0) (lit≤ tt) (all_each AltFits r.alts fits.0)
+    (within_left first rest within.1) in
     let count : IsFilled 64 (every made_alt r.alts) = (filled made_alt AltFits r.alts fits.0, omega (arith, alts.1, length_every made_alt r.alts)) in
     let others = formed_rules (k + 1 + locals_in r.alts) next rs alts.2 fits.1 (within_right first rest within.1) in
     ((record { count = subst (IsFilled 64) shown count; each = subst (AllByRecursion IsFormedAlt) shown alts.0 }, others.0), omega (arith, others.1, counted))
@@ -223,7 +237,8 @@ formed_rules k at (r ∷ rs) few fits within =
 formed_tree : (rs : List RuleTree) → Fits rs → first_over (sizes rs) ≡ None → IsFormed (grammar_of rs)
 formed_tree rs fits none =
     let all = formed_rules 0 0 rs (lit≤ tt) (all_each RuleFits rs fits) (none_within (sizes rs) none) in
-    let formed : IsFormed (record { rules = every made_rule rs }) = record { some = filled made_rule RuleFits rs fits; count = omega (arith, all.1); each = all.0 } in
+    let formed : IsFormed (record { rules = every made_rule rs }) =
+    record { some = filled made_rule RuleFits rs fits; count = omega (arith, all.1); each = all.0 } in
     subst IsFormed (sym (grammar_made rs)) formed
 
 pub reads_formed : ReadsFormed

@@ -1,5 +1,6 @@
 -- The trees of well formed grammars fit, and pass no limit.
-use Rattle.std.proofs.Common.{◌≡◌, ℕ, suc, ◌+◌, ◌≤◌, ◌<◌, max, true, false, cond, ◌&&◌, nat_le, List, [], ◌∷◌, ◌++◌, length, Some, None, refl, ap, ap₂, ◌∙◌, sym, subst, arith, sum_by}
+use Rattle.std.proofs.Common.{◌≡◌, ℕ, suc, ◌+◌, ◌≤◌, ◌<◌, max, true, false, cond, ◌&&◌, nat_le, List, [], ◌∷◌, ◌++◌, length, Some, None, refl, ap}
+use Rattle.std.proofs.Common.{ap₂, ◌∙◌, sym, subst, arith, sum_by}
 use Rattle.std.proofs.lemmas.Bool.{leb-true, le-leb, le-ltb, and_parts}
 use Rattle.std.specs.List.{AllByRecursion}
 use Rattle.std.proofs.lemmas.List.Sums.{sum_by_from}
@@ -8,14 +9,21 @@ use Rattle.ipg_num.specs.declared.op.Op2.TheVariants.{Add, Sub, Mul, Div, Mod, S
 use Rattle.ipg_ast.specs.declared.grammar.Expr.{Expr}
 use Rattle.ipg_ast.specs.declared.grammar.Expr.TheOpen.{Expr-F}
 use Rattle.ipg_ast.specs.declared.grammar.Expr.TheFolds.{fold-roll-Expr}
-use Rattle.ipg_ast.specs.declared.grammar.Expr.TheVariants.{rolls-Num, rolls-Eoi, rolls-Id, rolls-Part, rolls-Item, rolls-Group, rolls-Neg, rolls-Not, rolls-Two, rolls-Both, rolls-Either, rolls-Cond}
+use Rattle.ipg_ast.specs.declared.grammar.Expr.TheVariants.{rolls-Num, rolls-Eoi, rolls-Id, rolls-Part, rolls-Item, rolls-Group, rolls-Neg, rolls-Not}
+use Rattle.ipg_ast.specs.declared.grammar.Expr.TheVariants.{rolls-Two, rolls-Both, rolls-Either, rolls-Cond}
 use Rattle.ipg_ast.specs.declared.grammar.Alt.{out-roll-Alt}
 use Rattle.ipg_ast.specs.declared.grammar.Rule.{out-Rule, out-roll-Rule}
-use Rattle.ipg_ast.specs.Shape.{Form, alone, stands, prefixed, infixed, form_step, form_of, level_of, IsFilled, IsFormedExpr, IsFormedPlace, IsFormedSlot, IsFormedCase, IsFormedTerm, IsFormedTerms, IsFormedLocalAlt, IsFormedLocal, IsFormedAlt, IsFormedRule, IsFormed, rules_in, count_rules}
+use Rattle.ipg_ast.specs.Shape.{Form, alone, stands, prefixed, infixed, form_step, form_of, level_of, IsFilled, IsFormedExpr, IsFormedPlace}
+use Rattle.ipg_ast.specs.Shape.{IsFormedSlot, IsFormedCase, IsFormedTerm, IsFormedTerms, IsFormedLocalAlt, IsFormedLocal, IsFormedAlt, IsFormedRule}
+use Rattle.ipg_ast.specs.Shape.{IsFormed, rules_in, count_rules}
 use Rattle.ipg_ast.specs.Shape
 use Rattle.ipg_syntax.specs.Classes.{Infix, either, both, op, level, op_level}
-use Rattle.ipg_syntax.specs.Written.{ExprTree, num, eoi, own, part, item, group, neg, isnt, two, choose, PlaceTree, anywhere, long, ends, CaseTree, TermTree, slot_term, set_term, test_term, repeat_term, many_term, pick_term, LocalTree, AltTree, RuleTree, spell_expr, spell_case, spell_cases, spell_term, spell_terms, spell_local, spell_alt, spell_rule, Stands, prefix_level, Each, SomeEach, PlaceFits, CaseFits, TermFits, TermsFit, LocalFits, AltFits, RuleFits, Fits}
-use Rattle.ipg_syntax.specs.Limits.{Size, past, depth, is_over, first_over, expr_size, place_sizes, slot_sizes, case_sizes, cases_sizes, term_sizes, terms_sizes, local_alts_sizes, locals_sizes, alt_sizes, alts_sizes, locals_in, rules_sizes, sizes}
+use Rattle.ipg_syntax.specs.Written.{ExprTree, num, eoi, own, part, item, group, neg, isnt, two, choose, PlaceTree, anywhere, long, ends, CaseTree}
+use Rattle.ipg_syntax.specs.Written.{TermTree, slot_term, set_term, test_term, repeat_term, many_term, pick_term, LocalTree, AltTree, RuleTree}
+use Rattle.ipg_syntax.specs.Written.{spell_expr, spell_case, spell_cases, spell_term, spell_terms, spell_local, spell_alt, spell_rule, Stands}
+use Rattle.ipg_syntax.specs.Written.{prefix_level, Each, SomeEach, PlaceFits, CaseFits, TermFits, TermsFit, LocalFits, AltFits, RuleFits, Fits}
+use Rattle.ipg_syntax.specs.Limits.{Size, past, depth, is_over, first_over, expr_size, place_sizes, slot_sizes, case_sizes, cases_sizes, term_sizes}
+use Rattle.ipg_syntax.specs.Limits.{terms_sizes, local_alts_sizes, locals_sizes, alt_sizes, alts_sizes, locals_in, rules_sizes, sizes}
 use Rattle.ipg_canon.specs.Bare.{every}
 use Rattle.ipg_syntax.specs.Making.{made, infix_expr, expr_by, place_by, term_by, grammar_of}
 use Rattle.ipg_canon.proofs.Images.{made_case, made_local_alt, made_local, made_alt, made_rule, cases_made, grammar_made}
@@ -68,9 +76,11 @@ form_made eoi = ap form_of (sym rolls-Eoi) ∙ fold-roll-Expr Form form_step Exp
 form_made (own i) = ap form_of (sym (rolls-Id i)) ∙ fold-roll-Expr Form form_step (Expr-F.Id i)
 form_made (part i f) = ap form_of (sym (rolls-Part i f)) ∙ fold-roll-Expr Form form_step (Expr-F.Part i f)
 form_made (item i e f) =
-    ap form_of (sym (rolls-Item i (expr_by made e) f)) ∙ fold-roll-Expr Form form_step (Expr-F.Item i (expr_by made e) f) ∙ ap (λ x. alone (x.depth + 1) x.fits) (form_made e)
+    ap form_of (sym (rolls-Item i (expr_by made e) f)) ∙ fold-roll-Expr Form form_step (Expr-F.Item i (expr_by made e) f)
+    ∙ ap (λ x. alone (x.depth + 1) x.fits) (form_made e)
 form_made (group e) =
-    ap form_of (sym (rolls-Group (expr_by made e))) ∙ fold-roll-Expr Form form_step (Expr-F.Group (expr_by made e)) ∙ ap (λ x. alone (x.depth + 1) x.fits) (form_made e)
+    ap form_of (sym (rolls-Group (expr_by made e))) ∙ fold-roll-Expr Form form_step (Expr-F.Group (expr_by made e))
+    ∙ ap (λ x. alone (x.depth + 1) x.fits) (form_made e)
 form_made (neg e) = ap form_of (sym (rolls-Neg (expr_by made e))) ∙ fold-roll-Expr Form form_step (Expr-F.Neg (expr_by made e)) ∙ ap prefixed (form_made e)
 form_made (isnt e) = ap form_of (sym (rolls-Not (expr_by made e))) ∙ fold-roll-Expr Form form_step (Expr-F.Not (expr_by made e)) ∙ ap prefixed (form_made e)
 form_made (two i a b) = infix_form i (expr_by made a) (expr_by made b) ∙ ap₂ (infixed (level i)) (form_made a) (form_made b)
@@ -79,8 +89,16 @@ form_made (choose c at a b) =
     let x : Expr = expr_by made a in
     let y : Expr = expr_by made b in
     ap form_of (sym (rolls-Cond w x y)) ∙ fold-roll-Expr Form form_step (Expr-F.Cond w x y)
-    ∙ ap (λ f. record { level = 0; depth = max f.depth (max (form_of x).depth (form_of y).depth) + 1; fits = stands 1 f && ((form_of x).fits && (form_of y).fits) }) (form_made c)
-    ∙ ap₂ (λ f g. record { level = 0; depth = max (form_tree c).depth (max f.depth g.depth) + 1; fits = stands 1 (form_tree c) && (f.fits && g.fits) }) (form_made a) (form_made b)
+    ∙ ap (λ f. record {
+      level = 0;
+      depth = max f.depth (max (form_of x).depth (form_of y).depth) + 1;
+      fits = stands 1 f && ((form_of x).fits && (form_of y).fits);
+    }) (form_made c)
+    ∙ ap₂ (λ f g. record {
+      level = 0;
+      depth = max (form_tree c).depth (max f.depth g.depth) + 1;
+      fits = stands 1 (form_tree c) && (f.fits && g.fits);
+    }) (form_made a) (form_made b)
 
 pub depth_form : (e : ExprTree) → (form_tree e).depth ≡ depth e
 depth_form (num z) = refl
@@ -118,8 +136,12 @@ form_stands (two i a b) l due fits =
 form_stands (choose c at a b) l due fits =
     let sides = and_parts (stands 1 (form_tree c)) ((form_tree a).fits && (form_tree b).fits) fits in
     let first = and_parts (nat_le 1 (form_tree c).level) (form_tree c).fits sides.0 in
-    let others = and_parts (form_tree a).fits (form_tree b).fits sides.1 in
-    (leb-true l 0 due, form_stands c 1 first.0 first.1, form_stands a 0 (any_level (form_tree a).level) others.0, form_stands b 0 (any_level (form_tree b).level) others.1)
+    let others = and_parts (form_tree a).fits (form_tree b).fits sides.1 in (
+      leb-true l 0 due,
+      form_stands c 1 first.0 first.1,
+      form_stands a 0 (any_level (form_tree a).level) others.0,
+      form_stands b 0 (any_level (form_tree b).level) others.1,
+    )
 
 -- ---- sizes within their limits
 
@@ -217,12 +239,19 @@ local_alts_formed n at (ts ∷ las) formed few =
     subst IsFormedTerms (ap (λ a. a.terms) (out-roll-Alt (record { terms = every (term_by made) ts; locals = [] }))) formed.0.terms in
     let first = all_terms_formed (at + 1) ts terms in
     let fewer : n + 1 + length las ≤ 64 = omega (arith, few) in
-    let rest = local_alts_formed (n + 1) next las formed.1 fewer in
-    ((first.0, rest.0), (le-ltb 64 (n + 1) (omega (arith, fewer)), within_append (terms_sizes 0 (at + 1) ts) (local_alts_sizes (n + 1) next las) first.1 rest.1))
+    let rest = local_alts_formed (n + 1) next las formed.1 fewer in (
+      (first.0, rest.0),
+      (
+        le-ltb 64 (n + 1) (omega (arith, fewer)),
+        within_append (terms_sizes 0 (at + 1) ts) (local_alts_sizes (n + 1) next las)
+            first.1 rest.1,
+      ),
+    )
 
 local_formed : (l : LocalTree) (at : ℕ) → IsFormedLocal (made_local l) → LocalFits l × Within (local_alts_sizes 0 (at + 1) l.alts)
 local_formed l at formed =
-    let shown : (out-Rule (made_local l)).alts ≡ every made_local_alt l.alts = ap (λ r. r.alts) (out-roll-Rule (record { name = l.head; alts = every made_local_alt l.alts })) in
+    let shown : (out-Rule (made_local l)).alts ≡ every made_local_alt l.alts =
+    ap (λ r. r.alts) (out-roll-Rule (record { name = l.head; alts = every made_local_alt l.alts })) in
     let count : IsFilled 64 (every made_local_alt l.alts) = subst (IsFilled 64) shown formed.count in
     let few : 0 + length l.alts ≤ 64 = omega (arith, count.1, length_every made_local_alt l.alts) in
     let all = local_alts_formed 0 (at + 1) l.alts (subst (AllByRecursion IsFormedLocalAlt) shown formed.each) few in
@@ -235,8 +264,14 @@ locals_formed k at (l ∷ ls) formed few =
     let next : ℕ = past at (spell_local l) in
     let first = local_formed l at formed.0 in
     let fewer : k + 1 + length ls ≤ 1024 = omega (arith, few) in
-    let rest = locals_formed (k + 1) next ls formed.1 fewer in
-    ((first.0, rest.0), (le-ltb 1024 (k + 1) (omega (arith, fewer)), within_append (local_alts_sizes 0 (at + 1) l.alts) (locals_sizes (k + 1) next ls) first.1 rest.1))
+    let rest = locals_formed (k + 1) next ls formed.1 fewer in (
+      (first.0, rest.0),
+      (
+        le-ltb 1024 (k + 1) (omega (arith, fewer)),
+        within_append (local_alts_sizes 0 (at + 1) l.alts) (locals_sizes (k + 1) next ls)
+            first.1 rest.1,
+      ),
+    )
 
 alt_formed : (k at : ℕ) (a : AltTree) → IsFormedAlt (made_alt a) → k + length a.locals ≤ 1024 → AltFits a × Within (alt_sizes k at a)
 alt_formed k at a formed few =
@@ -254,8 +289,13 @@ alts_formed k n at (a ∷ alts) formed few short =
     let first = alt_formed k (at + 1) a formed.0 (omega (arith, short)) in
     let fewer : n + 1 + length alts ≤ 64 = omega (arith, few) in
     let shorter : k + length a.locals + locals_in alts ≤ 1024 = omega (arith, short) in
-    let rest = alts_formed (k + length a.locals) (n + 1) next alts formed.1 fewer shorter in
-    ((first.0, rest.0), (le-ltb 64 (n + 1) (omega (arith, fewer)), within_append (alt_sizes k (at + 1) a) (alts_sizes (k + length a.locals) (n + 1) next alts) first.1 rest.1))
+    let rest = alts_formed (k + length a.locals) (n + 1) next alts formed.1 fewer shorter in (
+      (first.0, rest.0),
+      (
+        le-ltb 64 (n + 1) (omega (arith, fewer)),
+        within_append (alt_sizes k (at + 1) a) (alts_sizes (k + length a.locals) (n + 1) next alts) first.1 rest.1,
+      ),
+    )
 
 -- ---- rules counted
 
@@ -264,13 +304,15 @@ locals_counted [] = refl
 locals_counted (a ∷ alts) =
     sum_by_from Shape.locals_in (0 + Shape.locals_in (made_alt a)) (every made_alt alts)
     ∙ ap₂ (λ m n. 0 + m + n)
-    (ap (λ x. length x.locals) (out-roll-Alt (record { terms = every (term_by made) a.terms; locals = every made_local a.locals })) ∙ length_every made_local a.locals)
+    (ap (λ x. length x.locals) (out-roll-Alt (record { terms = every (term_by made) a.terms; locals = every made_local a.locals }))
+    ∙ length_every made_local a.locals)
     (locals_counted alts)
     ∙ (let none : 0 + length a.locals + locals_in alts ≡ length a.locals + locals_in alts = omega arith in none)
 
 pub rule_counted : (r : RuleTree) → rules_in (made_rule r) ≡ locals_in r.alts + 1
 rule_counted r =
-    ap (λ x. sum_by Shape.locals_in x.alts + 1) (out-roll-Rule (record { name = r.head; alts = every made_alt r.alts })) ∙ ap (λ n. n + 1) (locals_counted r.alts)
+    ap (λ x. sum_by Shape.locals_in x.alts + 1) (out-roll-Rule (record { name = r.head; alts = every made_alt r.alts }))
+    ∙ ap (λ n. n + 1) (locals_counted r.alts)
 
 rules_formed : (k at : ℕ) (rs : List RuleTree) → AllByRecursion IsFormedRule (every made_rule rs) → k + count_rules (every made_rule rs) ≤ 1024
     → Each RuleFits rs × Within (rules_sizes k at rs)
@@ -279,13 +321,18 @@ rules_formed k at (r ∷ rs) formed few =
     let next : ℕ = past at (spell_rule r) in
     let counted : count_rules (every made_rule (r ∷ rs)) ≡ 0 + (locals_in r.alts + 1) + count_rules (every made_rule rs) =
     sum_by_from rules_in (0 + rules_in (made_rule r)) (every made_rule rs) ∙ ap (λ n. 0 + n + count_rules (every made_rule rs)) (rule_counted r) in
-    let shown : (out-Rule (made_rule r)).alts ≡ every made_alt r.alts = ap (λ x. x.alts) (out-roll-Rule (record { name = r.head; alts = every made_alt r.alts })) in
+    let shown : (out-Rule (made_rule r)).alts ≡ every made_alt r.alts =
+    ap (λ x. x.alts) (out-roll-Rule (record { name = r.head; alts = every made_alt r.alts })) in
     let count : IsFilled 64 (every made_alt r.alts) = subst (IsFilled 64) shown formed.0.count in
     let alts = alts_formed (k + 1) 0 (at + 1) r.alts (subst (AllByRecursion IsFormedAlt) shown formed.0.each)
     (omega (arith, count.1, length_every made_alt r.alts)) (omega (arith, few, counted)) in
     let rest = rules_formed (k + 1 + locals_in r.alts) next rs formed.1 (omega (arith, few, counted)) in (
       (some_from made_alt AltFits r.alts count.0 alts.0, rest.0),
-      (le-ltb 1024 (k + 1) (omega (arith, few, counted)), within_append (alts_sizes (k + 1) 0 (at + 1) r.alts) (rules_sizes (k + 1 + locals_in r.alts) next rs) alts.1 rest.1),
+      (
+        le-ltb 1024 (k + 1) (omega (arith, few, counted)),
+        within_append (alts_sizes (k + 1) 0 (at + 1) r.alts)
+            (rules_sizes (k + 1 + locals_in r.alts) next rs) alts.1 rest.1,
+      ),
     )
 
 -- a well formed grammar's tree fits, and passes no limit

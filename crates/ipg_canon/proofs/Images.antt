@@ -6,7 +6,8 @@ use Rattle.ipg_ast.specs.declared.grammar.Expr.TheOpen.{Expr-F}
 use Rattle.ipg_ast.specs.declared.grammar.Expr.TheOpen.Expr-F.{Num, Eoi, Id, Part, Item, Group, Neg, Not, Two, Both, Either, Cond}
 use Rattle.ipg_ast.specs.declared.grammar.Expr.TheFolds.{ind-Expr}
 use Rattle.ipg_ast.specs.declared.grammar.Expr.TheVariants as E
-use Rattle.ipg_ast.specs.declared.grammar.Expr.TheVariants.{rolls-Num, rolls-Eoi, rolls-Id, rolls-Part, rolls-Item, rolls-Group, rolls-Neg, rolls-Not, rolls-Two, rolls-Both, rolls-Either, rolls-Cond}
+use Rattle.ipg_ast.specs.declared.grammar.Expr.TheVariants.{rolls-Num, rolls-Eoi, rolls-Id, rolls-Part, rolls-Item, rolls-Group, rolls-Neg, rolls-Not}
+use Rattle.ipg_ast.specs.declared.grammar.Expr.TheVariants.{rolls-Two, rolls-Both, rolls-Either, rolls-Cond}
 use Rattle.ipg_ast.specs.declared.grammar.Place.{Place}
 use Rattle.ipg_ast.specs.declared.grammar.Place.TheVariants.{Open, Length, Ends}
 use Rattle.ipg_ast.specs.declared.grammar.Slot.{Slot}
@@ -18,9 +19,11 @@ use Rattle.ipg_ast.specs.declared.grammar.Rule.{Rule, out-Rule, roll-out-Rule}
 use Rattle.ipg_ast.specs.declared.grammar.Grammar.{Grammar}
 use Rattle.ipg_ast.specs.Shape.{IsFormedTerm, IsFormedTerms, IsFormedLocalAlt, IsFormedLocal, IsFormedAlt, IsFormedRule, IsFormed}
 use Rattle.ipg_syntax.specs.Classes.{either, both, op}
-use Rattle.ipg_syntax.specs.Written.{ExprTree, num, eoi, own, part, item, group, neg, isnt, two, choose, anywhere, long, ends, CaseTree, TermTree, slot_term, set_term, test_term, repeat_term, many_term, pick_term, LocalTree, AltTree, RuleTree}
+use Rattle.ipg_syntax.specs.Written.{ExprTree, num, eoi, own, part, item, group, neg, isnt, two, choose, anywhere, long, ends, CaseTree, TermTree}
+use Rattle.ipg_syntax.specs.Written.{slot_term, set_term, test_term, repeat_term, many_term, pick_term, LocalTree, AltTree, RuleTree}
 use Rattle.ipg_canon.specs.Bare.{every}
-use Rattle.ipg_syntax.specs.Making.{made, last, alt_of, rule_of, expr_by, place_by, slot_by, cases_by, term_by, terms_by, local_alts_by, locals_by, alts_by, rules_by, grammar_of}
+use Rattle.ipg_syntax.specs.Making.{made, last, alt_of, rule_of, expr_by, place_by, slot_by, cases_by, term_by, terms_by, local_alts_by, locals_by}
+use Rattle.ipg_syntax.specs.Making.{alts_by, rules_by, grammar_of}
 use Rattle.ipg_syntax.proofs.Selfs.{moved}
 
 pub record ExprOf (e : Expr) : Type 0 where

@@ -12,8 +12,14 @@ use Rattle.ipg_ast.specs.declared.token.TokenKind.TheVariants.{Name, Word, Numbe
 use Rattle.ipg_ast.specs.Spelling.{grammar_tokens}
 use Rattle.ipg_tokens.specs.Lexical.{is_same}
 use Rattle.ipg_tokens.specs.declared.token.Token.{Token}
-use Rattle.ipg_syntax.specs.Classes.{either, both, op, Tok, name, sign, bang, question, colon, dot, comma, equals, arrow, semicolon, left_paren, right_paren, left_bracket, right_bracket, left_brace, right_brace, for_word, to_word, do_word, switch_word, case_word, else_word, where_word, start_word, end_word, eoi_word, many_word, stray, slash, word_class, single_class, pair_class, kind_class, class_of, classes}
-use Rattle.ipg_syntax.specs.Written.{Toks, ExprTree, num, eoi, own, part, item, group, neg, isnt, two, choose, PlaceTree, anywhere, long, ends, SlotTree, CaseTree, TermTree, slot_term, set_term, test_term, repeat_term, many_term, pick_term, LocalTree, AltTree, RuleTree, field_tok, what_tok, spell_expr, spell_place, spell_slot, spell_case, spell_cases, spell_term, spell_terms, spell_local_alts, spell_local, spell_locals, spell_where, spell_alt, spell_alts, spell_rule, spell}
+use Rattle.ipg_syntax.specs.Classes.{either, both, op, Tok, name, sign, bang, question, colon, dot, comma, equals, arrow, semicolon, left_paren}
+use Rattle.ipg_syntax.specs.Classes.{right_paren, left_bracket, right_bracket, left_brace, right_brace, for_word, to_word, do_word, switch_word}
+use Rattle.ipg_syntax.specs.Classes.{case_word, else_word, where_word, start_word, end_word, eoi_word, many_word, stray, slash, word_class}
+use Rattle.ipg_syntax.specs.Classes.{single_class, pair_class, kind_class, class_of, classes}
+use Rattle.ipg_syntax.specs.Written.{Toks, ExprTree, num, eoi, own, part, item, group, neg, isnt, two, choose, PlaceTree, anywhere, long, ends}
+use Rattle.ipg_syntax.specs.Written.{SlotTree, CaseTree, TermTree, slot_term, set_term, test_term, repeat_term, many_term, pick_term, LocalTree}
+use Rattle.ipg_syntax.specs.Written.{AltTree, RuleTree, field_tok, what_tok, spell_expr, spell_place, spell_slot, spell_case, spell_cases, spell_term}
+use Rattle.ipg_syntax.specs.Written.{spell_terms, spell_local_alts, spell_local, spell_locals, spell_where, spell_alt, spell_alts, spell_rule, spell}
 use Rattle.ipg_canon.specs.Laws.{kinds, KeepsTokens}
 use Rattle.ipg_canon.proofs.Spelt.{kind_of, kinds_of, spell_kinds}
 
@@ -35,13 +41,269 @@ chosen k true x y met unmet = met refl
 chosen k false x y met unmet = unmet
 
 word_back : (w : List ℕ) (at : Span) → BackTo (Word w) (word_class w at)
-word_back w at = chosen (Word w) (is_same w (codes "for")) for_word (cond (is_same w (codes "to")) to_word (cond (is_same w (codes "do")) do_word (cond (is_same w (codes "switch")) (switch_word at) (cond (is_same w (codes "case")) case_word (cond (is_same w (codes "else")) else_word (cond (is_same w (codes "where")) where_word (cond (is_same w (codes "start")) start_word (cond (is_same w (codes "end")) end_word (cond (is_same w (codes "EOI")) eoi_word (cond (is_same w (codes "many")) (many_word at) stray)))))))))) (λ e. ap Word (same_bytes w (codes "for") e)) (chosen (Word w) (is_same w (codes "to")) to_word (cond (is_same w (codes "do")) do_word (cond (is_same w (codes "switch")) (switch_word at) (cond (is_same w (codes "case")) case_word (cond (is_same w (codes "else")) else_word (cond (is_same w (codes "where")) where_word (cond (is_same w (codes "start")) start_word (cond (is_same w (codes "end")) end_word (cond (is_same w (codes "EOI")) eoi_word (cond (is_same w (codes "many")) (many_word at) stray))))))))) (λ e. ap Word (same_bytes w (codes "to") e)) (chosen (Word w) (is_same w (codes "do")) do_word (cond (is_same w (codes "switch")) (switch_word at) (cond (is_same w (codes "case")) case_word (cond (is_same w (codes "else")) else_word (cond (is_same w (codes "where")) where_word (cond (is_same w (codes "start")) start_word (cond (is_same w (codes "end")) end_word (cond (is_same w (codes "EOI")) eoi_word (cond (is_same w (codes "many")) (many_word at) stray)))))))) (λ e. ap Word (same_bytes w (codes "do") e)) (chosen (Word w) (is_same w (codes "switch")) (switch_word at) (cond (is_same w (codes "case")) case_word (cond (is_same w (codes "else")) else_word (cond (is_same w (codes "where")) where_word (cond (is_same w (codes "start")) start_word (cond (is_same w (codes "end")) end_word (cond (is_same w (codes "EOI")) eoi_word (cond (is_same w (codes "many")) (many_word at) stray))))))) (λ e. ap Word (same_bytes w (codes "switch") e)) (chosen (Word w) (is_same w (codes "case")) case_word (cond (is_same w (codes "else")) else_word (cond (is_same w (codes "where")) where_word (cond (is_same w (codes "start")) start_word (cond (is_same w (codes "end")) end_word (cond (is_same w (codes "EOI")) eoi_word (cond (is_same w (codes "many")) (many_word at) stray)))))) (λ e. ap Word (same_bytes w (codes "case") e)) (chosen (Word w) (is_same w (codes "else")) else_word (cond (is_same w (codes "where")) where_word (cond (is_same w (codes "start")) start_word (cond (is_same w (codes "end")) end_word (cond (is_same w (codes "EOI")) eoi_word (cond (is_same w (codes "many")) (many_word at) stray))))) (λ e. ap Word (same_bytes w (codes "else") e)) (chosen (Word w) (is_same w (codes "where")) where_word (cond (is_same w (codes "start")) start_word (cond (is_same w (codes "end")) end_word (cond (is_same w (codes "EOI")) eoi_word (cond (is_same w (codes "many")) (many_word at) stray)))) (λ e. ap Word (same_bytes w (codes "where") e)) (chosen (Word w) (is_same w (codes "start")) start_word (cond (is_same w (codes "end")) end_word (cond (is_same w (codes "EOI")) eoi_word (cond (is_same w (codes "many")) (many_word at) stray))) (λ e. ap Word (same_bytes w (codes "start") e)) (chosen (Word w) (is_same w (codes "end")) end_word (cond (is_same w (codes "EOI")) eoi_word (cond (is_same w (codes "many")) (many_word at) stray)) (λ e. ap Word (same_bytes w (codes "end") e)) (chosen (Word w) (is_same w (codes "EOI")) eoi_word (cond (is_same w (codes "many")) (many_word at) stray) (λ e. ap Word (same_bytes w (codes "EOI") e)) (chosen (Word w) (is_same w (codes "many")) (many_word at) stray (λ e. ap Word (same_bytes w (codes "many") e)) tt))))))))))
+word_back w at = chosen (Word w) (is_same w (codes "for")) for_word
+    (cond (is_same w (codes "to")) to_word
+    (cond (is_same w (codes "do")) do_word
+    (cond (is_same w (codes "switch")) (switch_word at)
+    (cond (is_same w (codes "case")) case_word
+    (cond (is_same w (codes "else")) else_word
+    (cond (is_same w (codes "where")) where_word
+    (cond (is_same w (codes "start")) start_word
+    (cond (is_same w (codes "end")) end_word (cond (is_same w (codes "EOI")) eoi_word (cond (is_same w (codes "many")) (many_word at) stray))))))))))
+    (λ e. ap Word (same_bytes w (codes "for") e))
+    (chosen (Word w) (is_same w (codes "to")) to_word
+    (cond (is_same w (codes "do")) do_word
+    (cond (is_same w (codes "switch")) (switch_word at)
+    (cond (is_same w (codes "case")) case_word
+    (cond (is_same w (codes "else")) else_word
+    (cond (is_same w (codes "where")) where_word
+    (cond (is_same w (codes "start")) start_word
+    (cond (is_same w (codes "end")) end_word (cond (is_same w (codes "EOI")) eoi_word (cond (is_same w (codes "many")) (many_word at) stray)))))))))
+    (λ e. ap Word (same_bytes w (codes "to") e))
+    (chosen (Word w) (is_same w (codes "do")) do_word
+    (cond (is_same w (codes "switch")) (switch_word at)
+    (cond (is_same w (codes "case")) case_word
+    (cond (is_same w (codes "else")) else_word
+    (cond (is_same w (codes "where")) where_word
+    (cond (is_same w (codes "start")) start_word
+    (cond (is_same w (codes "end")) end_word (cond (is_same w (codes "EOI")) eoi_word (cond (is_same w (codes "many")) (many_word at) stray))))))))
+    (λ e. ap Word (same_bytes w (codes "do") e))
+    (chosen (Word w) (is_same w (codes "switch")) (switch_word at)
+    (cond (is_same w (codes "case")) case_word
+    (cond (is_same w (codes "else")) else_word
+    (cond (is_same w (codes "where")) where_word
+    (cond (is_same w (codes "start")) start_word
+    (cond (is_same w (codes "end")) end_word (cond (is_same w (codes "EOI")) eoi_word (cond (is_same w (codes "many")) (many_word at) stray)))))))
+    (λ e. ap Word (same_bytes w (codes "switch") e))
+    (chosen (Word w) (is_same w (codes "case")) case_word
+    (cond (is_same w (codes "else")) else_word
+    (cond (is_same w (codes "where")) where_word
+    (cond (is_same w (codes "start")) start_word
+    (cond (is_same w (codes "end")) end_word (cond (is_same w (codes "EOI")) eoi_word (cond (is_same w (codes "many")) (many_word at) stray))))))
+    (λ e. ap Word (same_bytes w (codes "case") e))
+    (chosen (Word w) (is_same w (codes "else")) else_word
+    (cond (is_same w (codes "where")) where_word
+    (cond (is_same w (codes "start")) start_word
+    (cond (is_same w (codes "end")) end_word (cond (is_same w (codes "EOI")) eoi_word (cond (is_same w (codes "many")) (many_word at) stray)))))
+    (λ e. ap Word (same_bytes w (codes "else") e))
+    (chosen (Word w) (is_same w (codes "where")) where_word
+    (cond (is_same w (codes "start")) start_word
+    (cond (is_same w (codes "end")) end_word (cond (is_same w (codes "EOI")) eoi_word (cond (is_same w (codes "many")) (many_word at) stray))))
+    (λ e. ap Word (same_bytes w (codes "where") e))
+    (chosen (Word w) (is_same w (codes "start")) start_word
+    (cond (is_same w (codes "end")) end_word (cond (is_same w (codes "EOI")) eoi_word (cond (is_same w (codes "many")) (many_word at) stray)))
+    (λ e. ap Word (same_bytes w (codes "start") e))
+    (chosen (Word w) (is_same w (codes "end")) end_word
+    (cond (is_same w (codes "EOI")) eoi_word (cond (is_same w (codes "many")) (many_word at) stray)) (λ e. ap Word (same_bytes w (codes "end") e))
+    (chosen (Word w) (is_same w (codes "EOI")) eoi_word (cond (is_same w (codes "many")) (many_word at) stray)
+    (λ e. ap Word (same_bytes w (codes "EOI") e))
+    (chosen (Word w) (is_same w (codes "many")) (many_word at) stray (λ e. ap Word (same_bytes w (codes "many") e)) tt))))))))))
 
 single_back : (b : ℕ) (at : Span) → BackTo (Symbol (b ∷ [])) (single_class b at)
-single_back b at = chosen (Symbol (b ∷ [])) (b == 37) (sign (op Mod)) (cond (b == 38) (sign (op BitAnd)) (cond (b == 40) left_paren (cond (b == 41) right_paren (cond (b == 42) (sign (op Mul)) (cond (b == 43) (sign (op Add)) (cond (b == 44) comma (cond (b == 45) (sign (op Sub)) (cond (b == 46) dot (cond (b == 47) (sign (op Div)) (cond (b == 58) colon (cond (b == 59) semicolon (cond (b == 60) (sign (op Lt)) (cond (b == 61) equals (cond (b == 62) (sign (op Gt)) (cond (b == 63) (question at) (cond (b == 33) bang (cond (b == 91) left_bracket (cond (b == 93) right_bracket (cond (b == 94) (sign (op BitXor)) (cond (b == 123) left_brace (cond (b == 124) (sign (op BitOr)) (cond (b == 125) right_brace stray)))))))))))))))))))))) (λ e. ap (λ x. Symbol (x ∷ [])) (sym (eqb-true b 37 e))) (chosen (Symbol (b ∷ [])) (b == 38) (sign (op BitAnd)) (cond (b == 40) left_paren (cond (b == 41) right_paren (cond (b == 42) (sign (op Mul)) (cond (b == 43) (sign (op Add)) (cond (b == 44) comma (cond (b == 45) (sign (op Sub)) (cond (b == 46) dot (cond (b == 47) (sign (op Div)) (cond (b == 58) colon (cond (b == 59) semicolon (cond (b == 60) (sign (op Lt)) (cond (b == 61) equals (cond (b == 62) (sign (op Gt)) (cond (b == 63) (question at) (cond (b == 33) bang (cond (b == 91) left_bracket (cond (b == 93) right_bracket (cond (b == 94) (sign (op BitXor)) (cond (b == 123) left_brace (cond (b == 124) (sign (op BitOr)) (cond (b == 125) right_brace stray))))))))))))))))))))) (λ e. ap (λ x. Symbol (x ∷ [])) (sym (eqb-true b 38 e))) (chosen (Symbol (b ∷ [])) (b == 40) left_paren (cond (b == 41) right_paren (cond (b == 42) (sign (op Mul)) (cond (b == 43) (sign (op Add)) (cond (b == 44) comma (cond (b == 45) (sign (op Sub)) (cond (b == 46) dot (cond (b == 47) (sign (op Div)) (cond (b == 58) colon (cond (b == 59) semicolon (cond (b == 60) (sign (op Lt)) (cond (b == 61) equals (cond (b == 62) (sign (op Gt)) (cond (b == 63) (question at) (cond (b == 33) bang (cond (b == 91) left_bracket (cond (b == 93) right_bracket (cond (b == 94) (sign (op BitXor)) (cond (b == 123) left_brace (cond (b == 124) (sign (op BitOr)) (cond (b == 125) right_brace stray)))))))))))))))))))) (λ e. ap (λ x. Symbol (x ∷ [])) (sym (eqb-true b 40 e))) (chosen (Symbol (b ∷ [])) (b == 41) right_paren (cond (b == 42) (sign (op Mul)) (cond (b == 43) (sign (op Add)) (cond (b == 44) comma (cond (b == 45) (sign (op Sub)) (cond (b == 46) dot (cond (b == 47) (sign (op Div)) (cond (b == 58) colon (cond (b == 59) semicolon (cond (b == 60) (sign (op Lt)) (cond (b == 61) equals (cond (b == 62) (sign (op Gt)) (cond (b == 63) (question at) (cond (b == 33) bang (cond (b == 91) left_bracket (cond (b == 93) right_bracket (cond (b == 94) (sign (op BitXor)) (cond (b == 123) left_brace (cond (b == 124) (sign (op BitOr)) (cond (b == 125) right_brace stray))))))))))))))))))) (λ e. ap (λ x. Symbol (x ∷ [])) (sym (eqb-true b 41 e))) (chosen (Symbol (b ∷ [])) (b == 42) (sign (op Mul)) (cond (b == 43) (sign (op Add)) (cond (b == 44) comma (cond (b == 45) (sign (op Sub)) (cond (b == 46) dot (cond (b == 47) (sign (op Div)) (cond (b == 58) colon (cond (b == 59) semicolon (cond (b == 60) (sign (op Lt)) (cond (b == 61) equals (cond (b == 62) (sign (op Gt)) (cond (b == 63) (question at) (cond (b == 33) bang (cond (b == 91) left_bracket (cond (b == 93) right_bracket (cond (b == 94) (sign (op BitXor)) (cond (b == 123) left_brace (cond (b == 124) (sign (op BitOr)) (cond (b == 125) right_brace stray)))))))))))))))))) (λ e. ap (λ x. Symbol (x ∷ [])) (sym (eqb-true b 42 e))) (chosen (Symbol (b ∷ [])) (b == 43) (sign (op Add)) (cond (b == 44) comma (cond (b == 45) (sign (op Sub)) (cond (b == 46) dot (cond (b == 47) (sign (op Div)) (cond (b == 58) colon (cond (b == 59) semicolon (cond (b == 60) (sign (op Lt)) (cond (b == 61) equals (cond (b == 62) (sign (op Gt)) (cond (b == 63) (question at) (cond (b == 33) bang (cond (b == 91) left_bracket (cond (b == 93) right_bracket (cond (b == 94) (sign (op BitXor)) (cond (b == 123) left_brace (cond (b == 124) (sign (op BitOr)) (cond (b == 125) right_brace stray))))))))))))))))) (λ e. ap (λ x. Symbol (x ∷ [])) (sym (eqb-true b 43 e))) (chosen (Symbol (b ∷ [])) (b == 44) comma (cond (b == 45) (sign (op Sub)) (cond (b == 46) dot (cond (b == 47) (sign (op Div)) (cond (b == 58) colon (cond (b == 59) semicolon (cond (b == 60) (sign (op Lt)) (cond (b == 61) equals (cond (b == 62) (sign (op Gt)) (cond (b == 63) (question at) (cond (b == 33) bang (cond (b == 91) left_bracket (cond (b == 93) right_bracket (cond (b == 94) (sign (op BitXor)) (cond (b == 123) left_brace (cond (b == 124) (sign (op BitOr)) (cond (b == 125) right_brace stray)))))))))))))))) (λ e. ap (λ x. Symbol (x ∷ [])) (sym (eqb-true b 44 e))) (chosen (Symbol (b ∷ [])) (b == 45) (sign (op Sub)) (cond (b == 46) dot (cond (b == 47) (sign (op Div)) (cond (b == 58) colon (cond (b == 59) semicolon (cond (b == 60) (sign (op Lt)) (cond (b == 61) equals (cond (b == 62) (sign (op Gt)) (cond (b == 63) (question at) (cond (b == 33) bang (cond (b == 91) left_bracket (cond (b == 93) right_bracket (cond (b == 94) (sign (op BitXor)) (cond (b == 123) left_brace (cond (b == 124) (sign (op BitOr)) (cond (b == 125) right_brace stray))))))))))))))) (λ e. ap (λ x. Symbol (x ∷ [])) (sym (eqb-true b 45 e))) (chosen (Symbol (b ∷ [])) (b == 46) dot (cond (b == 47) (sign (op Div)) (cond (b == 58) colon (cond (b == 59) semicolon (cond (b == 60) (sign (op Lt)) (cond (b == 61) equals (cond (b == 62) (sign (op Gt)) (cond (b == 63) (question at) (cond (b == 33) bang (cond (b == 91) left_bracket (cond (b == 93) right_bracket (cond (b == 94) (sign (op BitXor)) (cond (b == 123) left_brace (cond (b == 124) (sign (op BitOr)) (cond (b == 125) right_brace stray)))))))))))))) (λ e. ap (λ x. Symbol (x ∷ [])) (sym (eqb-true b 46 e))) (chosen (Symbol (b ∷ [])) (b == 47) (sign (op Div)) (cond (b == 58) colon (cond (b == 59) semicolon (cond (b == 60) (sign (op Lt)) (cond (b == 61) equals (cond (b == 62) (sign (op Gt)) (cond (b == 63) (question at) (cond (b == 33) bang (cond (b == 91) left_bracket (cond (b == 93) right_bracket (cond (b == 94) (sign (op BitXor)) (cond (b == 123) left_brace (cond (b == 124) (sign (op BitOr)) (cond (b == 125) right_brace stray))))))))))))) (λ e. ap (λ x. Symbol (x ∷ [])) (sym (eqb-true b 47 e))) (chosen (Symbol (b ∷ [])) (b == 58) colon (cond (b == 59) semicolon (cond (b == 60) (sign (op Lt)) (cond (b == 61) equals (cond (b == 62) (sign (op Gt)) (cond (b == 63) (question at) (cond (b == 33) bang (cond (b == 91) left_bracket (cond (b == 93) right_bracket (cond (b == 94) (sign (op BitXor)) (cond (b == 123) left_brace (cond (b == 124) (sign (op BitOr)) (cond (b == 125) right_brace stray)))))))))))) (λ e. ap (λ x. Symbol (x ∷ [])) (sym (eqb-true b 58 e))) (chosen (Symbol (b ∷ [])) (b == 59) semicolon (cond (b == 60) (sign (op Lt)) (cond (b == 61) equals (cond (b == 62) (sign (op Gt)) (cond (b == 63) (question at) (cond (b == 33) bang (cond (b == 91) left_bracket (cond (b == 93) right_bracket (cond (b == 94) (sign (op BitXor)) (cond (b == 123) left_brace (cond (b == 124) (sign (op BitOr)) (cond (b == 125) right_brace stray))))))))))) (λ e. ap (λ x. Symbol (x ∷ [])) (sym (eqb-true b 59 e))) (chosen (Symbol (b ∷ [])) (b == 60) (sign (op Lt)) (cond (b == 61) equals (cond (b == 62) (sign (op Gt)) (cond (b == 63) (question at) (cond (b == 33) bang (cond (b == 91) left_bracket (cond (b == 93) right_bracket (cond (b == 94) (sign (op BitXor)) (cond (b == 123) left_brace (cond (b == 124) (sign (op BitOr)) (cond (b == 125) right_brace stray)))))))))) (λ e. ap (λ x. Symbol (x ∷ [])) (sym (eqb-true b 60 e))) (chosen (Symbol (b ∷ [])) (b == 61) equals (cond (b == 62) (sign (op Gt)) (cond (b == 63) (question at) (cond (b == 33) bang (cond (b == 91) left_bracket (cond (b == 93) right_bracket (cond (b == 94) (sign (op BitXor)) (cond (b == 123) left_brace (cond (b == 124) (sign (op BitOr)) (cond (b == 125) right_brace stray))))))))) (λ e. ap (λ x. Symbol (x ∷ [])) (sym (eqb-true b 61 e))) (chosen (Symbol (b ∷ [])) (b == 62) (sign (op Gt)) (cond (b == 63) (question at) (cond (b == 33) bang (cond (b == 91) left_bracket (cond (b == 93) right_bracket (cond (b == 94) (sign (op BitXor)) (cond (b == 123) left_brace (cond (b == 124) (sign (op BitOr)) (cond (b == 125) right_brace stray)))))))) (λ e. ap (λ x. Symbol (x ∷ [])) (sym (eqb-true b 62 e))) (chosen (Symbol (b ∷ [])) (b == 63) (question at) (cond (b == 33) bang (cond (b == 91) left_bracket (cond (b == 93) right_bracket (cond (b == 94) (sign (op BitXor)) (cond (b == 123) left_brace (cond (b == 124) (sign (op BitOr)) (cond (b == 125) right_brace stray))))))) (λ e. ap (λ x. Symbol (x ∷ [])) (sym (eqb-true b 63 e))) (chosen (Symbol (b ∷ [])) (b == 33) bang (cond (b == 91) left_bracket (cond (b == 93) right_bracket (cond (b == 94) (sign (op BitXor)) (cond (b == 123) left_brace (cond (b == 124) (sign (op BitOr)) (cond (b == 125) right_brace stray)))))) (λ e. ap (λ x. Symbol (x ∷ [])) (sym (eqb-true b 33 e))) (chosen (Symbol (b ∷ [])) (b == 91) left_bracket (cond (b == 93) right_bracket (cond (b == 94) (sign (op BitXor)) (cond (b == 123) left_brace (cond (b == 124) (sign (op BitOr)) (cond (b == 125) right_brace stray))))) (λ e. ap (λ x. Symbol (x ∷ [])) (sym (eqb-true b 91 e))) (chosen (Symbol (b ∷ [])) (b == 93) right_bracket (cond (b == 94) (sign (op BitXor)) (cond (b == 123) left_brace (cond (b == 124) (sign (op BitOr)) (cond (b == 125) right_brace stray)))) (λ e. ap (λ x. Symbol (x ∷ [])) (sym (eqb-true b 93 e))) (chosen (Symbol (b ∷ [])) (b == 94) (sign (op BitXor)) (cond (b == 123) left_brace (cond (b == 124) (sign (op BitOr)) (cond (b == 125) right_brace stray))) (λ e. ap (λ x. Symbol (x ∷ [])) (sym (eqb-true b 94 e))) (chosen (Symbol (b ∷ [])) (b == 123) left_brace (cond (b == 124) (sign (op BitOr)) (cond (b == 125) right_brace stray)) (λ e. ap (λ x. Symbol (x ∷ [])) (sym (eqb-true b 123 e))) (chosen (Symbol (b ∷ [])) (b == 124) (sign (op BitOr)) (cond (b == 125) right_brace stray) (λ e. ap (λ x. Symbol (x ∷ [])) (sym (eqb-true b 124 e))) (chosen (Symbol (b ∷ [])) (b == 125) right_brace stray (λ e. ap (λ x. Symbol (x ∷ [])) (sym (eqb-true b 125 e))) tt))))))))))))))))))))))
+single_back b at = chosen (Symbol (b ∷ [])) (b == 37) (sign (op Mod))
+    (cond (b == 38) (sign (op BitAnd))
+    (cond (b == 40) left_paren (cond (b == 41) right_paren
+    (cond (b == 42) (sign (op Mul))
+    (cond (b == 43) (sign (op Add))
+    (cond (b == 44) comma (cond (b == 45) (sign (op Sub))
+    (cond (b == 46) dot (cond (b == 47) (sign (op Div))
+    (cond (b == 58) colon (cond (b == 59) semicolon
+    (cond (b == 60) (sign (op Lt)) (cond (b == 61) equals
+    (cond (b == 62) (sign (op Gt)) (cond (b == 63) (question at)
+    (cond (b == 33) bang (cond (b == 91) left_bracket
+    (cond (b == 93) right_bracket (cond (b == 94) (sign (op BitXor))
+    (cond (b == 123) left_brace (cond (b == 124) (sign (op BitOr)) (cond (b == 125) right_brace stray))))))))))))))))))))))
+    (λ e. ap (λ x. Symbol (x ∷ [])) (sym (eqb-true b 37 e)))
+    (chosen (Symbol (b ∷ [])) (b == 38) (sign (op BitAnd))
+    (cond (b == 40) left_paren (cond (b == 41) right_paren
+    (cond (b == 42) (sign (op Mul))
+    (cond (b == 43) (sign (op Add))
+    (cond (b == 44) comma (cond (b == 45) (sign (op Sub))
+    (cond (b == 46) dot (cond (b == 47) (sign (op Div))
+    (cond (b == 58) colon (cond (b == 59) semicolon
+    (cond (b == 60) (sign (op Lt)) (cond (b == 61) equals
+    (cond (b == 62) (sign (op Gt)) (cond (b == 63) (question at)
+    (cond (b == 33) bang (cond (b == 91) left_bracket
+    (cond (b == 93) right_bracket (cond (b == 94) (sign (op BitXor))
+    (cond (b == 123) left_brace (cond (b == 124) (sign (op BitOr)) (cond (b == 125) right_brace stray)))))))))))))))))))))
+    (λ e. ap (λ x. Symbol (x ∷ [])) (sym (eqb-true b 38 e)))
+    (chosen (Symbol (b ∷ [])) (b == 40) left_paren
+    (cond (b == 41) right_paren (cond (b == 42) (sign (op Mul))
+    (cond (b == 43) (sign (op Add))
+    (cond (b == 44) comma (cond (b == 45) (sign (op Sub))
+    (cond (b == 46) dot (cond (b == 47) (sign (op Div))
+    (cond (b == 58) colon (cond (b == 59) semicolon
+    (cond (b == 60) (sign (op Lt)) (cond (b == 61) equals
+    (cond (b == 62) (sign (op Gt)) (cond (b == 63) (question at)
+    (cond (b == 33) bang (cond (b == 91) left_bracket
+    (cond (b == 93) right_bracket (cond (b == 94) (sign (op BitXor))
+    (cond (b == 123) left_brace (cond (b == 124) (sign (op BitOr)) (cond (b == 125) right_brace stray))))))))))))))))))))
+    (λ e. ap (λ x. Symbol (x ∷ [])) (sym (eqb-true b 40 e)))
+    (chosen (Symbol (b ∷ [])) (b == 41) right_paren
+    (cond (b == 42) (sign (op Mul))
+    (cond (b == 43) (sign (op Add))
+    (cond (b == 44) comma (cond (b == 45) (sign (op Sub))
+    (cond (b == 46) dot (cond (b == 47) (sign (op Div))
+    (cond (b == 58) colon (cond (b == 59) semicolon
+    (cond (b == 60) (sign (op Lt)) (cond (b == 61) equals
+    (cond (b == 62) (sign (op Gt)) (cond (b == 63) (question at)
+    (cond (b == 33) bang (cond (b == 91) left_bracket
+    (cond (b == 93) right_bracket (cond (b == 94) (sign (op BitXor))
+    (cond (b == 123) left_brace (cond (b == 124) (sign (op BitOr)) (cond (b == 125) right_brace stray)))))))))))))))))))
+    (λ e. ap (λ x. Symbol (x ∷ [])) (sym (eqb-true b 41 e)))
+    (chosen (Symbol (b ∷ [])) (b == 42) (sign (op Mul))
+    (cond (b == 43) (sign (op Add))
+    (cond (b == 44) comma (cond (b == 45) (sign (op Sub))
+    (cond (b == 46) dot (cond (b == 47) (sign (op Div))
+    (cond (b == 58) colon (cond (b == 59) semicolon
+    (cond (b == 60) (sign (op Lt)) (cond (b == 61) equals
+    (cond (b == 62) (sign (op Gt)) (cond (b == 63) (question at)
+    (cond (b == 33) bang (cond (b == 91) left_bracket
+    (cond (b == 93) right_bracket (cond (b == 94) (sign (op BitXor))
+    (cond (b == 123) left_brace (cond (b == 124) (sign (op BitOr)) (cond (b == 125) right_brace stray))))))))))))))))))
+    (λ e. ap (λ x. Symbol (x ∷ [])) (sym (eqb-true b 42 e)))
+    (chosen (Symbol (b ∷ [])) (b == 43) (sign (op Add))
+    (cond (b == 44) comma (cond (b == 45) (sign (op Sub))
+    (cond (b == 46) dot (cond (b == 47) (sign (op Div))
+    (cond (b == 58) colon (cond (b == 59) semicolon
+    (cond (b == 60) (sign (op Lt)) (cond (b == 61) equals
+    (cond (b == 62) (sign (op Gt)) (cond (b == 63) (question at)
+    (cond (b == 33) bang (cond (b == 91) left_bracket
+    (cond (b == 93) right_bracket (cond (b == 94) (sign (op BitXor))
+    (cond (b == 123) left_brace (cond (b == 124) (sign (op BitOr)) (cond (b == 125) right_brace stray)))))))))))))))))
+    (λ e. ap (λ x. Symbol (x ∷ [])) (sym (eqb-true b 43 e)))
+    (chosen (Symbol (b ∷ [])) (b == 44) comma
+    (cond (b == 45) (sign (op Sub))
+    (cond (b == 46) dot (cond (b == 47) (sign (op Div))
+    (cond (b == 58) colon (cond (b == 59) semicolon
+    (cond (b == 60) (sign (op Lt)) (cond (b == 61) equals
+    (cond (b == 62) (sign (op Gt)) (cond (b == 63) (question at)
+    (cond (b == 33) bang (cond (b == 91) left_bracket
+    (cond (b == 93) right_bracket (cond (b == 94) (sign (op BitXor))
+    (cond (b == 123) left_brace (cond (b == 124) (sign (op BitOr)) (cond (b == 125) right_brace stray))))))))))))))))
+    (λ e. ap (λ x. Symbol (x ∷ [])) (sym (eqb-true b 44 e)))
+    (chosen (Symbol (b ∷ [])) (b == 45) (sign (op Sub))
+    (cond (b == 46) dot (cond (b == 47) (sign (op Div))
+    (cond (b == 58) colon (cond (b == 59) semicolon
+    (cond (b == 60) (sign (op Lt)) (cond (b == 61) equals
+    (cond (b == 62) (sign (op Gt)) (cond (b == 63) (question at)
+    (cond (b == 33) bang (cond (b == 91) left_bracket
+    (cond (b == 93) right_bracket (cond (b == 94) (sign (op BitXor))
+    (cond (b == 123) left_brace (cond (b == 124) (sign (op BitOr)) (cond (b == 125) right_brace stray)))))))))))))))
+    (λ e. ap (λ x. Symbol (x ∷ [])) (sym (eqb-true b 45 e)))
+    (chosen (Symbol (b ∷ [])) (b == 46) dot
+    (cond (b == 47) (sign (op Div))
+    (cond (b == 58) colon (cond (b == 59) semicolon
+    (cond (b == 60) (sign (op Lt)) (cond (b == 61) equals
+    (cond (b == 62) (sign (op Gt)) (cond (b == 63) (question at)
+    (cond (b == 33) bang (cond (b == 91) left_bracket
+    (cond (b == 93) right_bracket (cond (b == 94) (sign (op BitXor))
+    (cond (b == 123) left_brace (cond (b == 124) (sign (op BitOr)) (cond (b == 125) right_brace stray))))))))))))))
+    (λ e. ap (λ x. Symbol (x ∷ [])) (sym (eqb-true b 46 e)))
+    (chosen (Symbol (b ∷ [])) (b == 47) (sign (op Div))
+    (cond (b == 58) colon (cond (b == 59) semicolon
+    (cond (b == 60) (sign (op Lt)) (cond (b == 61) equals
+    (cond (b == 62) (sign (op Gt)) (cond (b == 63) (question at)
+    (cond (b == 33) bang (cond (b == 91) left_bracket
+    (cond (b == 93) right_bracket (cond (b == 94) (sign (op BitXor))
+    (cond (b == 123) left_brace (cond (b == 124) (sign (op BitOr)) (cond (b == 125) right_brace stray)))))))))))))
+    (λ e. ap (λ x. Symbol (x ∷ [])) (sym (eqb-true b 47 e)))
+    (chosen (Symbol (b ∷ [])) (b == 58) colon
+    (cond (b == 59) semicolon (cond (b == 60) (sign (op Lt))
+    (cond (b == 61) equals (cond (b == 62) (sign (op Gt))
+    (cond (b == 63) (question at) (cond (b == 33) bang
+    (cond (b == 91) left_bracket (cond (b == 93) right_bracket
+    (cond (b == 94) (sign (op BitXor)) (cond (b == 123) left_brace (cond (b == 124) (sign (op BitOr)) (cond (b == 125) right_brace stray))))))))))))
+    (λ e. ap (λ x. Symbol (x ∷ [])) (sym (eqb-true b 58 e)))
+    (chosen (Symbol (b ∷ [])) (b == 59) semicolon
+    (cond (b == 60) (sign (op Lt)) (cond (b == 61) equals
+    (cond (b == 62) (sign (op Gt)) (cond (b == 63) (question at)
+    (cond (b == 33) bang (cond (b == 91) left_bracket
+    (cond (b == 93) right_bracket (cond (b == 94) (sign (op BitXor))
+    (cond (b == 123) left_brace (cond (b == 124) (sign (op BitOr)) (cond (b == 125) right_brace stray)))))))))))
+    (λ e. ap (λ x. Symbol (x ∷ [])) (sym (eqb-true b 59 e)))
+    (chosen (Symbol (b ∷ [])) (b == 60) (sign (op Lt))
+    (cond (b == 61) equals (cond (b == 62) (sign (op Gt))
+    (cond (b == 63) (question at) (cond (b == 33) bang
+    (cond (b == 91) left_bracket (cond (b == 93) right_bracket
+    (cond (b == 94) (sign (op BitXor)) (cond (b == 123) left_brace (cond (b == 124) (sign (op BitOr)) (cond (b == 125) right_brace stray))))))))))
+    (λ e. ap (λ x. Symbol (x ∷ [])) (sym (eqb-true b 60 e)))
+    (chosen (Symbol (b ∷ [])) (b == 61) equals
+    (cond (b == 62) (sign (op Gt)) (cond (b == 63) (question at)
+    (cond (b == 33) bang (cond (b == 91) left_bracket
+    (cond (b == 93) right_bracket (cond (b == 94) (sign (op BitXor))
+    (cond (b == 123) left_brace (cond (b == 124) (sign (op BitOr)) (cond (b == 125) right_brace stray)))))))))
+    (λ e. ap (λ x. Symbol (x ∷ [])) (sym (eqb-true b 61 e)))
+    (chosen (Symbol (b ∷ [])) (b == 62) (sign (op Gt))
+    (cond (b == 63) (question at) (cond (b == 33) bang
+    (cond (b == 91) left_bracket (cond (b == 93) right_bracket
+    (cond (b == 94) (sign (op BitXor)) (cond (b == 123) left_brace (cond (b == 124) (sign (op BitOr)) (cond (b == 125) right_brace stray))))))))
+    (λ e. ap (λ x. Symbol (x ∷ [])) (sym (eqb-true b 62 e)))
+    (chosen (Symbol (b ∷ [])) (b == 63) (question at)
+    (cond (b == 33) bang (cond (b == 91) left_bracket
+    (cond (b == 93) right_bracket (cond (b == 94) (sign (op BitXor))
+    (cond (b == 123) left_brace (cond (b == 124) (sign (op BitOr)) (cond (b == 125) right_brace stray)))))))
+    (λ e. ap (λ x. Symbol (x ∷ [])) (sym (eqb-true b 63 e)))
+    (chosen (Symbol (b ∷ [])) (b == 33) bang
+    (cond (b == 91) left_bracket (cond (b == 93) right_bracket
+    (cond (b == 94) (sign (op BitXor)) (cond (b == 123) left_brace (cond (b == 124) (sign (op BitOr)) (cond (b == 125) right_brace stray))))))
+    (λ e. ap (λ x. Symbol (x ∷ [])) (sym (eqb-true b 33 e)))
+    (chosen (Symbol (b ∷ [])) (b == 91) left_bracket
+    (cond (b == 93) right_bracket (cond (b == 94) (sign (op BitXor))
+    (cond (b == 123) left_brace (cond (b == 124) (sign (op BitOr)) (cond (b == 125) right_brace stray)))))
+    (λ e. ap (λ x. Symbol (x ∷ [])) (sym (eqb-true b 91 e)))
+    (chosen (Symbol (b ∷ [])) (b == 93) right_bracket
+    (cond (b == 94) (sign (op BitXor)) (cond (b == 123) left_brace (cond (b == 124) (sign (op BitOr)) (cond (b == 125) right_brace stray))))
+    (λ e. ap (λ x. Symbol (x ∷ [])) (sym (eqb-true b 93 e)))
+    (chosen (Symbol (b ∷ [])) (b == 94) (sign (op BitXor))
+    (cond (b == 123) left_brace (cond (b == 124) (sign (op BitOr)) (cond (b == 125) right_brace stray)))
+    (λ e. ap (λ x. Symbol (x ∷ [])) (sym (eqb-true b 94 e)))
+    (chosen (Symbol (b ∷ [])) (b == 123) left_brace (cond (b == 124) (sign (op BitOr)) (cond (b == 125) right_brace stray))
+    (λ e. ap (λ x. Symbol (x ∷ [])) (sym (eqb-true b 123 e)))
+    (chosen (Symbol (b ∷ [])) (b == 124) (sign (op BitOr)) (cond (b == 125) right_brace stray)
+    (λ e. ap (λ x. Symbol (x ∷ [])) (sym (eqb-true b 124 e)))
+    (chosen (Symbol (b ∷ [])) (b == 125) right_brace stray (λ e. ap (λ x. Symbol (x ∷ [])) (sym (eqb-true b 125 e))) tt))))))))))))))))))))))
 
 pair_back : (p : List ℕ) → BackTo (Symbol p) (pair_class p)
-pair_back p = chosen (Symbol p) (is_same p (codes "->")) arrow (cond (is_same p (codes "<<")) (sign (op Shl)) (cond (is_same p (codes ">>")) (sign (op Shr)) (cond (is_same p (codes "==")) (sign (op Eq)) (cond (is_same p (codes "!=")) (sign (op Ne)) (cond (is_same p (codes "<=")) (sign (op Le)) (cond (is_same p (codes ">=")) (sign (op Ge)) (cond (is_same p (codes "&&")) (sign both) (cond (is_same p (codes "||")) (sign either) stray)))))))) (λ e. ap Symbol (same_bytes p (codes "->") e)) (chosen (Symbol p) (is_same p (codes "<<")) (sign (op Shl)) (cond (is_same p (codes ">>")) (sign (op Shr)) (cond (is_same p (codes "==")) (sign (op Eq)) (cond (is_same p (codes "!=")) (sign (op Ne)) (cond (is_same p (codes "<=")) (sign (op Le)) (cond (is_same p (codes ">=")) (sign (op Ge)) (cond (is_same p (codes "&&")) (sign both) (cond (is_same p (codes "||")) (sign either) stray))))))) (λ e. ap Symbol (same_bytes p (codes "<<") e)) (chosen (Symbol p) (is_same p (codes ">>")) (sign (op Shr)) (cond (is_same p (codes "==")) (sign (op Eq)) (cond (is_same p (codes "!=")) (sign (op Ne)) (cond (is_same p (codes "<=")) (sign (op Le)) (cond (is_same p (codes ">=")) (sign (op Ge)) (cond (is_same p (codes "&&")) (sign both) (cond (is_same p (codes "||")) (sign either) stray)))))) (λ e. ap Symbol (same_bytes p (codes ">>") e)) (chosen (Symbol p) (is_same p (codes "==")) (sign (op Eq)) (cond (is_same p (codes "!=")) (sign (op Ne)) (cond (is_same p (codes "<=")) (sign (op Le)) (cond (is_same p (codes ">=")) (sign (op Ge)) (cond (is_same p (codes "&&")) (sign both) (cond (is_same p (codes "||")) (sign either) stray))))) (λ e. ap Symbol (same_bytes p (codes "==") e)) (chosen (Symbol p) (is_same p (codes "!=")) (sign (op Ne)) (cond (is_same p (codes "<=")) (sign (op Le)) (cond (is_same p (codes ">=")) (sign (op Ge)) (cond (is_same p (codes "&&")) (sign both) (cond (is_same p (codes "||")) (sign either) stray)))) (λ e. ap Symbol (same_bytes p (codes "!=") e)) (chosen (Symbol p) (is_same p (codes "<=")) (sign (op Le)) (cond (is_same p (codes ">=")) (sign (op Ge)) (cond (is_same p (codes "&&")) (sign both) (cond (is_same p (codes "||")) (sign either) stray))) (λ e. ap Symbol (same_bytes p (codes "<=") e)) (chosen (Symbol p) (is_same p (codes ">=")) (sign (op Ge)) (cond (is_same p (codes "&&")) (sign both) (cond (is_same p (codes "||")) (sign either) stray)) (λ e. ap Symbol (same_bytes p (codes ">=") e)) (chosen (Symbol p) (is_same p (codes "&&")) (sign both) (cond (is_same p (codes "||")) (sign either) stray) (λ e. ap Symbol (same_bytes p (codes "&&") e)) (chosen (Symbol p) (is_same p (codes "||")) (sign either) stray (λ e. ap Symbol (same_bytes p (codes "||") e)) tt))))))))
+pair_back p = chosen (Symbol p) (is_same p (codes "->")) arrow
+    (cond (is_same p (codes "<<")) (sign (op Shl))
+    (cond (is_same p (codes ">>")) (sign (op Shr))
+    (cond (is_same p (codes "==")) (sign (op Eq))
+    (cond (is_same p (codes "!=")) (sign (op Ne))
+    (cond (is_same p (codes "<=")) (sign (op Le))
+    (cond (is_same p (codes ">=")) (sign (op Ge))
+    (cond (is_same p (codes "&&")) (sign both) (cond (is_same p (codes "||")) (sign either) stray))))))))
+    (λ e. ap Symbol (same_bytes p (codes "->") e))
+    (chosen (Symbol p) (is_same p (codes "<<")) (sign (op Shl))
+    (cond (is_same p (codes ">>")) (sign (op Shr))
+    (cond (is_same p (codes "==")) (sign (op Eq))
+    (cond (is_same p (codes "!=")) (sign (op Ne))
+    (cond (is_same p (codes "<=")) (sign (op Le))
+    (cond (is_same p (codes ">=")) (sign (op Ge)) (cond (is_same p (codes "&&")) (sign both) (cond (is_same p (codes "||")) (sign either) stray)))))))
+    (λ e. ap Symbol (same_bytes p (codes "<<") e))
+    (chosen (Symbol p) (is_same p (codes ">>")) (sign (op Shr))
+    (cond (is_same p (codes "==")) (sign (op Eq))
+    (cond (is_same p (codes "!=")) (sign (op Ne))
+    (cond (is_same p (codes "<=")) (sign (op Le))
+    (cond (is_same p (codes ">=")) (sign (op Ge)) (cond (is_same p (codes "&&")) (sign both) (cond (is_same p (codes "||")) (sign either) stray))))))
+    (λ e. ap Symbol (same_bytes p (codes ">>") e))
+    (chosen (Symbol p) (is_same p (codes "==")) (sign (op Eq))
+    (cond (is_same p (codes "!=")) (sign (op Ne))
+    (cond (is_same p (codes "<=")) (sign (op Le))
+    (cond (is_same p (codes ">=")) (sign (op Ge)) (cond (is_same p (codes "&&")) (sign both) (cond (is_same p (codes "||")) (sign either) stray)))))
+    (λ e. ap Symbol (same_bytes p (codes "==") e))
+    (chosen (Symbol p) (is_same p (codes "!=")) (sign (op Ne))
+    (cond (is_same p (codes "<=")) (sign (op Le))
+    (cond (is_same p (codes ">=")) (sign (op Ge)) (cond (is_same p (codes "&&")) (sign both) (cond (is_same p (codes "||")) (sign either) stray))))
+    (λ e. ap Symbol (same_bytes p (codes "!=") e))
+    (chosen (Symbol p) (is_same p (codes "<=")) (sign (op Le))
+    (cond (is_same p (codes ">=")) (sign (op Ge)) (cond (is_same p (codes "&&")) (sign both) (cond (is_same p (codes "||")) (sign either) stray)))
+    (λ e. ap Symbol (same_bytes p (codes "<=") e))
+    (chosen (Symbol p) (is_same p (codes ">=")) (sign (op Ge))
+    (cond (is_same p (codes "&&")) (sign both) (cond (is_same p (codes "||")) (sign either) stray)) (λ e. ap Symbol (same_bytes p (codes ">=") e))
+    (chosen (Symbol p) (is_same p (codes "&&")) (sign both) (cond (is_same p (codes "||")) (sign either) stray)
+    (λ e. ap Symbol (same_bytes p (codes "&&") e))
+    (chosen (Symbol p) (is_same p (codes "||")) (sign either) stray (λ e. ap Symbol (same_bytes p (codes "||") e)) tt))))))))
 
 kind_back : (k : TokenKind) (at : Span) → BackTo k (kind_class k at)
 kind_back (Name bs) at = refl

@@ -6,7 +6,10 @@ use Rattle.ipg_ast.specs.declared.token.TokenKind.{TokenKind}
 use Rattle.ipg_ast.specs.declared.token.TokenKind.TheVariants.{Name, Word, Number, Text, Symbol}
 use Rattle.ipg_tokens.specs.Lexical.{is_same}
 use Rattle.ipg_tokens.specs.declared.token.Token.{Token}
-use Rattle.ipg_syntax.specs.Classes.{either, both, op, Tok, name, number, text, sign, bang, question, colon, dot, comma, equals, arrow, semicolon, left_paren, right_paren, left_bracket, right_bracket, left_brace, right_brace, for_word, to_word, do_word, switch_word, case_word, else_word, where_word, start_word, end_word, eoi_word, many_word, stray, kind_class, classes}
+use Rattle.ipg_syntax.specs.Classes.{either, both, op, Tok, name, number, text, sign, bang, question, colon, dot, comma, equals, arrow, semicolon}
+use Rattle.ipg_syntax.specs.Classes.{left_paren, right_paren, left_bracket, right_bracket, left_brace, right_brace, for_word, to_word, do_word}
+use Rattle.ipg_syntax.specs.Classes.{switch_word, case_word, else_word, where_word, start_word, end_word, eoi_word, many_word, stray, kind_class}
+use Rattle.ipg_syntax.specs.Classes.{classes}
 use Rattle.ipg_syntax.specs.Written.{Toks}
 use Rattle.ipg_canon.specs.Bare.{no_span}
 use Rattle.ipg_canon.specs.Laws.{kinds}
@@ -14,8 +17,14 @@ use Rattle.ipg_syntax.proofs.Maps.{plain, plains}
 use Rattle.ipg_canon.proofs.Spelt.{kind_of, kinds_of}
 
 word_places : (b1 b2 b3 b4 b5 b6 b7 b8 b9 b10 b11 : Bool) (at : Span)
-    → plain (cond b1 for_word (cond b2 to_word (cond b3 do_word (cond b4 (switch_word at) (cond b5 case_word (cond b6 else_word (cond b7 where_word (cond b8 start_word (cond b9 end_word (cond b10 eoi_word (cond b11 (many_word at) stray)))))))))))
-    ≡ plain (cond b1 for_word (cond b2 to_word (cond b3 do_word (cond b4 (switch_word no_span) (cond b5 case_word (cond b6 else_word (cond b7 where_word (cond b8 start_word (cond b9 end_word (cond b10 eoi_word (cond b11 (many_word no_span) stray)))))))))))
+    → plain (cond b1 for_word (cond b2 to_word
+    (cond b3 do_word (cond b4 (switch_word at)
+    (cond b5 case_word (cond b6 else_word
+    (cond b7 where_word (cond b8 start_word (cond b9 end_word (cond b10 eoi_word (cond b11 (many_word at) stray)))))))))))
+    ≡ plain (cond b1 for_word (cond b2 to_word
+    (cond b3 do_word (cond b4 (switch_word no_span)
+    (cond b5 case_word (cond b6 else_word
+    (cond b7 where_word (cond b8 start_word (cond b9 end_word (cond b10 eoi_word (cond b11 (many_word no_span) stray)))))))))))
 word_places true b2 b3 b4 b5 b6 b7 b8 b9 b10 b11 at = refl
 word_places false true b3 b4 b5 b6 b7 b8 b9 b10 b11 at = refl
 word_places false false true b4 b5 b6 b7 b8 b9 b10 b11 at = refl
@@ -29,8 +38,21 @@ word_places false false false false false false false false false true b11 at = 
 word_places false false false false false false false false false false true at = refl
 word_places false false false false false false false false false false false at = refl
 
-single_places : (b1 b2 b3 b4 b5 b6 b7 b8 b9 b10 b11 b12 b13 b14 b15 b16 : Bool) (rest : Tok) (at : Span) → plain (cond b1 (sign (op Mod)) (cond b2 (sign (op BitAnd)) (cond b3 left_paren (cond b4 right_paren (cond b5 (sign (op Mul)) (cond b6 (sign (op Add)) (cond b7 comma (cond b8 (sign (op Sub)) (cond b9 dot (cond b10 (sign (op Div)) (cond b11 colon (cond b12 semicolon (cond b13 (sign (op Lt)) (cond b14 equals (cond b15 (sign (op Gt)) (cond b16 (question at) rest))))))))))))))))
-    ≡ plain (cond b1 (sign (op Mod)) (cond b2 (sign (op BitAnd)) (cond b3 left_paren (cond b4 right_paren (cond b5 (sign (op Mul)) (cond b6 (sign (op Add)) (cond b7 comma (cond b8 (sign (op Sub)) (cond b9 dot (cond b10 (sign (op Div)) (cond b11 colon (cond b12 semicolon (cond b13 (sign (op Lt)) (cond b14 equals (cond b15 (sign (op Gt)) (cond b16 (question no_span) rest))))))))))))))))
+single_places : (b1 b2 b3 b4 b5 b6 b7 b8 b9 b10 b11 b12 b13 b14 b15 b16 : Bool) (rest : Tok) (at : Span)
+    → plain (cond b1 (sign (op Mod))
+    (cond b2 (sign (op BitAnd)) (cond b3 left_paren
+    (cond b4 right_paren (cond b5 (sign (op Mul))
+    (cond b6 (sign (op Add)) (cond b7 comma
+    (cond b8 (sign (op Sub)) (cond b9 dot
+    (cond b10 (sign (op Div)) (cond b11 colon
+    (cond b12 semicolon (cond b13 (sign (op Lt)) (cond b14 equals (cond b15 (sign (op Gt)) (cond b16 (question at) rest))))))))))))))))
+    ≡ plain (cond b1 (sign (op Mod))
+    (cond b2 (sign (op BitAnd)) (cond b3 left_paren
+    (cond b4 right_paren (cond b5 (sign (op Mul))
+    (cond b6 (sign (op Add)) (cond b7 comma
+    (cond b8 (sign (op Sub)) (cond b9 dot
+    (cond b10 (sign (op Div)) (cond b11 colon
+    (cond b12 semicolon (cond b13 (sign (op Lt)) (cond b14 equals (cond b15 (sign (op Gt)) (cond b16 (question no_span) rest))))))))))))))))
 single_places true b2 b3 b4 b5 b6 b7 b8 b9 b10 b11 b12 b13 b14 b15 b16 rest at = refl
 single_places false true b3 b4 b5 b6 b7 b8 b9 b10 b11 b12 b13 b14 b15 b16 rest at = refl
 single_places false false true b4 b5 b6 b7 b8 b9 b10 b11 b12 b13 b14 b15 b16 rest at = refl
@@ -53,13 +75,18 @@ single_places false false false false false false false false false false false 
 kind_plain : (k : TokenKind) (at : Span) → plain (kind_class k at) ≡ plain (kind_class k no_span)
 kind_plain (Name bs) at = refl
 kind_plain (Word w) at =
-    word_places (is_same w (codes "for")) (is_same w (codes "to")) (is_same w (codes "do")) (is_same w (codes "switch")) (is_same w (codes "case")) (is_same w (codes "else")) (is_same w (codes "where")) (is_same w (codes "start")) (is_same w (codes "end")) (is_same w (codes "EOI")) (is_same w (codes "many")) at
+    word_places (is_same w (codes "for")) (is_same w (codes "to")) (is_same w (codes "do")) (is_same w (codes "switch")) (is_same w (codes "case"))
+    (is_same w (codes "else")) (is_same w (codes "where")) (is_same w (codes "start")) (is_same w (codes "end")) (is_same w (codes "EOI"))
+    (is_same w (codes "many")) at
 kind_plain (Number z) at = refl
 kind_plain (Text bs) at = refl
 kind_plain (Symbol []) at = refl
 kind_plain (Symbol (b ∷ [])) at =
-    single_places (b == 37) (b == 38) (b == 40) (b == 41) (b == 42) (b == 43) (b == 44) (b == 45) (b == 46) (b == 47) (b == 58) (b == 59) (b == 60) (b == 61) (b == 62) (b == 63)
-    (cond (b == 33) bang (cond (b == 91) left_bracket (cond (b == 93) right_bracket (cond (b == 94) (sign (op BitXor)) (cond (b == 123) left_brace (cond (b == 124) (sign (op BitOr)) (cond (b == 125) right_brace stray))))))) at
+    single_places (b == 37) (b == 38) (b == 40) (b == 41) (b == 42) (b == 43) (b == 44) (b == 45) (b == 46) (b == 47) (b == 58) (b == 59) (b == 60)
+    (b == 61) (b == 62) (b == 63)
+    (cond (b == 33) bang (cond (b == 91) left_bracket
+    (cond (b == 93) right_bracket (cond (b == 94) (sign (op BitXor))
+    (cond (b == 123) left_brace (cond (b == 124) (sign (op BitOr)) (cond (b == 125) right_brace stray))))))) at
 kind_plain (Symbol (b ∷ c ∷ bs)) at = refl
 
 -- the class of a class's kind

@@ -1,5 +1,6 @@
 -- The tokens of a text have the shape of tokens.
-use Rattle.std.proofs.Common.{◌≡◌, ℕ, zero, suc, ◌+◌, ◌-◌, ◌*◌, ◌≤◌, ◌^◌, List, [], ◌∷◌, Bool, true, false, cond, not, ◌&&◌, ◌||◌, ◌==◌, nat_le, nat_lt, Option, Some, None, Ok, Err, pos, take, drop, length, refl, ap, ◌∙◌, sym, subst, arith, add-one, true≢false}
+use Rattle.std.proofs.Common.{◌≡◌, ℕ, zero, suc, ◌+◌, ◌-◌, ◌*◌, ◌≤◌, ◌^◌, List, [], ◌∷◌, Bool, true, false, cond, not, ◌&&◌, ◌||◌, ◌==◌, nat_le}
+use Rattle.std.proofs.Common.{nat_lt, Option, Some, None, Ok, Err, pos, take, drop, length, refl, ap, ◌∙◌, sym, subst, arith, add-one, true≢false}
 use Rattle.std.specs.List.{AllByRecursion, list_all}
 use Rattle.std.proofs.lemmas.Bool.{and_from, or_left, lt-ltb, not_from_false}
 use Rattle.std.proofs.lemmas.Bool.Decides.{nat_tests}
@@ -12,7 +13,10 @@ use Rattle.ipg_tokens.specs.declared.class.Class.{Class}
 use Rattle.ipg_tokens.specs.declared.class.Class.TheVariants.{White, Comment, Naming, Digit, Hexadecimal}
 use Rattle.ipg_tokens.specs.declared.string.Item.{Item}
 use Rattle.ipg_tokens.specs.declared.string.Item.TheVariants.{End, Byte, Bad}
-use Rattle.ipg_tokens.specs.Lexical.{Lexed, lexed, beginning, front_at, token_first, large_first, tokens_of, in_class, run, is_white, is_letter, is_digit, is_hexadecimal, is_plain, is_single, is_pair, is_prefixed, is_one_of, reserved, digit_value, value, below_limit, front_of_value, decimal_front, hexadecimal_front, number_front, name_front, escape, item, Quoted, after_bytes, with_item, quoted, text_front, string_front, single_front, symbol_front}
+use Rattle.ipg_tokens.specs.Lexical.{Lexed, lexed, beginning, front_at, token_first, large_first, tokens_of, in_class, run, is_white, is_letter}
+use Rattle.ipg_tokens.specs.Lexical.{is_digit, is_hexadecimal, is_plain, is_single, is_pair, is_prefixed, is_one_of, reserved, digit_value, value}
+use Rattle.ipg_tokens.specs.Lexical.{below_limit, front_of_value, decimal_front, hexadecimal_front, number_front, name_front, escape, item, Quoted}
+use Rattle.ipg_tokens.specs.Lexical.{after_bytes, with_item, quoted, text_front, string_front, single_front, symbol_front}
 use Rattle.ipg_tokens.specs.Shaped.{is_name, is_byte, IsToken}
 use Rattle.ipg_canon.specs.Laws.{kinds, ReadsShaped}
 use Rattle.ipg_canon.proofs.Formed.{reads_formed}
@@ -34,7 +38,8 @@ run_all : (c : Class) (bs : List ℕ) → list_all (in_class c) (take (run c bs)
 run_all c [] = refl
 run_all c (b ∷ bs) =
     choose (λ n. list_all (in_class c) (take n (b ∷ bs)) ≡ true) (in_class c b) (run c bs + 1) 0
-    (λ is. subst (λ n. list_all (in_class c) (take n (b ∷ bs)) ≡ true) (sym (add-one (run c bs))) (and_from (in_class c b) (list_all (in_class c) (take (run c bs) bs)) is (run_all c bs)))
+    (λ is. subst (λ n. list_all (in_class c) (take n (b ∷ bs)) ≡ true) (sym (add-one (run c bs)))
+    (and_from (in_class c b) (list_all (in_class c) (take (run c bs) bs)) is (run_all c bs)))
     (λ no. refl)
 
 -- a name begins with its letter
@@ -46,7 +51,8 @@ letter_first b bs is =
 name_token : (b : ℕ) (bs : List ℕ) → is_letter b ≡ true → OfToken (name_front (b ∷ bs))
 name_token b bs is =
     let w : List ℕ = take (run Naming (b ∷ bs)) (b ∷ bs) in
-    let named : is_name w ≡ true = ap is_name (letter_first b bs is) ∙ and_from (is_letter b) (list_all (in_class Naming) (take (run Naming bs) bs)) is (run_all Naming bs) in
+    let named : is_name w ≡ true = ap is_name (letter_first b bs is) ∙ and_from (is_letter b) (list_all (in_class Naming) (take (run Naming bs) bs))
+    is (run_all Naming bs) in
     choose IsToken (is_one_of reserved w) (Word w) (Name w) (λ yes_word. yes_word)
     (λ no_word. and_from (is_name w) (not (is_one_of reserved w)) named (not_from_false (is_one_of reserved w) no_word))
 
@@ -146,12 +152,14 @@ text_token None is = tt
 front_token : (b : ℕ) (bs : List ℕ) → OfToken (front_at b bs)
 front_token b bs =
     choose OfToken (is_white b) (Blank (run White (b ∷ bs)))
-    (cond (b == 35) (Blank (run Comment (b ∷ bs))) (cond (is_letter b) (name_front (b ∷ bs)) (cond (is_digit b) (number_front (b ∷ bs)) (cond (b == 34) (string_front bs) (symbol_front b bs)))))
+    (cond (b == 35) (Blank (run Comment (b ∷ bs)))
+    (cond (is_letter b) (name_front (b ∷ bs)) (cond (is_digit b) (number_front (b ∷ bs)) (cond (b == 34) (string_front bs) (symbol_front b bs)))))
     (λ is. tt)
     (λ solid. choose OfToken (b == 35) (Blank (run Comment (b ∷ bs)))
     (cond (is_letter b) (name_front (b ∷ bs)) (cond (is_digit b) (number_front (b ∷ bs)) (cond (b == 34) (string_front bs) (symbol_front b bs))))
     (λ is. tt)
-    (λ solid_too. choose OfToken (is_letter b) (name_front (b ∷ bs)) (cond (is_digit b) (number_front (b ∷ bs)) (cond (b == 34) (string_front bs) (symbol_front b bs)))
+    (λ solid_too. choose OfToken (is_letter b) (name_front (b ∷ bs))
+    (cond (is_digit b) (number_front (b ∷ bs)) (cond (b == 34) (string_front bs) (symbol_front b bs)))
     (λ is. name_token b bs is)
     (λ other. choose OfToken (is_digit b) (number_front (b ∷ bs)) (cond (b == 34) (string_front bs) (symbol_front b bs))
     (λ is. number_front_token (b ∷ bs))
@@ -181,7 +189,8 @@ beginning_tokens : (f : Front) (at : ℕ) (rest : ℕ → Lexed) → OfToken f �
 beginning_tokens Nothing at rest is all = tt
 beginning_tokens (Blank n) at rest is all = all (n - 1)
 beginning_tokens (Large n) at rest is all = after_large at (rest (n - 1))
-beginning_tokens (Begins kind n) at rest is all = token_before (record { kind = kind; span = record { from = at; to = at + n } }) (rest (n - 1)) is (all (n - 1))
+beginning_tokens (Begins kind n) at rest is all = token_before (record { kind = kind; span = record { from = at; to = at + n } }) (rest (n - 1)) is
+    (all (n - 1))
 
 lexed_tokens : (bs : List ℕ) (at skip : ℕ) → TokensIfOk (lexed at skip bs)
 lexed_tokens [] at skip = tt

@@ -10,13 +10,21 @@ use Rattle.ipg_ast.specs.declared.grammar.Field.TheVariants.{Id as Attribute, St
 use Rattle.ipg_ast.specs.declared.grammar.Expr.{Expr}
 use Rattle.ipg_ast.specs.declared.grammar.Expr.TheOpen.{Expr-F}
 use Rattle.ipg_ast.specs.declared.grammar.Expr.TheFolds.{fold-roll-Expr}
-use Rattle.ipg_ast.specs.declared.grammar.Expr.TheVariants.{rolls-Num, rolls-Eoi, rolls-Id, rolls-Part, rolls-Item, rolls-Group, rolls-Neg, rolls-Not, rolls-Two, rolls-Both, rolls-Either, rolls-Cond}
+use Rattle.ipg_ast.specs.declared.grammar.Expr.TheVariants.{rolls-Num, rolls-Eoi, rolls-Id, rolls-Part, rolls-Item, rolls-Group, rolls-Neg, rolls-Not}
+use Rattle.ipg_ast.specs.declared.grammar.Expr.TheVariants.{rolls-Two, rolls-Both, rolls-Either, rolls-Cond}
 use Rattle.ipg_ast.specs.declared.grammar.Alt.{out-Alt, out-roll-Alt}
 use Rattle.ipg_ast.specs.declared.grammar.Rule.{Rule, out-roll-Rule}
 use Rattle.ipg_ast.specs.declared.grammar.Term.{Term}
-use Rattle.ipg_ast.specs.Spelling.{Tokens, sign_of, field_tokens, expr_step, expr_tokens, place_tokens, what_token, slot_tokens, case_tokens, cases_tokens, term_tokens, terms_tokens, local_alts_from, local_alts_tokens, local_tokens, locals_tokens, where_tokens, alt_tokens, alts_from, alts_tokens, rule_tokens, rules_tokens, grammar_tokens}
-use Rattle.ipg_syntax.specs.Classes.{Infix, either, both, op, Tok, name, number, text, sign, bang, question, colon, dot, comma, equals, arrow, semicolon, left_paren, right_paren, left_bracket, right_bracket, left_brace, right_brace, for_word, to_word, do_word, switch_word, case_word, else_word, where_word, start_word, end_word, eoi_word, many_word, stray, slash}
-use Rattle.ipg_syntax.specs.Written.{Toks, ExprTree, num, eoi, own, part, item, group, neg, isnt, two, choose, PlaceTree, anywhere, long, ends, SlotTree, CaseTree, TermTree, slot_term, set_term, test_term, repeat_term, many_term, pick_term, LocalTree, AltTree, RuleTree, field_tok, what_tok, spell_expr, spell_place, spell_slot, spell_case, spell_cases, spell_term, spell_terms, spell_local_alts, spell_local, spell_locals, spell_where, spell_alt, spell_alts, spell_rule, spell}
+use Rattle.ipg_ast.specs.Spelling.{Tokens, sign_of, field_tokens, expr_step, expr_tokens, place_tokens, what_token, slot_tokens, case_tokens}
+use Rattle.ipg_ast.specs.Spelling.{cases_tokens, term_tokens, terms_tokens, local_alts_from, local_alts_tokens, local_tokens, locals_tokens}
+use Rattle.ipg_ast.specs.Spelling.{where_tokens, alt_tokens, alts_from, alts_tokens, rule_tokens, rules_tokens, grammar_tokens}
+use Rattle.ipg_syntax.specs.Classes.{Infix, either, both, op, Tok, name, number, text, sign, bang, question, colon, dot, comma, equals, arrow}
+use Rattle.ipg_syntax.specs.Classes.{semicolon, left_paren, right_paren, left_bracket, right_bracket, left_brace, right_brace, for_word, to_word}
+use Rattle.ipg_syntax.specs.Classes.{do_word, switch_word, case_word, else_word, where_word, start_word, end_word, eoi_word, many_word, stray, slash}
+use Rattle.ipg_syntax.specs.Written.{Toks, ExprTree, num, eoi, own, part, item, group, neg, isnt, two, choose, PlaceTree, anywhere, long, ends}
+use Rattle.ipg_syntax.specs.Written.{SlotTree, CaseTree, TermTree, slot_term, set_term, test_term, repeat_term, many_term, pick_term, LocalTree}
+use Rattle.ipg_syntax.specs.Written.{AltTree, RuleTree, field_tok, what_tok, spell_expr, spell_place, spell_slot, spell_case, spell_cases, spell_term}
+use Rattle.ipg_syntax.specs.Written.{spell_terms, spell_local_alts, spell_local, spell_locals, spell_where, spell_alt, spell_alts, spell_rule, spell}
 use Rattle.ipg_canon.specs.Bare.{every}
 use Rattle.ipg_syntax.specs.Making.{made, infix_expr, alt_of, expr_by, place_by, slot_by, cases_by, term_by, grammar_of}
 use Rattle.ipg_canon.proofs.Images.{made_case, made_local_alt, made_local, made_alt, made_rule, cases_made, grammar_made}
@@ -101,7 +109,8 @@ expr_kinds (isnt e) =
 expr_kinds (two i a b) =
     let x : Expr = expr_by made a in
     let y : Expr = expr_by made b in
-    in_a_row (spell_expr a) (sign i ∷ spell_expr b) (expr_tokens x) (Symbol (infix_sign i) ∷ expr_tokens y) (expr_kinds a) (ap (λ ts. Symbol (infix_sign i) ∷ ts) (expr_kinds b))
+    in_a_row (spell_expr a) (sign i ∷ spell_expr b) (expr_tokens x) (Symbol (infix_sign i) ∷ expr_tokens y) (expr_kinds a)
+    (ap (λ ts. Symbol (infix_sign i) ∷ ts) (expr_kinds b))
     ∙ sym (infix_tokens i x y)
   where
     infix_tokens : (i : Infix) (x y : Expr) → expr_tokens (infix_expr i x y) ≡ expr_tokens x ++ (Symbol (infix_sign i) ∷ expr_tokens y)
@@ -112,7 +121,8 @@ expr_kinds (choose c at a b) =
     let w : Expr = expr_by made c in
     let x : Expr = expr_by made a in
     let y : Expr = expr_by made b in
-    in_a_row (spell_expr c) (question at ∷ (spell_expr a ++ (colon ∷ spell_expr b))) (expr_tokens w) (Symbol (codes "?") ∷ (expr_tokens x ++ (Symbol (codes ":") ∷ expr_tokens y))) (expr_kinds c)
+    in_a_row (spell_expr c) (question at ∷ (spell_expr a ++ (colon ∷ spell_expr b))) (expr_tokens w)
+    (Symbol (codes "?") ∷ (expr_tokens x ++ (Symbol (codes ":") ∷ expr_tokens y))) (expr_kinds c)
     (ap (λ ts. Symbol (codes "?") ∷ ts) (in_a_row (spell_expr a) (colon ∷ spell_expr b) (expr_tokens x) (Symbol (codes ":") ∷ expr_tokens y) (expr_kinds a)
     (ap (λ ts. Symbol (codes ":") ∷ ts) (expr_kinds b))))
     ∙ sym (ap expr_tokens (sym (rolls-Cond w x y)) ∙ fold-roll-Expr Tokens expr_step (Expr-F.Cond w x y))
@@ -120,11 +130,13 @@ expr_kinds (choose c at a b) =
 place_kinds : (p : PlaceTree) → kinds_of (spell_place p) ≡ place_tokens (place_by made p)
 place_kinds anywhere = refl
 place_kinds (long e) =
-    ap (λ ts. Symbol (codes "[") ∷ ts) (in_a_row (spell_expr e) (right_bracket ∷ []) (expr_tokens (expr_by made e)) (Symbol (codes "]") ∷ []) (expr_kinds e) refl)
+    ap (λ ts. Symbol (codes "[") ∷ ts) (in_a_row (spell_expr e) (right_bracket ∷ []) (expr_tokens (expr_by made e)) (Symbol (codes "]") ∷ [])
+    (expr_kinds e) refl)
 place_kinds (ends l r) =
     let x : Tokens = expr_tokens (expr_by made l) in
     let y : Tokens = expr_tokens (expr_by made r) in
-    ap (λ ts. Symbol (codes "[") ∷ ts) (in_a_row (spell_expr l) (comma ∷ (spell_expr r ++ (right_bracket ∷ []))) x (Symbol (codes ",") ∷ (y ++ (Symbol (codes "]") ∷ []))) (expr_kinds l)
+    ap (λ ts. Symbol (codes "[") ∷ ts) (in_a_row (spell_expr l) (comma ∷ (spell_expr r ++ (right_bracket ∷ []))) x
+    (Symbol (codes ",") ∷ (y ++ (Symbol (codes "]") ∷ []))) (expr_kinds l)
     (ap (λ ts. Symbol (codes ",") ∷ ts) (in_a_row (spell_expr r) (right_bracket ∷ []) y (Symbol (codes "]") ∷ []) (expr_kinds r) refl)))
 
 what_kind : (w : What) (at : Span) → kind_of (what_tok w at) ≡ what_token w
@@ -136,7 +148,8 @@ slot_kinds s = ap₂ (λ t ts. t ∷ ts) (what_kind s.what s.span) (place_kinds 
 
 case_kinds : (c : CaseTree) → kinds_of (spell_case c) ≡ case_tokens (made_case c)
 case_kinds c = ap (λ ts. Word (codes "case") ∷ Symbol (codes "(") ∷ ts)
-    (in_a_row (spell_expr c.test) (right_paren ∷ spell_slot c.slot) (expr_tokens (expr_by made c.test)) (Symbol (codes ")") ∷ slot_tokens (slot_by made c.slot)) (expr_kinds c.test)
+    (in_a_row (spell_expr c.test) (right_paren ∷ spell_slot c.slot) (expr_tokens (expr_by made c.test))
+    (Symbol (codes ")") ∷ slot_tokens (slot_by made c.slot)) (expr_kinds c.test)
     (ap (λ ts. Symbol (codes ")") ∷ ts) (slot_kinds c.slot)))
 
 cases_kinds : (cs : List CaseTree) → kinds_of (spell_cases cs) ≡ cases_tokens (every made_case cs)
@@ -162,11 +175,13 @@ term_kinds (pick_term at cs s) =
     ap (λ ts. Word (codes "switch") ∷ Symbol (codes "{") ∷ ts)
     (in_a_row (spell_cases cs) (else_word ∷ (spell_slot s ++ (right_brace ∷ []))) (cases_tokens (cases_by made [] cs)) end
     (cases_kinds cs ∙ ap cases_tokens (sym (cases_made [] cs)))
-    (ap (λ ts. Word (codes "else") ∷ ts) (in_a_row (spell_slot s) (right_brace ∷ []) (slot_tokens (slot_by made s)) (Symbol (codes "}") ∷ []) (slot_kinds s) refl)))
+    (ap (λ ts. Word (codes "else") ∷ ts) (in_a_row (spell_slot s) (right_brace ∷ []) (slot_tokens (slot_by made s)) (Symbol (codes "}") ∷ [])
+    (slot_kinds s) refl)))
 
 terms_kinds : (ts : List TermTree) → kinds_of (spell_terms ts) ≡ terms_tokens (every (term_by made) ts)
 terms_kinds [] = refl
-terms_kinds (t ∷ ts) = in_a_row (spell_term t) (spell_terms ts) (term_tokens (term_by made t)) (terms_tokens (every (term_by made) ts)) (term_kinds t) (terms_kinds ts)
+terms_kinds (t ∷ ts) = in_a_row (spell_term t) (spell_terms ts) (term_tokens (term_by made t)) (terms_tokens (every (term_by made) ts)) (term_kinds t)
+    (terms_kinds ts)
 
 terms_in : (ts : List Term) (ls : List Rule) → (out-Alt (alt_of ts ls)).terms ≡ ts
 terms_in ts ls = ap (λ a. a.terms) (out-roll-Alt (record { terms = ts; locals = ls }))
@@ -174,18 +189,22 @@ terms_in ts ls = ap (λ a. a.terms) (out-roll-Alt (record { terms = ts; locals =
 local_alts_kinds : (m : Tok) (las : List (List TermTree)) → kinds_of (spell_local_alts m las) ≡ local_alts_from (kind_of m) (every made_local_alt las)
 local_alts_kinds m [] = refl
 local_alts_kinds m (ts ∷ las) = ap (λ toks. kind_of m ∷ toks)
-    (in_a_row (spell_terms ts) (spell_local_alts slash las) (terms_tokens (out-Alt (made_local_alt ts)).terms) (local_alts_from (Symbol (codes "/")) (every made_local_alt las))
+    (in_a_row (spell_terms ts) (spell_local_alts slash las) (terms_tokens (out-Alt (made_local_alt ts)).terms)
+    (local_alts_from (Symbol (codes "/")) (every made_local_alt las))
     (terms_kinds ts ∙ ap terms_tokens (sym (terms_in (every (term_by made) ts) []))) (local_alts_kinds slash las))
 
 local_kinds : (l : LocalTree) → kinds_of (spell_local l) ≡ local_tokens (made_local l)
 local_kinds l =
     ap (λ toks. Name l.head.name ∷ toks)
-    (in_a_row (spell_local_alts arrow l.alts) (semicolon ∷ []) (local_alts_tokens (every made_local_alt l.alts)) (Symbol (codes ";") ∷ []) (local_alts_kinds arrow l.alts) refl)
-    ∙ ap (λ r. Name r.name.name ∷ (local_alts_tokens r.alts ++ (Symbol (codes ";") ∷ []))) (sym (out-roll-Rule (record { name = l.head; alts = every made_local_alt l.alts })))
+    (in_a_row (spell_local_alts arrow l.alts) (semicolon ∷ []) (local_alts_tokens (every made_local_alt l.alts)) (Symbol (codes ";") ∷ [])
+    (local_alts_kinds arrow l.alts) refl)
+    ∙ ap (λ r. Name r.name.name ∷ (local_alts_tokens r.alts ++ (Symbol (codes ";") ∷ [])))
+    (sym (out-roll-Rule (record { name = l.head; alts = every made_local_alt l.alts })))
 
 locals_kinds : (ls : List LocalTree) → kinds_of (spell_locals ls) ≡ locals_tokens (every made_local ls)
 locals_kinds [] = refl
-locals_kinds (l ∷ ls) = in_a_row (spell_local l) (spell_locals ls) (local_tokens (made_local l)) (locals_tokens (every made_local ls)) (local_kinds l) (locals_kinds ls)
+locals_kinds (l ∷ ls) = in_a_row (spell_local l) (spell_locals ls) (local_tokens (made_local l)) (locals_tokens (every made_local ls)) (local_kinds l)
+    (locals_kinds ls)
 
 where_kinds : (ls : List LocalTree) → kinds_of (spell_where ls) ≡ where_tokens (every made_local ls)
 where_kinds [] = refl
@@ -202,13 +221,15 @@ alt_kinds a =
 alts_kinds : (m : Tok) (alts : List AltTree) → kinds_of (spell_alts m alts) ≡ alts_from (kind_of m) (every made_alt alts)
 alts_kinds m [] = refl
 alts_kinds m (a ∷ alts) = ap (λ toks. kind_of m ∷ toks)
-    (in_a_row (spell_alt a) (spell_alts slash alts) (alt_tokens (made_alt a)) (alts_from (Symbol (codes "/")) (every made_alt alts)) (alt_kinds a) (alts_kinds slash alts))
+    (in_a_row (spell_alt a) (spell_alts slash alts) (alt_tokens (made_alt a)) (alts_from (Symbol (codes "/")) (every made_alt alts)) (alt_kinds a)
+    (alts_kinds slash alts))
 
 rule_kinds : (r : RuleTree) → kinds_of (spell_rule r) ≡ rule_tokens (made_rule r)
 rule_kinds r =
     ap (λ toks. Name r.head.name ∷ toks)
     (in_a_row (spell_alts arrow r.alts) (semicolon ∷ []) (alts_tokens (every made_alt r.alts)) (Symbol (codes ";") ∷ []) (alts_kinds arrow r.alts) refl)
-    ∙ ap (λ x. Name x.name.name ∷ (alts_tokens x.alts ++ (Symbol (codes ";") ∷ []))) (sym (out-roll-Rule (record { name = r.head; alts = every made_alt r.alts })))
+    ∙ ap (λ x. Name x.name.name ∷ (alts_tokens x.alts ++ (Symbol (codes ";") ∷ [])))
+    (sym (out-roll-Rule (record { name = r.head; alts = every made_alt r.alts })))
 
 rules_kinds : (rs : List RuleTree) → kinds_of (spell rs) ≡ rules_tokens (every made_rule rs)
 rules_kinds [] = refl

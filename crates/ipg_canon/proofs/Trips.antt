@@ -34,5 +34,6 @@ canonical_stays back text g is short =
     record {
       found = trip.found;
       answer = trip.answer;
-      same = ap tokens_text (sym (keeps_tokens (canonical_text g) trip.found (placed 0 (grammar_tokens g)) reads (canonical_falls back g shaped)) ∙ kinds_placed 0 (grammar_tokens g));
+      same = ap tokens_text (sym (keeps_tokens (canonical_text g) trip.found (placed 0 (grammar_tokens g)) reads (canonical_falls back g shaped))
+          ∙ kinds_placed 0 (grammar_tokens g));
     }

@@ -63,7 +63,9 @@ pub fn close<A: Allocator + Clone + Drop>(
     scratch: &mut Scratch<A>,
     call: &Closing<'_>,
 ) -> Result<RunId, AllocError>
-    ensures tree { IfOk result (λ id. (src : Source) (at : ℕ) (f : Frame) (terms : List CoreTerm) (state : State) → Closes src store.old at tables.now call.now f terms state → StandsTree src store.new at id (node_of f terms state) × TreeWithin call.now.size (node_of f terms state)) }
+    ensures tree { IfOk result (λ id. (src : Source) (at : ℕ) (f : Frame) (terms : List CoreTerm) (state : State)
+        → Closes src store.old at tables.now call.now f terms state
+        → StandsTree src store.new at id (node_of f terms state) × TreeWithin call.now.size (node_of f terms state)) }
     ensures grows { OnOk result (Grows store.old store.new) }
     ensures err { OnErr result (store.new ≡ store.old) }
 {

@@ -49,7 +49,8 @@ fn items_levels<A: Allocator + Clone + Drop>(store: &Store<A>, items: &[Kid]) ->
 /// The levels of a list of items and of those below.
 fn list_levels<A: Allocator + Clone + Drop>(store: &Store<A>, list: RunId) -> u64
     ensures small { result ≤ 2 ^ 32 }
-    ensures levels { (src : Source) (at : ℕ) (ones : Kids) (rows : List Kid) → slice_get store.now.kids list.place ≡ Some rows → StandKids src store.now at rows ones → AreItems ones → spec.kids_levels ones + 1 ≤ result }
+    ensures levels { (src : Source) (at : ℕ) (ones : Kids) (rows : List Kid) → slice_get store.now.kids list.place ≡ Some rows
+        → StandKids src store.now at rows ones → AreItems ones → spec.kids_levels ones + 1 ≤ result }
 {
     u64::from(items_levels(store, store.kids(list))) + 1
 }
@@ -57,7 +58,8 @@ fn list_levels<A: Allocator + Clone + Drop>(store: &Store<A>, list: RunId) -> u6
 /// The levels of a child.
 fn kid_levels<A: Allocator + Clone + Drop>(store: &Store<A>, kid: Kid) -> u64
     ensures small { result ≤ 2 ^ 32 }
-    ensures levels { (src : Source) (at : ℕ) (one : tree.Kid) → StandsKid src store.now at kid one → AreItems (tree.items_of one) → spec.kid_levels one ≤ result }
+    ensures levels { (src : Source) (at : ℕ) (one : tree.Kid) → StandsKid src store.now at kid one → AreItems (tree.items_of one)
+        → spec.kid_levels one ≤ result }
 {
     match kid {
         Kid::Array { items, .. } => list_levels(store, items),
@@ -86,7 +88,8 @@ pub(crate) fn levels_over<A: Allocator + Clone + Drop>(
     store: &Store<A>,
     kids: &[Kid],
 ) -> Result<u32, AllocError>
-    ensures { IfOk result (λ levels. (src : Source) (at : ℕ) (ones : Kids) → StandKids src store.now at kids.now ones → AreFlat ones → spec.kids_levels ones + 1 ≤ levels) }
+    ensures { IfOk result (λ levels. (src : Source) (at : ℕ) (ones : Kids) → StandKids src store.now at kids.now ones → AreFlat ones
+        → spec.kids_levels ones + 1 ≤ levels) }
 {
     match u32::try_from(greatest(store, kids) + 1) {
         Ok(levels) => Ok(levels),

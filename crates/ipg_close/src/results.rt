@@ -20,7 +20,9 @@ pub fn array<A: Allocator + Clone + Drop>(
     sym: u32,
     items: &[Kid],
 ) -> Result<Done, AllocError>
-    ensures result { IfOk result (λ row. (src : Source) (at n : ℕ) (one : Sym) (ones : List tree.Kid) → slice_get src.syms sym ≡ Some one → HasItems src store.old at n items.now ones → IsDone src store.new at n row (record { is_switch = false; kid = tree.Array one (kids_of ones) })) }
+    ensures result { IfOk result (λ row. (src : Source) (at n : ℕ) (one : Sym) (ones : List tree.Kid) → slice_get src.syms sym ≡ Some one
+        → HasItems src store.old at n items.now ones
+        → IsDone src store.new at n row (record { is_switch = false; kid = tree.Array one (kids_of ones) })) }
     ensures grows { OnOk result (Grows store.old store.new) }
     ensures err { OnErr result (store.new ≡ store.old) }
 {
@@ -39,7 +41,9 @@ pub fn repetition<A: Allocator + Clone + Drop>(
     sym: u32,
     items: &[Kid],
 ) -> Result<Done, AllocError>
-    ensures result { IfOk result (λ row. (src : Source) (at n : ℕ) (one : Sym) (ones : List tree.Kid) → slice_get src.syms sym ≡ Some one → HasItems src store.old at n items.now ones → IsDone src store.new at n row (record { is_switch = false; kid = tree.Many one (kids_of ones) })) }
+    ensures result { IfOk result (λ row. (src : Source) (at n : ℕ) (one : Sym) (ones : List tree.Kid) → slice_get src.syms sym ≡ Some one
+        → HasItems src store.old at n items.now ones
+        → IsDone src store.new at n row (record { is_switch = false; kid = tree.Many one (kids_of ones) })) }
     ensures grows { OnOk result (Grows store.old store.new) }
     ensures err { OnErr result (store.new ≡ store.old) }
 {

@@ -12,7 +12,8 @@ use Rattle.ipg_core.specs.declared.grammar.CoreRule.{CoreRule}
 use Rattle.ipg_core.specs.Grammar.{Grammar, rule_at, holder_of}
 use Rattle.ipg_core.specs.Mention.{Mention, SeenOf, ItemOf, AfterOf, OwnOf, OuterOf, FieldOf, LoopOf, mentions, term_mentions, EachSym}
 use Rattle.ipg_core.specs.Order.{Sets}
-use Rattle.ipg_core.specs.Good.{AltAt, IsSym, SetsSome, HolderSets, IsGoodMention, IsCallable, MayCall, GoodTerm, GoodAlt, GoodRule, IsGlobalAlt, WellFormed, slots_of, slots_in}
+use Rattle.ipg_core.specs.Good.{AltAt, IsSym, SetsSome, HolderSets, IsGoodMention, IsCallable, MayCall, GoodTerm, GoodAlt, GoodRule, IsGlobalAlt}
+use Rattle.ipg_core.specs.Good.{WellFormed, slots_of, slots_in}
 use Rattle.ipg_names.specs.declared.named.NamedTerm.{NamedTerm}
 use Rattle.ipg_names.specs.declared.named.NamedAlt.{NamedAlt}
 use Rattle.ipg_names.specs.declared.named.NamedRule.{NamedRule}
@@ -237,8 +238,11 @@ module _ (n : Resolved) where
 
   first_of_new : WellFormed old → (rule : CoreRule) × (rule_at new 0 ≡ Some rule) × (rule.holder ≡ None)
   first_of_new h =
-      let w = written bare_rule n.rules 0 h.first.0 h.first.1 in
-      (new_rule w.item, new_there 0 ∙ ap (λ o. option_map unordered.rule_of (option_map rule_of o)) w.is_item, sym (ap (λ (r : CoreRule). r.holder) w.is) ∙ h.first.2)
+      let w = written bare_rule n.rules 0 h.first.0 h.first.1 in (
+        new_rule w.item,
+        new_there 0 ∙ ap (λ o. option_map unordered.rule_of (option_map rule_of o)) w.is_item,
+        sym (ap (λ (r : CoreRule). r.holder) w.is) ∙ h.first.2,
+      )
 
   pub whole : WellFormed old → WellFormed new
   whole h = record {

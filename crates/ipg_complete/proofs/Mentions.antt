@@ -85,7 +85,8 @@ module _ (P : Mention → Type 0) (left : CoreExpr) (known : AllByRecursion P (m
   place_so end place known_end h =
       let from = mentions (bare_from place) in
       let to = mentions (bare_to place) in
-      all_append P (mentions (from_of left place)) (mentions (to_of left end place)) (from_so place (all_left P from to h)) (to_so end place known_end (all_right P from to h))
+      all_append P (mentions (from_of left place)) (mentions (to_of left end place)) (from_so place (all_left P from to h))
+      (to_so end place known_end (all_right P from to h))
 
   slot_so : (slot : NamedSlot) → AllByRecursion P (slot_mentions (bare_slot slot)) → AllByRecursion P (slot_mentions (slot_of left slot))
   slot_so slot = place_so (open_end left slot.sym) slot.place (open_so slot.sym)

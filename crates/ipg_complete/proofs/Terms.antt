@@ -50,7 +50,8 @@ same_syms P left (named.Repeat first last item from to) h = h
 same_syms P left (named.Many item place) h = h
 same_syms P left (named.Pick cases other) h = (cases_syms P left cases h.0, h.1)
 
-pub same_shape : (g g' : Grammar) (left : CoreExpr) (t : NamedTerm) → length g.names ≡ length g'.names → IsGoodShape g (bare_term t) → IsGoodShape g' (term_of left t)
+pub same_shape : (g g' : Grammar) (left : CoreExpr) (t : NamedTerm) → length g.names ≡ length g'.names → IsGoodShape g (bare_term t)
+    → IsGoodShape g' (term_of left t)
 same_shape g g' left (named.Slot slot) e h = h
 same_shape g g' left (named.Set attr value) e h = subst (λ n. attr < n) e h
 same_shape g g' left (named.Test cond) e h = h
@@ -112,7 +113,8 @@ pub as_many : (u : ℕ) (left : CoreExpr) (ts : List NamedTerm) → length (term
 as_many u left [] = refl
 as_many u left (t ∷ ts) = ap suc (as_many (u + 1) (behind u left (term_of left t)) ts)
 
-pub term_at : (u : ℕ) (left : CoreExpr) (ts : List NamedTerm) (i : ℕ) → slice_get (terms_from u left ts) i ≡ option_map (term_of (left_at u left ts i)) (slice_get ts i)
+pub term_at : (u : ℕ) (left : CoreExpr) (ts : List NamedTerm) (i : ℕ)
+    → slice_get (terms_from u left ts) i ≡ option_map (term_of (left_at u left ts i)) (slice_get ts i)
 term_at u left [] i = refl
 term_at u left (t ∷ ts) zero = refl
 term_at u left (t ∷ ts) (suc i) = term_at (u + 1) (behind u left (term_of left t)) ts i
@@ -165,10 +167,12 @@ module _ (left : CoreExpr) (ts : List NamedTerm) where
       (h.0, bare_at v w.written w.is_written ∙ ap Some (set_was (left_at 0 left ts v) w.written attr h.0 (sym w.is)))
 
   pub slots_to : (v : ℕ) → IsSlotOrSwitch (slice_get bares v) → IsSlotOrSwitch (slice_get news v)
-  slots_to v h = subst IsSlotOrSwitch (sym (term_at 0 left ts v)) (slot_kept (left_at 0 left ts v) (slice_get ts v) (subst IsSlotOrSwitch (slice_get-map bare_term ts v) h))
+  slots_to v h = subst IsSlotOrSwitch (sym (term_at 0 left ts v))
+      (slot_kept (left_at 0 left ts v) (slice_get ts v) (subst IsSlotOrSwitch (slice_get-map bare_term ts v) h))
 
   pub items_to : (v : ℕ) → HasItems (slice_get bares v) → HasItems (slice_get news v)
-  items_to v h = subst HasItems (sym (term_at 0 left ts v)) (items_kept (left_at 0 left ts v) (slice_get ts v) (subst HasItems (slice_get-map bare_term ts v) h))
+  items_to v h = subst HasItems (sym (term_at 0 left ts v))
+      (items_kept (left_at 0 left ts v) (slice_get ts v) (subst HasItems (slice_get-map bare_term ts v) h))
 
 -- ---- what `left` names: slots, switches and what has items, each before the term
 
@@ -213,7 +217,8 @@ module _ (g : Grammar) (all : List CoreTerm) where
   items_name u left h k =
       subst (AllByRecursion (IsLeft (u + 1))) (sym (mentions_after u left)) ((h, omega arith), all_later u 1 left k)
 
-  behind_names : (u : ℕ) (left : CoreExpr) (t : CoreTerm) → slice_get all u ≡ Some t → EachSym (IsSym g) t → NamesLeft u left → NamesLeft (u + 1) (behind u left t)
+  behind_names : (u : ℕ) (left : CoreExpr) (t : CoreTerm) → slice_get all u ≡ Some t → EachSym (IsSym g) t → NamesLeft u left
+      → NamesLeft (u + 1) (behind u left t)
   behind_names u left (core.Slot slot) e s h = end_names (u + 1) u slot.sym (subst IsSlotOrSwitch (sym e) tt) s
   behind_names u left (core.Set attr value) e s h = all_later u 1 left h
   behind_names u left (core.Test cond) e s h = all_later u 1 left h
@@ -229,6 +234,7 @@ module _ (g : Grammar) (all : List CoreTerm) where
       let term = term_of left t in
       let next = behind u left term in
       let head : slice_get all u ≡ Some term = ap (slice_get all) (let z : u ≡ u + 0 = omega arith in z) ∙ there 0 in
-      let move : (j : ℕ) → slice_get all (u + 1 + j) ≡ slice_get (terms_from (u + 1) next ts) j = λ j. ap (slice_get all) (let z : u + 1 + j ≡ u + suc j = omega arith in z) ∙ there (suc j) in
+      let move : (j : ℕ) → slice_get all (u + 1 + j) ≡ slice_get (terms_from (u + 1) next ts) j =
+      λ j. ap (slice_get all) (let z : u + 1 + j ≡ u + suc j = omega arith in z) ∙ there (suc j) in
       subst (λ n. NamesLeft n (left_at (u + 1) next ts i)) (let z : u + 1 + i ≡ u + suc i = omega arith in z)
       (left_names (u + 1) next ts i move syms.1 (behind_names u left term head (same_syms (IsSym g) left t syms.0) h))

@@ -34,7 +34,8 @@ left_more u left [] t = ap (λ k. behind k left (term_of left t)) (let z : u ≡
 left_more u left (x ∷ ts) t =
     let next = behind u left (term_of left x) in
     left_more (u + 1) next ts t
-    ∙ ap (λ k. behind k (left_past (u + 1) next ts) (term_of (left_past (u + 1) next ts) t)) (let z : u + 1 + length ts ≡ u + suc (length ts) = omega arith in z)
+    ∙ ap (λ k. behind k (left_past (u + 1) next ts) (term_of (left_past (u + 1) next ts) t))
+    (let z : u + 1 + length ts ≡ u + suc (length ts) = omega arith in z)
 
 -- the terms so far, and the `left` behind them
 pub record AreDone (ts : List NamedTerm) (left : CoreExpr) (made : List CoreTerm) : Type 0 where
@@ -47,7 +48,8 @@ so_many_done ts left made h = ap length h.made_is ∙ as_many 0 left_at_first ts
 pub none_done : AreDone [] left_at_first []
 none_done = record { made_is = refl; left_is = refl }
 
-pub one_done : (ts : List NamedTerm) (left : CoreExpr) (made : List CoreTerm) (t : NamedTerm) (number : ℕ) (term : CoreTerm) (next : CoreExpr) → AreDone ts left made
+pub one_done : (ts : List NamedTerm) (left : CoreExpr) (made : List CoreTerm) (t : NamedTerm) (number : ℕ) (term : CoreTerm) (next : CoreExpr)
+    → AreDone ts left made
     → number ≡ 0 + length ts → term ≡ term_of left t → next ≡ behind number left term → AreDone (ts ++ t ∷ []) next (made ++ term ∷ [])
 one_done ts left made t number term next h count is moved =
     let past = left_past 0 left_at_first ts in

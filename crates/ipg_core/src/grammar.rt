@@ -79,6 +79,7 @@ pub struct CoreSlot {
     pub to: CoreExpr,
 }
 
+/// A term of an alternative, its names resolved and its intervals complete.
 #[derive(Debug, Drop)]
 pub enum CoreTerm {
     Slot(CoreSlot),

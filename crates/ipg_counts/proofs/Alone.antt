@@ -1,5 +1,6 @@
 -- What is counted without a memo.
-use Rattle.std.proofs.Common.{◌≡◌, ◌≢◌, ℕ, zero, suc, ◌+◌, ◌≤◌, refl, sym, ap, ◌∙◌, subst, arith, List, [], ◌∷◌, ◌++◌, None, Result, Ok, Err, length, max, inl, inr}
+use Rattle.std.proofs.Common.{◌≡◌, ◌≢◌, ℕ, zero, suc, ◌+◌, ◌≤◌, refl, sym, ap, ◌∙◌, subst, arith, List, [], ◌∷◌, ◌++◌, None, Result, Ok, Err, length}
+use Rattle.std.proofs.Common.{max, inl, inr}
 use Rattle.ipg_core.specs.Grammar.{Grammar, rule_at, holder_of}
 use Rattle.ipg_core.specs.Part.{part}
 use Rattle.ipg_core.specs.Tree.{Tree}
@@ -7,7 +8,8 @@ use Rattle.ipg_core.specs.Environment.{Values}
 use Rattle.ipg_core.specs.Run.{Stop, NoTree, OutOfRange, Deep, Asked, Run}
 use Rattle.ipg_core.specs.Meaning.{den, rule_on}
 use Rattle.ipg_core.specs.Laws.{TurnsSuffice}
-use Rattle.ipg_moves.specs.Moves.{Key, OpenCall, Highest, Works, Holds, Evaluation, Tally, one_opened, Advance, at_hand, opened, turned, always, silent, asked_part, works, move, opening, ended}
+use Rattle.ipg_moves.specs.Moves.{Key, OpenCall, Highest, Works, Holds, Evaluation, Tally, one_opened, Advance, at_hand, opened, turned, always}
+use Rattle.ipg_moves.specs.Moves.{silent, asked_part, works, move, opening, ended}
 use Rattle.ipg_moves.specs.Laws.{ParsesByOneCall}
 use Rattle.ipg_counts.specs.Counts.{sum_over, most_over, count, nest}
 use Rattle.ipg_counts.specs.Laws.{CountsWithoutMemo}

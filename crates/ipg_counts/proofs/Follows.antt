@@ -1,5 +1,6 @@
 -- What holds of an open call by what its next move makes of it, holds by what its rule means and the calls that this makes.
-use Rattle.std.proofs.Common.{◌≡◌, ℕ, zero, suc, ◌+◌, ◌≤◌, ◌+ℤ◌, ◌-ℤ◌, pos, ℤ, refl, sym, ap, ◌∙◌, subst, arith, append-nil, List, [], ◌∷◌, ◌++◌, Option, Some, None, Result, Ok, Err, Bool, true, false, if◌then◌else◌, length, cond, negsuc}
+use Rattle.std.proofs.Common.{◌≡◌, ℕ, zero, suc, ◌+◌, ◌≤◌, ◌+ℤ◌, ◌-ℤ◌, pos, ℤ, refl, sym, ap, ◌∙◌, subst, arith, append-nil, List, [], ◌∷◌, ◌++◌}
+use Rattle.std.proofs.Common.{Option, Some, None, Result, Ok, Err, Bool, true, false, if◌then◌else◌, length, cond, negsuc}
 use Rattle.std.specs.Prelude.{slice_get, nat_le, ◌&&◌}
 use Rattle.std.proofs.lemmas.Bool.{leb-true, and_parts}
 use Rattle.std.proofs.lemmas.List.{append_assoc, append_cancel_left, length-append}
@@ -19,9 +20,11 @@ use Rattle.ipg_core.specs.Touch.{touches, ends_of}
 use Rattle.ipg_core.specs.Environment.{Values}
 use Rattle.ipg_core.specs.Eval.{eval, is_zero}
 use Rattle.ipg_core.specs.Run.{Stop, NoTree, OutOfRange, Deep, Asked, Run, finish, stop, after, go_on, ◌>>=◌, or_next, or_else, value_of, some_of}
-use Rattle.ipg_core.specs.Meaning.{Call, Frame, State, Place, start, with_kid, with_value, environment, value_in, slot_on, pick_on, items_on, times, item_on, kept, many_on, turns, repetition_on, term_on, terms_on, node_of, alt_on, alts_on, rule_run, rule_on, den}
+use Rattle.ipg_core.specs.Meaning.{Call, Frame, State, Place, start, with_kid, with_value, environment, value_in, slot_on, pick_on, items_on, times}
+use Rattle.ipg_core.specs.Meaning.{item_on, kept, many_on, turns, repetition_on, term_on, terms_on, node_of, alt_on, alts_on, rule_run, rule_on, den}
 use Rattle.ipg_core.specs.Laws.{TurnsSuffice}
-use Rattle.ipg_moves.specs.Moves.{Entry, Outside, Items, Turns, OpenCall, Highest, Works, Holds, lifted, advance, Advance, Inside, Past, array_on, repeated, key_at, runs_on, begins, alts_of, turned, at_hand, opened}
+use Rattle.ipg_moves.specs.Moves.{Entry, Outside, Items, Turns, OpenCall, Highest, Works, Holds, lifted, advance, Advance, Inside, Past, array_on}
+use Rattle.ipg_moves.specs.Moves.{repeated, key_at, runs_on, begins, alts_of, turned, at_hand, opened}
 
 pub value_asks : (a : Answer) → (value_of a).asked ≡ []
 unfolding finish stop

@@ -1,5 +1,6 @@
 -- A term at hand makes one call at most, and hangs on its answer alone.
-use Rattle.std.proofs.Common.{◌≡◌, ℕ, suc, ℤ, refl, sym, ap, ◌∙◌, List, [], ◌∷◌, Option, Some, None, Result, Ok, Err, Bool, true, false, if◌then◌else◌, ◌⊎◌, inl, inr, ◌++◌, length}
+use Rattle.std.proofs.Common.{◌≡◌, ℕ, suc, ℤ, refl, sym, ap, ◌∙◌, List, [], ◌∷◌, Option, Some, None, Result, Ok, Err, Bool, true, false}
+use Rattle.std.proofs.Common.{if◌then◌else◌, ◌⊎◌, inl, inr, ◌++◌, length}
 use Rattle.std.specs.Prelude.{slice_get}
 use Rattle.ipg_core.specs.declared.grammar.CoreTerm.{CoreTerm}
 use Rattle.ipg_core.specs.declared.grammar.CoreTerm.TheVariants.{Slot, Set, Test, Repeat, Many, Pick}

@@ -1,5 +1,6 @@
 -- A call of a global rule is passed no attributes.
-use Rattle.std.proofs.Common.{◌≡◌, ℕ, suc, ◌+◌, ℤ, sym, ap, subst, List, [], ◌∷◌, ◌++◌, Option, Some, None, Result, Ok, Err, Bool, true, false, if◌then◌else◌, length}
+use Rattle.std.proofs.Common.{◌≡◌, ℕ, suc, ◌+◌, ℤ, sym, ap, subst, List, [], ◌∷◌, ◌++◌, Option, Some, None, Result, Ok, Err, Bool, true, false}
+use Rattle.std.proofs.Common.{if◌then◌else◌, length}
 use Rattle.std.specs.List.{AllByRecursion}
 use Rattle.ipg_core.specs.declared.grammar.Primitive.{Primitive}
 use Rattle.ipg_core.specs.declared.grammar.Primitive.TheVariants.{Bytes}
@@ -14,7 +15,8 @@ use Rattle.ipg_core.specs.Part.{interval}
 use Rattle.ipg_core.specs.Environment.{Values}
 use Rattle.ipg_core.specs.Eval.{eval, is_zero}
 use Rattle.ipg_core.specs.Run.{Stop, Asked, Run, finish, stop, after, go_on, ◌>>=◌}
-use Rattle.ipg_core.specs.Meaning.{Frame, State, Place, environment, value_in, outer_for, ask, token_on, number_on, primitive_on, symbol_on, slot_on, item_end, item_on, pick_on}
+use Rattle.ipg_core.specs.Meaning.{Frame, State, Place, environment, value_in, outer_for, ask, token_on, number_on, primitive_on, symbol_on, slot_on}
+use Rattle.ipg_core.specs.Meaning.{item_end, item_on, pick_on}
 use Rattle.ipg_moves.specs.Moves.{Entry, Outside, Items, Turns, silent, parsed}
 use Rattle.ipg_counts.proofs.Follows.{value_asks, some_asks}
 

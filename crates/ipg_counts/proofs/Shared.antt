@@ -1,12 +1,14 @@
 -- What the calls of a call come to with a memo.
-use Rattle.std.proofs.Common.{◌≡◌, ◌≢◌, ℕ, zero, suc, ◌+◌, ◌≤◌, refl, sym, ap, ◌∙◌, subst, arith, List, [], ◌∷◌, ◌++◌, Option, Some, None, Result, Ok, Err, length, inl, inr}
+use Rattle.std.proofs.Common.{◌≡◌, ◌≢◌, ℕ, zero, suc, ◌+◌, ◌≤◌, refl, sym, ap, ◌∙◌, subst, arith, List, [], ◌∷◌, ◌++◌, Option, Some, None, Result, Ok}
+use Rattle.std.proofs.Common.{Err, length, inl, inr}
 use Rattle.ipg_core.specs.Grammar.{Grammar, rule_at, holder_of}
 use Rattle.ipg_core.specs.Part.{part}
 use Rattle.ipg_core.specs.Tree.{Tree}
 use Rattle.ipg_core.specs.Run.{Stop, NoTree, OutOfRange, Deep, Asked, Run}
 use Rattle.ipg_core.specs.Meaning.{den, rule_on}
 use Rattle.ipg_core.specs.Laws.{HeightsAgree, TurnsSuffice}
-use Rattle.ipg_moves.specs.Moves.{Key, OpenCall, Highest, Works, Holds, Known, Evaluation, Tally, one_opened, one_known, find, learned, Advance, at_hand, opened, turned, always, silent, asked_part, asked_key, asks, works, move}
+use Rattle.ipg_moves.specs.Moves.{Key, OpenCall, Highest, Works, Holds, Known, Evaluation, Tally, one_opened, one_known, find, learned, Advance}
+use Rattle.ipg_moves.specs.Moves.{at_hand, opened, turned, always, silent, asked_part, asked_key, asks, works, move}
 use Rattle.ipg_moves.specs.Laws.{ParsesByOneCall}
 use Rattle.ipg_counts.specs.Counts.{key_or, keys_over, keys_in, direct, Has}
 use Rattle.ipg_counts.proofs.Follows.{Holding, Steps, follows}
@@ -15,7 +17,8 @@ use Rattle.ipg_counts.proofs.Settled.{NotDeep, IsLast, not_deep, is_last}
 use Rattle.ipg_counts.proofs.Stays.{Goes, here, goes_by, goes_on}
 use Rattle.ipg_counts.proofs.Parts.{StandsAt, part_at, part_stands}
 use Rattle.ipg_counts.proofs.Heights.{keys_are}
-use Rattle.ipg_counts.proofs.Grown.{Reached, Grown, grown_none, grown_both, grown_hit, grown_opened, keys_with, TooDeep, learnt_none, learnt_back, fine_then, has_left, has_right}
+use Rattle.ipg_counts.proofs.Grown.{Reached, Grown, grown_none, grown_both, grown_hit, grown_opened, keys_with, TooDeep, learnt_none, learnt_back}
+use Rattle.ipg_counts.proofs.Grown.{fine_then, has_left, has_right}
 use Rattle.ipg_counts.proofs.Least.{least_of}
 use Rattle.ipg_counts.proofs.Landed.{evaluation, Home, Lands, back_here, lands_both, lands_after, Ready, fine_below, Counted}
 

@@ -1,5 +1,6 @@
 -- Each call that a rule makes is an edge's; on the whole part, the edge is reached.
-use Rattle.std.proofs.Common.{◌≡◌, ℕ, zero, suc, ◌+◌, refl, sym, ap, ◌∙◌, subst, arith, List, [], ◌∷◌, ◌++◌, append_assoc, Option, Some, None, Result, Ok, Err, length}
+use Rattle.std.proofs.Common.{◌≡◌, ℕ, zero, suc, ◌+◌, refl, sym, ap, ◌∙◌, subst, arith, List, [], ◌∷◌, ◌++◌, append_assoc, Option, Some, None, Result}
+use Rattle.std.proofs.Common.{Ok, Err, length}
 use Rattle.std.specs.Prelude.{slice_get, unwrap_or, Contains}
 use Rattle.std.specs.List.{AllByRecursion}
 use Rattle.std.proofs.lemmas.Option.{slice_get_within, unwrap_or-slice_get}

@@ -17,8 +17,11 @@ use Rattle.ipg_core.specs.Tree.{Tree, Kid}
 use Rattle.ipg_core.specs.Environment.{Values}
 use Rattle.ipg_core.specs.Eval.{is_zero, eval}
 use Rattle.ipg_core.specs.Run.{Stop, Asked, Run}
-use Rattle.ipg_core.specs.Meaning.{Call, Frame, State, Place, environment, value_in, outer_for, ask, token_on, number_on, primitive_on, symbol_on, slot_on, items_on, times, item_end, item_on, many_on, turns, repetition_on, pick_on, term_on, terms_on, start, alt_on, alts_on, rule_run, rule_on}
-use Rattle.ipg_ends.proofs.Settled.{Settled, Follows, follows_finish, follows_none, follows_value, follows_some, follows_chosen, follows_bind, follows_else, follows_kept}
+use Rattle.ipg_core.specs.Meaning.{Call, Frame, State, Place, environment, value_in, outer_for, ask, token_on, number_on, primitive_on, symbol_on}
+use Rattle.ipg_core.specs.Meaning.{slot_on, items_on, times, item_end, item_on, many_on, turns, repetition_on, pick_on, term_on, terms_on, start}
+use Rattle.ipg_core.specs.Meaning.{alt_on, alts_on, rule_run, rule_on}
+use Rattle.ipg_ends.proofs.Settled.{Settled, Follows, follows_finish, follows_none, follows_value, follows_some, follows_chosen, follows_bind}
+use Rattle.ipg_ends.proofs.Settled.{follows_else, follows_kept}
 
 -- what a logged call on these bytes answers
 abbrev pub reply : Call → List ℕ → Asked → Result Tree Stop

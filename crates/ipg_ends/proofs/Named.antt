@@ -1,5 +1,6 @@
 -- A call that a term asks is of one of its symbols, by the number of its branch.
-use Rattle.std.proofs.Common.{◌≡◌, ℕ, zero, suc, ◌+◌, refl, subst, arith, List, [], ◌∷◌, ◌++◌, Option, Some, None, Result, Ok, Err, Bool, true, false, if◌then◌else◌, length, ℤ, pos, ◌+ℤ◌, ◌-ℤ◌}
+use Rattle.std.proofs.Common.{◌≡◌, ℕ, zero, suc, ◌+◌, refl, subst, arith, List, [], ◌∷◌, ◌++◌, Option, Some, None, Result, Ok, Err, Bool, true, false}
+use Rattle.std.proofs.Common.{if◌then◌else◌, length, ℤ, pos, ◌+ℤ◌, ◌-ℤ◌}
 use Rattle.std.specs.Prelude.{slice_get, flat_map}
 use Rattle.std.specs.List.{AllByRecursion}
 use Rattle.ipg_num.specs.declared.op.Answer.{Answer}
@@ -18,7 +19,8 @@ use Rattle.ipg_core.specs.Touch.{touches, ends_of}
 use Rattle.ipg_core.specs.Environment.{Values}
 use Rattle.ipg_core.specs.Eval.{is_zero, eval}
 use Rattle.ipg_core.specs.Run.{Stop, NoTree, OutOfRange, Deep, Asked, Run, finish, stop, after, go_on, ◌>>=◌, or_next, or_else, value_of, some_of}
-use Rattle.ipg_core.specs.Meaning.{kept, Call, Frame, State, Place, environment, value_in, ask, token_on, number_on, primitive_on, symbol_on, slot_on, items_on, times, item_end, item_on, many_on, turns, repetition_on, pick_on, term_on}
+use Rattle.ipg_core.specs.Meaning.{kept, Call, Frame, State, Place, environment, value_in, ask, token_on, number_on, primitive_on, symbol_on, slot_on}
+use Rattle.ipg_core.specs.Meaning.{items_on, times, item_end, item_on, many_on, turns, repetition_on, pick_on, term_on}
 use Rattle.ipg_core.specs.Mention.{term_syms}
 use Rattle.ipg_ends.proofs.Lists.{all_join}
 

@@ -12,11 +12,19 @@ use Rattle.ipg_formats.proofs.EachLemmas.{length-each}
 
 length-elf : (n : ℕ) → length (elf.elf n) ≡ 64 + 65 * n
 unfolding elf.elf elf.file_header elf.section_header le16 le32 le64
-length-elf n = rw (length-append, length-each n 64 (λ i. elf.section_header (elf.section_for n i)) (λ i. refl), length-each n 1 (λ i. i % 256 ∷ []) (λ i. refl)) (omega arith)
+length-elf n = rw (
+  length-append,
+  length-each n 64 (λ i. elf.section_header (elf.section_for n i)) (λ i. refl),
+  length-each n 1 (λ i. i % 256 ∷ []) (λ i. refl),
+) (omega arith)
 
 length-pe : (n : ℕ) → length (pe.pe n) ≡ 200 + 41 * n
 unfolding pe.pe pe.dos_header pe.coff_header pe.optional_header pe.section_header le16 le32
-length-pe n = rw (length-append, length-each n 40 (λ i. pe.section_header (pe.section_for n i)) (λ i. refl), length-each n 1 (λ i. i % 256 ∷ []) (λ i. refl)) (omega arith)
+length-pe n = rw (
+  length-append,
+  length-each n 40 (λ i. pe.section_header (pe.section_for n i)) (λ i. refl),
+  length-each n 1 (λ i. i % 256 ∷ []) (λ i. refl),
+) (omega arith)
 
 length-gif : (n : ℕ) → length (gif.gif n) ≡ 29 + 5 * n
 unfolding gif.gif gif.screen gif.image le16

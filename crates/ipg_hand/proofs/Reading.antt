@@ -1,5 +1,6 @@
 -- What expressions read of an open call, by the rows of its results.
-use Rattle.std.proofs.Common.{◌≡◌, ◌≢◌, ℕ, zero, suc, ◌<◌, ℤ, refl, sym, ap, ◌∙◌, subst, arith, List, [], ◌∷◌, length, Option, Some, None, Bool, true, false, if◌then◌else◌}
+use Rattle.std.proofs.Common.{◌≡◌, ◌≢◌, ℕ, zero, suc, ◌<◌, ℤ, refl, sym, ap, ◌∙◌, subst, arith, List, [], ◌∷◌, length, Option, Some, None, Bool, true}
+use Rattle.std.proofs.Common.{false, if◌then◌else◌}
 use Rattle.std.specs.Prelude.{slice_set, nat_eq}
 use Rattle.std.proofs.lemmas.Bool.{eq-eqb}
 use Rattle.ipg_core.specs.declared.grammar.Sym.{Sym}

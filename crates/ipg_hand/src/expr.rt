@@ -34,7 +34,8 @@ pub struct Site<'m> {
 #[tactic(auto, unfolding(ipg_core::specs::Meaning::value_in))]
 pub fn value<R: Results>(tables: &Tables, results: &R, expr: Span, area: &mut [i64]) -> Answer
     requires { tables.now.depth ≤ length area.now }
-    ensures value { (f : Frame) (state : State) (item : Option ℤ) (e : CoreExpr) → R.stands results.now (environment f state item) → HoldsExpr tables.now expr e → spec.value_in f state item e ≡ value_of result }
+    ensures value { (f : Frame) (state : State) (item : Option ℤ) (e : CoreExpr) → R.stands results.now (environment f state item)
+        → HoldsExpr tables.now expr e → spec.value_in f state item e ≡ value_of result }
     ensures sized { IsSized result }
     ensures area { length area.new ≡ length area.old }
 {
@@ -48,7 +49,9 @@ pub fn value<R: Results>(tables: &Tables, results: &R, expr: Span, area: &mut [i
 /// A symbol between two values, where they are the ends of an interval.
 fn slot_between(site: &Site<'_>, sym: u32, from: i64, to: i64) -> Found
     requires { length site.now.bytes.now ≡ site.now.size }
-    ensures { (src : Source) (st : Stored) (at : ℕ) (f : Frame) (place : Place) (state : State) (slot : CoreSlot) → slice_get site.now.tables.now.syms sym ≡ Some slot.sym → Shares src at f site.now.tables.now site.now.bytes.now → IsFound src st at f state.own result (found.slot_between f place state slot from to) }
+    ensures { (src : Source) (st : Stored) (at : ℕ) (f : Frame) (place : Place) (state : State) (slot : CoreSlot)
+        → slice_get site.now.tables.now.syms sym ≡ Some slot.sym → Shares src at f site.now.tables.now site.now.bytes.now
+        → IsFound src st at f state.own result (found.slot_between f place state slot from to) }
 {
     match interval(site.size, from, to) {
         Some(ends) => symbol(site.tables, site.bytes, sym, ends),
@@ -66,7 +69,9 @@ fn slot_from<R: Results>(
 ) -> Found
     requires depth { site.now.tables.now.depth ≤ length area.now }
     requires size { length site.now.bytes.now ≡ site.now.size }
-    ensures found { (src : Source) (st : Stored) (at : ℕ) (f : Frame) (place : Place) (state : State) (item : Option ℤ) (slot : CoreSlot) → R.stands results.now (environment f state item) → HoldsSlot site.now.tables.now row slot → Shares src at f site.now.tables.now site.now.bytes.now → IsFound src st at f state.own result (found.slot_from f place state item slot from) }
+    ensures found { (src : Source) (st : Stored) (at : ℕ) (f : Frame) (place : Place) (state : State) (item : Option ℤ) (slot : CoreSlot)
+        → R.stands results.now (environment f state item) → HoldsSlot site.now.tables.now row slot
+        → Shares src at f site.now.tables.now site.now.bytes.now → IsFound src st at f state.own result (found.slot_from f place state item slot from) }
     ensures area { length area.new ≡ length area.old }
 {
     match value(site.tables, results, row.to, area) {
@@ -80,7 +85,9 @@ fn slot_from<R: Results>(
 pub fn slot<R: Results>(site: &Site<'_>, results: &R, row: SlotRow, area: &mut [i64]) -> Found
     requires depth { site.now.tables.now.depth ≤ length area.now }
     requires size { length site.now.bytes.now ≡ site.now.size }
-    ensures found { (src : Source) (st : Stored) (at : ℕ) (f : Frame) (place : Place) (state : State) (item : Option ℤ) (slot : CoreSlot) → R.stands results.now (environment f state item) → HoldsSlot site.now.tables.now row slot → Shares src at f site.now.tables.now site.now.bytes.now → IsFound src st at f state.own result (spec.slot_on silent f place state item slot) }
+    ensures found { (src : Source) (st : Stored) (at : ℕ) (f : Frame) (place : Place) (state : State) (item : Option ℤ) (slot : CoreSlot)
+        → R.stands results.now (environment f state item) → HoldsSlot site.now.tables.now row slot
+        → Shares src at f site.now.tables.now site.now.bytes.now → IsFound src st at f state.own result (spec.slot_on silent f place state item slot) }
     ensures area { length area.new ≡ length area.old }
 {
     match value(site.tables, results, row.from, area) {
@@ -119,7 +126,10 @@ pub fn pick<R: Results>(
 ) -> Found
     requires depth { site.now.tables.now.depth ≤ length area.now }
     requires size { length site.now.bytes.now ≡ site.now.size }
-    ensures found { (src : Source) (st : Stored) (at : ℕ) (f : Frame) (place : Place) (state : State) (branches : List (CoreExpr × CoreSlot)) (last : CoreSlot) → R.stands results.now (environment f state None) → Each (HoldsCase site.now.tables.now) cases.now branches → HoldsSlot site.now.tables.now other last → Shares src at f site.now.tables.now site.now.bytes.now → IsFound src st at f state.own result (spec.pick_on silent f place state branches last) }
+    ensures found { (src : Source) (st : Stored) (at : ℕ) (f : Frame) (place : Place) (state : State) (branches : List (CoreExpr × CoreSlot))
+        (last : CoreSlot) → R.stands results.now (environment f state None) → Each (HoldsCase site.now.tables.now) cases.now branches
+        → HoldsSlot site.now.tables.now other last → Shares src at f site.now.tables.now site.now.bytes.now
+        → IsFound src st at f state.own result (spec.pick_on silent f place state branches last) }
     ensures area { length area.new ≡ length area.old }
 {
     let mut left = cases;
@@ -142,7 +152,9 @@ pub fn pick<R: Results>(
 pub fn turn(site: &Site<'_>, sym: u32, from: u32, to: u32) -> Found
     requires inside { (from ≤ to) × (to ≤ site.now.size) }
     requires size { length site.now.bytes.now ≡ site.now.size }
-    ensures { (src : Source) (st : Stored) (at : ℕ) (f : Frame) (place : Place) (own : Values) (one : Sym) → slice_get site.now.tables.now.syms sym ≡ Some one → Shares src at f site.now.tables.now site.now.bytes.now → IsFound src st at f own result (spec.item_on silent f place own from to one) }
+    ensures { (src : Source) (st : Stored) (at : ℕ) (f : Frame) (place : Place) (own : Values) (one : Sym)
+        → slice_get site.now.tables.now.syms sym ≡ Some one → Shares src at f site.now.tables.now site.now.bytes.now
+        → IsFound src st at f own result (spec.item_on silent f place own from to one) }
 {
     match end_of(site.tables, sym, from, to) {
         Some(end) => symbol(site.tables, site.bytes, sym, (from, end)),

@@ -2,6 +2,7 @@
 
 use ipg_nodes::Kid;
 
+/// What a slot comes to: a child, a call that must be made first, or the end of its alternative.
 #[derive(Clone, Copy, Debug, PartialEq, Eq)]
 pub enum Found {
     /// A child.

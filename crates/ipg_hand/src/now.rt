@@ -85,7 +85,8 @@ impl<'m, A: Allocator + Clone + Drop> Now<'m, A> {
 
     /// The items of an array or a repetition that has run.
     fn items_done(&self, term: u32) -> &[Kid]
-        ensures { (src : Source) (at : ℕ) (results : List (Option core.Done)) → HasRun (lent self.now) src at results → ItemsStand (lent self.now) result.now (core.items_so_far (core.done_at results term)) }
+        ensures { (src : Source) (at : ℕ) (results : List (Option core.Done)) → HasRun (lent self.now) src at results
+            → ItemsStand (lent self.now) result.now (core.items_so_far (core.done_at results term)) }
     {
         match self.done_at(term) {
             Some(done) => items_of(self.store, done.kid),
@@ -95,7 +96,8 @@ impl<'m, A: Allocator + Clone + Drop> Now<'m, A> {
 
     /// A field of the result of a term that has run, read by a symbol.
     fn seen_done(&self, term: u32, sym: &Sym, field: CoreField) -> Option<i64>
-        ensures { (src : Source) (at : ℕ) (results : List (Option core.Done)) (g : Grammar) → StandFor self.now.tables.now g → HasRun (lent self.now) src at results → result ≡ core.seen g.names sym.now field (core.done_at results term) }
+        ensures { (src : Source) (at : ℕ) (results : List (Option core.Done)) (g : Grammar) → StandFor self.now.tables.now g
+            → HasRun (lent self.now) src at results → result ≡ core.seen g.names sym.now field (core.done_at results term) }
     {
         within_is_short();
         match self.done_at(term) {

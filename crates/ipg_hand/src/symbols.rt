@@ -109,7 +109,9 @@ fn halves(prim: Primitive, bytes: &[u8]) -> (u32, u32)
 /// A terminal, the symbol of that number, where the bytes begin with it.
 #[tactic(auto, unfolding(ipg_core::specs::Meaning::token_on, ipg_core::specs::Run::finish, ipg_core::specs::Run::stop))]
 fn token(sym: u32, ends: (u32, u32), bytes: &[u8], token: &[u8]) -> Found
-    ensures { (src : Source) (st : Stored) (at : ℕ) (f : Frame) (own : Values) → slice_get src.syms sym ≡ Some (Text token.now) → IsInterval (length f.bytes) ends.0 ends.1 → length bytes.now ≡ ends.1 - ends.0 → IsFound src st at f own result (spec.token_on ends.0 ends.1 bytes.now token.now) }
+    ensures { (src : Source) (st : Stored) (at : ℕ) (f : Frame) (own : Values) → slice_get src.syms sym ≡ Some (Text token.now)
+        → IsInterval (length f.bytes) ends.0 ends.1 → length bytes.now ≡ ends.1 - ends.0
+        → IsFound src st at f own result (spec.token_on ends.0 ends.1 bytes.now token.now) }
 {
     if bytes.starts_with(token) {
         Found::Kid(Kid::Text {
@@ -125,7 +127,8 @@ fn token(sym: u32, ends: (u32, u32), bytes: &[u8], token: &[u8]) -> Found
 /// A number, where there are enough bytes.
 #[tactic(auto, unfolding(ipg_core::specs::Meaning::number_on, ipg_core::specs::Run::finish, ipg_core::specs::Run::stop))]
 fn number(prim: Primitive, ends: (u32, u32), bytes: &[u8]) -> Found
-    ensures { (src : Source) (st : Stored) (at : ℕ) (f : Frame) (own : Values) → IsInterval (length f.bytes) ends.0 ends.1 → length bytes.now ≡ ends.1 - ends.0 → IsFound src st at f own result (spec.number_on ends.0 ends.1 bytes.now prim) }
+    ensures { (src : Source) (st : Stored) (at : ℕ) (f : Frame) (own : Values) → IsInterval (length f.bytes) ends.0 ends.1
+        → length bytes.now ≡ ends.1 - ends.0 → IsFound src st at f own result (spec.number_on ends.0 ends.1 bytes.now prim) }
 {
     if bytes.len() < width(prim) as usize {
         return Found::NoTree;
@@ -143,7 +146,9 @@ fn number(prim: Primitive, ends: (u32, u32), bytes: &[u8]) -> Found
 /// A number, or all the bytes unread.
 #[tactic(auto, unfolding(ipg_core::specs::Run::finish))]
 fn primitive(prim: Primitive, ends: (u32, u32), bytes: &[u8]) -> Found
-    ensures { (src : Source) (st : Stored) (at : ℕ) (f : Frame) (own : Values) → part.part src.input (at + ends.0) (at + ends.1) ≡ bytes.now → IsInterval (length f.bytes) ends.0 ends.1 → length bytes.now ≡ ends.1 - ends.0 → IsFound src st at f own result (spec.primitive_on ends.0 ends.1 bytes.now prim) }
+    ensures { (src : Source) (st : Stored) (at : ℕ) (f : Frame) (own : Values) → part.part src.input (at + ends.0) (at + ends.1) ≡ bytes.now
+        → IsInterval (length f.bytes) ends.0 ends.1 → length bytes.now ≡ ends.1 - ends.0
+        → IsFound src st at f own result (spec.primitive_on ends.0 ends.1 bytes.now prim) }
 {
     match prim {
         Primitive::Bytes => Found::Kid(Kid::Raw {
@@ -163,7 +168,8 @@ fn primitive(prim: Primitive, ends: (u32, u32), bytes: &[u8]) -> Found
 /// A call that is to be made.
 #[tactic(auto, using(crate::proofs::Calling::rule_calls))]
 fn call(rule: u32, ends: (u32, u32)) -> Found
-    ensures { (src : Source) (st : Stored) (at : ℕ) (f : Frame) (place : Place) (own : Values) → IsInterval (length f.bytes) ends.0 ends.1 → IsFound src st at f own result (spec.symbol_on silent f place own ends.0 ends.1 (Rule rule)) }
+    ensures { (src : Source) (st : Stored) (at : ℕ) (f : Frame) (place : Place) (own : Values) → IsInterval (length f.bytes) ends.0 ends.1
+        → IsFound src st at f own result (spec.symbol_on silent f place own ends.0 ends.1 (Rule rule)) }
 {
     Found::Call {
         rule,
@@ -175,7 +181,9 @@ fn call(rule: u32, ends: (u32, u32)) -> Found
 /// A symbol on a valid interval of a part.
 pub(crate) fn symbol(tables: &Tables, bytes: &[u8], sym: u32, ends: (u32, u32)) -> Found
     requires { (ends.0 ≤ ends.1) × (ends.1 ≤ length bytes.now) }
-    ensures { (src : Source) (st : Stored) (at : ℕ) (f : Frame) (place : Place) (own : Values) (one : Sym) → src.syms ≡ tables.now.syms → slice_get tables.now.syms sym ≡ Some one → f.bytes ≡ bytes.now → LiesAt src.input at bytes.now → IsFound src st at f own result (spec.symbol_on silent f place own ends.0 ends.1 one) }
+    ensures { (src : Source) (st : Stored) (at : ℕ) (f : Frame) (place : Place) (own : Values) (one : Sym) → src.syms ≡ tables.now.syms
+        → slice_get tables.now.syms sym ≡ Some one → f.bytes ≡ bytes.now → LiesAt src.input at bytes.now
+        → IsFound src st at f own result (spec.symbol_on silent f place own ends.0 ends.1 one) }
 {
     let part = &bytes[ends.0 as usize..ends.1 as usize];
     match tables.symbol_at(sym) {

@@ -1,5 +1,6 @@
 -- The tokens of a canonical text, token after token.
-use Rattle.std.proofs.Common.{◌≡◌, ℕ, ◌+◌, ◌^◌, Bool, true, false, List, [], ◌∷◌, ◌++◌, Ok, Err, length, cond, refl, ap, ◌∙◌, sym, arith, true≢false, le-ltb, drop_at}
+use Rattle.std.proofs.Common.{◌≡◌, ℕ, ◌+◌, ◌^◌, Bool, true, false, List, [], ◌∷◌, ◌++◌, Ok, Err, length, cond, refl, ap, ◌∙◌, sym, arith, true≢false}
+use Rattle.std.proofs.Common.{le-ltb, drop_at}
 use Rattle.std.specs.List.{AllByRecursion}
 use Rattle.std.proofs.lemmas.Bool.Decides.{nat_tests}
 use Rattle.ipg_ast.specs.declared.token.TokenKind.{TokenKind}

@@ -6,7 +6,8 @@ use Rattle.std.proofs.lemmas.Bool.{eqb-true}
 use Rattle.std.proofs.lemmas.Bool.Decides.{nat_tests}
 use Rattle.ipg_tokens.specs.declared.front.Front.TheVariants.{Blank}
 use Rattle.ipg_tokens.specs.declared.class.Class.TheVariants.{White, Naming}
-use Rattle.ipg_tokens.specs.Lexical.{in_class, run, is_white, is_letter, is_digit, is_prefixed, is_single, is_pair, is_same, is_one_of, reserved, front_at, name_front, number_front, symbol_front}
+use Rattle.ipg_tokens.specs.Lexical.{in_class, run, is_white, is_letter, is_digit, is_prefixed, is_single, is_pair, is_same, is_one_of, reserved}
+use Rattle.ipg_tokens.specs.Lexical.{front_at, name_front, number_front, symbol_front}
 use Rattle.ipg_tokens.specs.Shaped.{is_name}
 
 pub both : (a b : Bool) → (a && b) ≡ true → (a ≡ true) × (b ≡ true)

@@ -1,5 +1,6 @@
 -- A whole text, piece after piece.
-use Rattle.std.proofs.Common.{◌≡◌, ◌≢◌, ℕ, zero, suc, ◌+◌, ◌≤◌, ◌<◌, ◌^◌, List, [], ◌∷◌, ◌++◌, Ok, Err, drop, length, cond, refl, ap, ◌∙◌, sym, subst, arith, inl, inr, ◌⊎◌, le-ltb}
+use Rattle.std.proofs.Common.{◌≡◌, ◌≢◌, ℕ, zero, suc, ◌+◌, ◌≤◌, ◌<◌, ◌^◌, List, [], ◌∷◌, ◌++◌, Ok, Err, drop, length, cond, refl, ap, ◌∙◌, sym, subst}
+use Rattle.std.proofs.Common.{arith, inl, inr, ◌⊎◌, le-ltb}
 use Rattle.std.proofs.lemmas.Bool.{cases_lt, lt-ltb}
 use Rattle.ipg_tokens.specs.declared.token.Token.{Token}
 use Rattle.ipg_tokens.specs.declared.fault.ReadFault.TheVariants.{TooLong, Lex, Number}

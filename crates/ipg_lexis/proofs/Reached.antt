@@ -1,5 +1,6 @@
 -- What is spelled at the front is taken, at least.
-use Rattle.std.proofs.Common.{◌≡◌, ℕ, suc, ◌+◌, ◌≤◌, true, ◌&&◌, ◌||◌, List, [], ◌∷◌, ◌++◌, Option, Some, None, take, drop, length, refl, ap, ◌∙◌, sym, subst, arith, inl, inr, true≢false}
+use Rattle.std.proofs.Common.{◌≡◌, ℕ, suc, ◌+◌, ◌≤◌, true, ◌&&◌, ◌||◌, List, [], ◌∷◌, ◌++◌, Option, Some, None, take, drop, length, refl, ap, ◌∙◌}
+use Rattle.std.proofs.Common.{sym, subst, arith, inl, inr, true≢false}
 use Rattle.std.specs.Prelude.{ℤ, codes, pos, negsuc}
 use Rattle.std.specs.List.{list_all}
 use Rattle.std.proofs.lemmas.List.{take-append-drop, length-take-le}
@@ -7,7 +8,8 @@ use Rattle.ipg_ast.specs.declared.token.TokenKind.TheVariants.{Name, Word, Numbe
 use Rattle.ipg_tokens.specs.declared.front.Front.{Front}
 use Rattle.ipg_tokens.specs.declared.front.Front.TheVariants.{Nothing, Blank, Large, Token as Begins}
 use Rattle.ipg_tokens.specs.declared.class.Class.TheVariants.{White, Comment, Naming, Digit, Hexadecimal}
-use Rattle.ipg_tokens.specs.Lexical.{in_class, run, is_white, is_letter, is_digit, is_hexadecimal, is_prefixed, is_pair, is_single, front_of_value, text_front, symbol_front, front_of}
+use Rattle.ipg_tokens.specs.Lexical.{in_class, run, is_white, is_letter, is_digit, is_hexadecimal, is_prefixed, is_pair, is_single, front_of_value}
+use Rattle.ipg_tokens.specs.Lexical.{text_front, symbol_front, front_of}
 use Rattle.ipg_tokens.specs.Shaped.{is_name, is_symbol}
 use Rattle.ipg_lexis.specs.Forms.{SomeOf, Numeral, Closes, IsSpelled, IsBlank, NoneBeyond}
 use Rattle.ipg_lexis.proofs.Bytes.{both, choose, white_front, letter_front, digit_front, single_front_at, pair_single, no_mark, not_mark, reserved_name}

@@ -1,5 +1,6 @@
 -- What is written of a token begins that token.
-use Rattle.std.proofs.Common.{◌≡◌, ℕ, ◌+◌, ◌-◌, ◌*◌, ◌/◌, ◌%◌, ◌^◌, ◌<◌, ◌⊎◌, true, false, not, ◌&&◌, ◌||◌, ◌==◌, List, [], ◌∷◌, ◌++◌, Some, None, take, drop, length, cond, refl, ap, append_assoc, ◌∙◌, sym, arith, inl, inr, true≢false, decimal}
+use Rattle.std.proofs.Common.{◌≡◌, ℕ, ◌+◌, ◌-◌, ◌*◌, ◌/◌, ◌%◌, ◌^◌, ◌<◌, ◌⊎◌, true, false, not, ◌&&◌, ◌||◌, ◌==◌, List, [], ◌∷◌, ◌++◌, Some, None}
+use Rattle.std.proofs.Common.{take, drop, length, cond, refl, ap, append_assoc, ◌∙◌, sym, arith, inl, inr, true≢false, decimal}
 use Rattle.std.specs.Prelude.{ℤ, pos, negsuc, if◌then◌else◌, nat_lt}
 use Rattle.std.specs.List.{list_all}
 use Rattle.std.specs.Fmt.{signed_decimal}
@@ -15,10 +16,12 @@ use Rattle.ipg_ast.specs.Canonical.{hex_digit, is_plain, byte_text, bytes_text, 
 use Rattle.ipg_tokens.specs.declared.class.Class.{Class}
 use Rattle.ipg_tokens.specs.declared.class.Class.TheVariants.{Naming, Digit}
 use Rattle.ipg_tokens.specs.declared.front.Front.TheVariants.{Nothing, Token as Begins}
-use Rattle.ipg_tokens.specs.Lexical.{in_class, run, is_digit, is_hexadecimal, digit_value, value, below_limit, front_of_value, is_prefixed, decimal_front, hexadecimal_front, is_one_of, reserved, word, text_front, single_front, front_of}
+use Rattle.ipg_tokens.specs.Lexical.{in_class, run, is_digit, is_hexadecimal, digit_value, value, below_limit, front_of_value, is_prefixed}
+use Rattle.ipg_tokens.specs.Lexical.{decimal_front, hexadecimal_front, is_one_of, reserved, word, text_front, single_front, front_of}
 use Rattle.ipg_tokens.specs.Shaped.{is_name, is_symbol, is_byte, is_literal, IsToken}
 use Rattle.ipg_lexis.specs.Forms.{Stands, plain, escaped, coded, Closes}
-use Rattle.ipg_lexis.proofs.Bytes.{both, choose, letter_front, digit_front, single_front_at, pair_single, no_pair, gap_naming, reserved_name, no_mark, not_mark, not_both}
+use Rattle.ipg_lexis.proofs.Bytes.{both, choose, letter_front, digit_front, single_front_at, pair_single, no_pair, gap_naming, reserved_name, no_mark}
+use Rattle.ipg_lexis.proofs.Bytes.{not_mark, not_both}
 use Rattle.ipg_lexis.proofs.Texts.{closes_read}
 
 abbrev pub IsGap : ℕ → Type 0

@@ -1,5 +1,6 @@
 -- What is taken at the front is spelled there.
-use Rattle.std.proofs.Common.{◌≡◌, ◌≢◌, ℕ, suc, ◌+◌, ◌≤◌, ◌^◌, true, not, ◌&&◌, ◌||◌, ◌==◌, List, [], ◌∷◌, ◌++◌, Option, Some, None, take, drop, length, refl, ap, ◌∙◌, sym, subst, arith, inl, inr, true≢false}
+use Rattle.std.proofs.Common.{◌≡◌, ◌≢◌, ℕ, suc, ◌+◌, ◌≤◌, ◌^◌, true, not, ◌&&◌, ◌||◌, ◌==◌, List, [], ◌∷◌, ◌++◌, Option, Some, None, take, drop}
+use Rattle.std.proofs.Common.{length, refl, ap, ◌∙◌, sym, subst, arith, inl, inr, true≢false}
 use Rattle.std.specs.Prelude.{nat_lt, codes, pos}
 use Rattle.std.specs.List.{list_all}
 use Rattle.std.proofs.lemmas.Bool.{eqb-true, ltb-false}
@@ -8,7 +9,9 @@ use Rattle.ipg_tokens.specs.declared.front.Front.{Front}
 use Rattle.ipg_tokens.specs.declared.front.Front.TheVariants.{Nothing, Blank, Large, Token as Begins}
 use Rattle.ipg_tokens.specs.declared.class.Class.{Class}
 use Rattle.ipg_tokens.specs.declared.class.Class.TheVariants.{White, Comment, Naming, Digit, Hexadecimal}
-use Rattle.ipg_tokens.specs.Lexical.{Quoted, quoted, in_class, run, is_white, is_letter, is_digit, is_hexadecimal, is_prefixed, is_pair, is_single, is_one_of, reserved, value, below_limit, front_of_value, hexadecimal_front, number_front, text_front, symbol_front, single_front, name_front, front_of}
+use Rattle.ipg_tokens.specs.Lexical.{Quoted, quoted, in_class, run, is_white, is_letter, is_digit, is_hexadecimal, is_prefixed, is_pair, is_single}
+use Rattle.ipg_tokens.specs.Lexical.{is_one_of, reserved, value, below_limit, front_of_value, hexadecimal_front, number_front, text_front}
+use Rattle.ipg_tokens.specs.Lexical.{symbol_front, single_front, name_front, front_of}
 use Rattle.ipg_tokens.specs.Shaped.{IsToken, is_name}
 use Rattle.ipg_lexis.specs.Forms.{SomeOf, Numeral, Spells, IsBlank}
 use Rattle.ipg_lexis.proofs.Bytes.{both, choose}

@@ -133,6 +133,7 @@ impl Linear {
         self.terms.as_slice()
     }
 
+    /// The number that is added to the terms.
     pub fn constant(&self) -> i64
         ensures { result ≡ self.now.constant }
     {

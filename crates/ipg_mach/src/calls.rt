@@ -45,8 +45,13 @@ impl<'m, A: Allocator + Clone + Drop> Top<'m, A> {
     /// Where the attributes stand that a rule called from here may read as its holder's: none for a global rule, those so
     /// far for a local rule of this alternative, and the holder's own for one of the same holder.
     pub fn outer(&self, holder: Option<(u32, u32)>) -> Outer
-        ensures outer { (f : meaning.Frame) (own : Values) → f.rule ≡ self.now.frame.rule → f.alt ≡ self.now.frame.alt → own ≡ (above self.now.piles self.now.frame.base).own → f.outer ≡ between (below self.now.piles self.now.frame.base).own self.now.frame.outer.from self.now.frame.outer.to → self.now.frame.outer.to ≤ length (below self.now.piles self.now.frame.base).own → IsBase self.now.piles self.now.frame.base → outer_for f own holder ≡ between self.now.piles.own result.from result.to }
-        ensures inside { self.now.frame.outer.to ≤ length (below self.now.piles self.now.frame.base).own → IsBase self.now.piles self.now.frame.base → result.to ≤ length self.now.piles.own }
+        ensures outer { (f : meaning.Frame) (own : Values) → f.rule ≡ self.now.frame.rule → f.alt ≡ self.now.frame.alt
+            → own ≡ (above self.now.piles self.now.frame.base).own
+            → f.outer ≡ between (below self.now.piles self.now.frame.base).own self.now.frame.outer.from self.now.frame.outer.to
+            → self.now.frame.outer.to ≤ length (below self.now.piles self.now.frame.base).own → IsBase self.now.piles self.now.frame.base
+            → outer_for f own holder ≡ between self.now.piles.own result.from result.to }
+        ensures inside { self.now.frame.outer.to ≤ length (below self.now.piles self.now.frame.base).own → IsBase self.now.piles self.now.frame.base
+            → result.to ≤ length self.now.piles.own }
     {
         match holder {
             None => Outer { from: 0, to: 0 },
@@ -65,7 +70,9 @@ impl<'m, A: Allocator + Clone + Drop> Top<'m, A> {
 
     /// Makes a call: its first alternative begins.
     pub fn open(&mut self, tables: &'m Tables, new: NewCall) -> Result<(), AllocError>
-        ensures highest { (src : Source) (frames : List Frame) (lower : List OpenCall) (f : meaning.Frame) (from : ℕ) → IsNew tables.now src (shown self.old) frames lower new f from → OnOk result (IsHighest tables.now src (shown self.new) frames lower (begins f from (moves.alts_of (rule_at f.grammar f.rule)))) }
+        ensures highest { (src : Source) (frames : List Frame) (lower : List OpenCall) (f : meaning.Frame) (from : ℕ)
+            → IsNew tables.now src (shown self.old) frames lower new f from
+            → OnOk result (IsHighest tables.now src (shown self.new) frames lower (begins f from (moves.alts_of (rule_at f.grammar f.rule)))) }
         ensures keeps { IsMark self.old.store self.old.floor → OnOk result (Keeps (shown self.old) (shown self.new)) }
     {
         self.frame = Frame {
@@ -86,8 +93,12 @@ impl<'m, A: Allocator + Clone + Drop> Top<'m, A> {
 
     /// The call below goes on, which waited for this one.
     pub fn resume(&mut self, tables: &Tables, caller: Frame<'m>)
-        ensures working { (src : Source) (frames rest : List Frame) (lower : List OpenCall) (c : OpenCall) (key : Key) (answer : Result Tree Stop) → IsHolding tables.now src (shown self.old) frames (c ∷ lower) key answer → frames ≡ rest ++ caller.entry ∷ [] → IsWorking tables.now src (shown self.new) rest lower c }
-        ensures awaits { (src : Source) (frames rest : List Frame) (lower : List OpenCall) (c : OpenCall) (key : Key) (answer : Result Tree Stop) → IsHolding tables.now src (shown self.old) frames (c ∷ lower) key answer → frames ≡ rest ++ caller.entry ∷ [] → Awaits self.new.frame c self.old.frame.from self.old.frame.to }
+        ensures working { (src : Source) (frames rest : List Frame) (lower : List OpenCall) (c : OpenCall) (key : Key) (answer : Result Tree Stop)
+            → IsHolding tables.now src (shown self.old) frames (c ∷ lower) key answer → frames ≡ rest ++ caller.entry ∷ []
+            → IsWorking tables.now src (shown self.new) rest lower c }
+        ensures awaits { (src : Source) (frames rest : List Frame) (lower : List OpenCall) (c : OpenCall) (key : Key) (answer : Result Tree Stop)
+            → IsHolding tables.now src (shown self.old) frames (c ∷ lower) key answer → frames ≡ rest ++ caller.entry ∷ []
+            → Awaits self.new.frame c self.old.frame.from self.old.frame.to }
         ensures store { self.new.store ≡ self.old.store }
         ensures floor { self.new.floor ≡ self.old.floor }
         ensures frame { self.new.frame ≡ caller.entry }

@@ -14,7 +14,8 @@ use std::alloc::{AllocError, Allocator};
 
 /// The answer that is known of a call.
 pub(crate) fn known<A: Allocator + Clone + Drop>(memo: &Option<Memo<A>>, key: Key) -> Option<Entry>
-    ensures { (src : Source) (st : Stored) (known : Option Known) → IsKnown src st memo.now known → IsEntryOf src st key result (moves.known_of known (key_of key)) }
+    ensures { (src : Source) (st : Stored) (known : Option Known) → IsKnown src st memo.now known
+        → IsEntryOf src st key result (moves.known_of known (key_of key)) }
 {
     match memo {
         Some(memo) => memo.get(key),
@@ -29,7 +30,9 @@ fn add<A: Allocator + Clone + Drop>(
     key: Key,
     entry: Entry,
 ) -> Result<(), AllocError>
-    ensures { (src : Source) (st : Stored) (known : Known) (answer : Result Tree Stop) → IsKnown src st (Some memo.old) (Some known) → IsEntryOf src st key (Some entry) (Some answer) → OnOk result (IsKnown src st (Some memo.new) (Some (moves.learned holder known (key_of key) answer))) }
+    ensures { (src : Source) (st : Stored) (known : Known) (answer : Result Tree Stop) → IsKnown src st (Some memo.old) (Some known)
+        → IsEntryOf src st key (Some entry) (Some answer)
+        → OnOk result (IsKnown src st (Some memo.new) (Some (moves.learned holder known (key_of key) answer))) }
 {
     match holder {
         Some(_) => Ok(()),
@@ -44,7 +47,9 @@ pub(crate) fn learn<A: Allocator + Clone + Drop>(
     key: Key,
     entry: Entry,
 ) -> Result<(), AllocError>
-    ensures { (src : Source) (st : Stored) (g : Grammar) (known : Option Known) (answer : Result Tree Stop) → IsKnown src st memo.old known → IsEntryOf src st key (Some entry) (Some answer) → holder ≡ holder_of (rule_at g key.rule) → OnOk result (IsKnown src st memo.new (moves.learn g known (key_of key) answer)) }
+    ensures { (src : Source) (st : Stored) (g : Grammar) (known : Option Known) (answer : Result Tree Stop) → IsKnown src st memo.old known
+        → IsEntryOf src st key (Some entry) (Some answer) → holder ≡ holder_of (rule_at g key.rule)
+        → OnOk result (IsKnown src st memo.new (moves.learn g known (key_of key) answer)) }
 {
     match memo {
         Some(memo) => add(memo, holder, key, entry),

@@ -82,7 +82,8 @@ fn first_call<'m, A: Allocator + Clone + Drop>(
     tables: &'m Tables,
     size: u32,
 ) -> Result<Top<'m, A>, AllocError>
-    ensures highest { IfOk result (λ top. (g : Grammar) (input : List ℕ) → StandFor tables.now g → length input ≡ size → IsHighest tables.now (source tables.now input) (shown top) [] [] (opened g 0 input 0 [])) }
+    ensures highest { IfOk result (λ top. (g : Grammar) (input : List ℕ) → StandFor tables.now g → length input ≡ size
+        → IsHighest tables.now (source tables.now input) (shown top) [] [] (opened g 0 input 0 [])) }
     ensures floor { IfOk result (λ top. IsMark top.store top.floor × (before top.store top.floor ≡ store)) }
 {
     let mark = store.mark();
@@ -127,7 +128,8 @@ impl<'m, A: Allocator + Clone + Drop> Machine<'m, A> {
     ) -> Result<Machine<'m, A>, AllocError>
         requires { length input.now ≤ 2 ^ 30 }
         ensures given { IfOk result (λ machine. (machine.tables.now ≡ tables.now) × (machine.input.now ≡ input.now)) }
-        ensures opened { IfOk result (λ machine. (g : Grammar) → StandFor tables.now g → IsAt (source tables.now input.now) (staged machine.work) (opening g input.now (known_at remember))) }
+        ensures opened { IfOk result (λ machine. (g : Grammar) → StandFor tables.now g
+            → IsAt (source tables.now input.now) (staged machine.work) (opening g input.now (known_at remember))) }
     {
         let kept = Kept::new(alloc.clone()?, remember)?;
         Machine::over(alloc, tables, input, kept)
@@ -142,7 +144,9 @@ impl<'m, A: Allocator + Clone + Drop> Machine<'m, A> {
     ) -> Result<Machine<'m, A>, AllocError>
         requires { length input.now ≤ 2 ^ 30 }
         ensures given { IfOk result (λ machine. (machine.tables.now ≡ tables.now) × (machine.input.now ≡ input.now)) }
-        ensures opened { IfOk result (λ machine. (g : Grammar) (known : Option Known) → StandFor tables.now g → IsKnown (source tables.now input.now) kept.store kept.memo known → IsAt (source tables.now input.now) (staged machine.work) (opening g input.now known)) }
+        ensures opened { IfOk result (λ machine. (g : Grammar) (known : Option Known) → StandFor tables.now g
+            → IsKnown (source tables.now input.now) kept.store kept.memo known
+            → IsAt (source tables.now input.now) (staged machine.work) (opening g input.now known)) }
     {
         let Kept { store, memo } = kept;
         let numbers = numbers(alloc.clone()?, tables.depth())?;
@@ -169,7 +173,8 @@ impl<'m, A: Allocator + Clone + Drop> Machine<'m, A> {
 
     /// One move. Where memory runs out, every later step answers so.
     pub fn step(&mut self) -> Result<Turn, AllocError>
-        ensures moved { (src : Source) (e : Evaluation) → IsAt src (staged self.old.work) e → IfOk result (λ turn. IsAt src (staged self.new.work) (move e) × (turn ≡ turn_of (ended (move e)))) }
+        ensures moved { (src : Source) (e : Evaluation) → IsAt src (staged self.old.work) e
+            → IfOk result (λ turn. IsAt src (staged self.new.work) (move e) × (turn ≡ turn_of (ended (move e)))) }
         ensures tables { self.new.tables ≡ self.old.tables }
         ensures input { self.new.input ≡ self.old.input }
         ensures spoiled { OnErr result (self.new.is_spoiled ≡ true) }
@@ -196,7 +201,9 @@ impl<'m, A: Allocator + Clone + Drop> Machine<'m, A> {
 
     /// What the evaluation has come to, once it has ended. The room for a walk over the tree is taken here.
     pub fn finish(self) -> Result<Outcome<'m, A>, AllocError>
-        ensures { IfOk result (λ outcome. (e : Evaluation) (answer : Result Tree Stop) → IsAt (source self.entry.tables.now self.entry.input.now) (staged self.entry.work) e → ended e ≡ Some answer → IsOutcome self.entry.tables.now self.entry.input.now outcome answer e.tally) }
+        ensures { IfOk result (λ outcome. (e : Evaluation) (answer : Result Tree Stop)
+            → IsAt (source self.entry.tables.now self.entry.input.now) (staged self.entry.work) e → ended e ≡ Some answer
+            → IsOutcome self.entry.tables.now self.entry.input.now outcome answer e.tally) }
     {
         let Machine {
             work,

@@ -43,7 +43,9 @@ pub(crate) fn end_with<'a, A: Allocator + Clone + Drop>(
     held: Held,
     counts: Counts,
 ) -> Result<Outcome<'a, A>, AllocError>
-    ensures { IfOk result (λ outcome. (answer : Result AnyTree Stop) (tally : Tally) → IsAnswer (source tables.now input.now) store 0 (length input.now) held answer → IsTally counts tally → IsOutcome tables.now input.now outcome answer tally) }
+    ensures { IfOk result (λ outcome. (answer : Result AnyTree Stop) (tally : Tally)
+        → IsAnswer (source tables.now input.now) store 0 (length input.now) held answer → IsTally counts tally
+        → IsOutcome tables.now input.now outcome answer tally) }
 {
     match held {
         Held::Node(root) => Ok(Outcome::Tree(Parsed::new(
@@ -79,7 +81,9 @@ pub fn parse_over<'a, A: Allocator + Clone + Drop>(
     kept: Kept<A>,
 ) -> Result<Outcome<'a, A>, AllocError>
     requires { length input.now ≤ 2 ^ 30 }
-    ensures { IfOk result (λ outcome. (g : Grammar) (known : Option Known) (answer : Result AnyTree Stop) → StandFor tables.now g → AreRight g input.now known → IsKnown (source tables.now input.now) kept.store kept.memo known → Means g input.now answer → (tally : Tally) × Evaluates g input.now known answer tally × IsOutcome tables.now input.now outcome answer tally) }
+    ensures { IfOk result (λ outcome. (g : Grammar) (known : Option Known) (answer : Result AnyTree Stop) → StandFor tables.now g
+        → AreRight g input.now known → IsKnown (source tables.now input.now) kept.store kept.memo known → Means g input.now answer
+        → (tally : Tally) × Evaluates g input.now known answer tally × IsOutcome tables.now input.now outcome answer tally) }
 {
     ends_only_so();
     let mut machine = Machine::over(alloc, tables, input, kept)?;
@@ -95,7 +99,8 @@ pub fn parse<'a, A: Allocator + Clone + Drop>(
     remember: Remember,
 ) -> Result<Outcome<'a, A>, AllocError>
     requires { length input.now ≤ 2 ^ 30 }
-    ensures { IfOk result (λ outcome. (g : Grammar) (answer : Result AnyTree Stop) → StandFor tables.now g → Means g input.now answer → (tally : Tally) × Evaluates g input.now (known_at remember) answer tally × IsOutcome tables.now input.now outcome answer tally) }
+    ensures { IfOk result (λ outcome. (g : Grammar) (answer : Result AnyTree Stop) → StandFor tables.now g → Means g input.now answer
+        → (tally : Tally) × Evaluates g input.now (known_at remember) answer tally × IsOutcome tables.now input.now outcome answer tally) }
 {
     let kept = Kept::new(alloc.clone()?, remember)?;
     parse_over(alloc, tables, input, kept)

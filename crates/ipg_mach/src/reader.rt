@@ -71,7 +71,11 @@ fn running<'m>(instr: Instr, entry: Entry, items: &'m [Kid]) -> Option<Running<'
 impl<'m, A: Allocator + Clone + Drop> Reader<'m, A> {
     /// What an instruction of the highest call comes to.
     fn at_instr(&mut self, top: &Top<'_, A>, instr: Instr) -> AtHand
-        ensures found { (src : Source) (frames : List Frame) (lower : List OpenCall) (c : OpenCall) (u : ℕ) (rest : List ℕ) → src.input ≡ self.old.input.now → IsWorking self.old.tables.now src (shown top.now) frames lower c → c.left ≡ u ∷ rest → HoldsInstr self.old.tables.now c.terms instr u → IsAtHand src top.now.store top.now.frame.from (calls.size_of top.now.frame) u c.state (items_in c.entry) c.frame top.now.frame.entry result (moves.at_hand silent c) }
+        ensures found { (src : Source) (frames : List Frame) (lower : List OpenCall) (c : OpenCall) (u : ℕ) (rest : List ℕ)
+            → src.input ≡ self.old.input.now → IsWorking self.old.tables.now src (shown top.now) frames lower c → c.left ≡ u ∷ rest
+            → HoldsInstr self.old.tables.now c.terms instr u
+            → IsAtHand src top.now.store top.now.frame.from (calls.size_of top.now.frame) u c.state (items_in c.entry) c.frame top.now.frame.entry
+            result (moves.at_hand silent c) }
         ensures tables { self.new.tables ≡ self.old.tables }
         ensures input { self.new.input ≡ self.old.input }
     {
@@ -104,7 +108,10 @@ impl<'m, A: Allocator + Clone + Drop> Reader<'m, A> {
 
     /// What is found at the term at hand of the highest call.
     pub fn at_hand(&mut self, top: &Top<'_, A>) -> AtHand
-        ensures found { (src : Source) (frames : List Frame) (lower : List OpenCall) (c : OpenCall) → src.input ≡ self.old.input.now → IsWorking self.old.tables.now src (shown top.now) frames lower c → IsAtHand src top.now.store top.now.frame.from (calls.size_of top.now.frame) (term_at_hand c.left) c.state (items_in c.entry) c.frame top.now.frame.entry result (moves.at_hand silent c) }
+        ensures found { (src : Source) (frames : List Frame) (lower : List OpenCall) (c : OpenCall) → src.input ≡ self.old.input.now
+            → IsWorking self.old.tables.now src (shown top.now) frames lower c
+            → IsAtHand src top.now.store top.now.frame.from (calls.size_of top.now.frame) (term_at_hand c.left) c.state (items_in c.entry) c.frame
+            top.now.frame.entry result (moves.at_hand silent c) }
         ensures tables { self.new.tables ≡ self.old.tables }
         ensures input { self.new.input ≡ self.old.input }
     {
@@ -118,7 +125,11 @@ impl<'m, A: Allocator + Clone + Drop> Reader<'m, A> {
 impl<'m, A: Allocator + Clone + Drop> Top<'m, A> {
     /// What the term at hand makes of the answer of the call that it made: of the child, or of that there is none.
     pub fn answered(&self, tables: &Tables, kid: Option<Kid>) -> Advance
-        ensures { (src : Source) (frames : List Frame) (lower : List OpenCall) (c : OpenCall) (ask : Asked) (answer : Result Tree Stop) → IsWorking tables.now src (shown self.now) frames lower c → (moves.at_hand silent c).asked ≡ ask ∷ [] → EndsBy self.now.frame.entry ask.to → ask.from ≤ ask.to → ask.to ≤ calls.size_of self.now.frame → IsSub src self.now.store self.now.frame.from ask kid answer → IsAdvance src self.now.store self.now.frame.from (calls.size_of self.now.frame) (term_at_hand c.left) c.state (items_in c.entry) result (moves.at_hand (always answer) c).answer }
+        ensures { (src : Source) (frames : List Frame) (lower : List OpenCall) (c : OpenCall) (ask : Asked) (answer : Result Tree Stop)
+            → IsWorking tables.now src (shown self.now) frames lower c → (moves.at_hand silent c).asked ≡ ask ∷ [] → EndsBy self.now.frame.entry ask.to
+            → ask.from ≤ ask.to → ask.to ≤ calls.size_of self.now.frame → IsSub src self.now.store self.now.frame.from ask kid answer
+            → IsAdvance src self.now.store self.now.frame.from (calls.size_of self.now.frame) (term_at_hand c.left) c.state (items_in c.entry) result
+            (moves.at_hand (always answer) c).answer }
     {
         answered_is_taken();
         sub_ends_by();

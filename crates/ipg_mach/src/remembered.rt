@@ -39,7 +39,9 @@ fn remember_global<A: Allocator + Clone + Drop>(
     key: Key,
     entry: Entry,
 ) -> Result<Mark, AllocError>
-    ensures { (src : Source) (g : Grammar) (known : Option Known) (answer : Result Tree Stop) → holder_of (rule_at g key.rule) ≡ None → IsMark store.now floor → IsKnown src (before store.now floor) memo.old known → IsEntryOf src store.now key (Some entry) (Some answer) → IfOk result (λ kept. Remembers src store.now kept memo.new (moves.learn g known (key_of key) answer)) }
+    ensures { (src : Source) (g : Grammar) (known : Option Known) (answer : Result Tree Stop) → holder_of (rule_at g key.rule) ≡ None
+        → IsMark store.now floor → IsKnown src (before store.now floor) memo.old known → IsEntryOf src store.now key (Some entry) (Some answer)
+        → IfOk result (λ kept. Remembers src store.now kept memo.new (moves.learn g known (key_of key) answer)) }
 {
     trees_stay();
     grows_from_before();
@@ -59,7 +61,9 @@ fn remember<A: Allocator + Clone + Drop>(
     key: Key,
     entry: Entry,
 ) -> Result<Mark, AllocError>
-    ensures { (src : Source) (g : Grammar) (known : Option Known) (answer : Result Tree Stop) → StandFor tables.now g → IsMark store.now floor → IsKnown src (before store.now floor) memo.old known → IsEntryOf src store.now key (Some entry) (Some answer) → IfOk result (λ kept. Remembers src store.now kept memo.new (moves.learn g known (key_of key) answer)) }
+    ensures { (src : Source) (g : Grammar) (known : Option Known) (answer : Result Tree Stop) → StandFor tables.now g → IsMark store.now floor
+        → IsKnown src (before store.now floor) memo.old known → IsEntryOf src store.now key (Some entry) (Some answer)
+        → IfOk result (λ kept. Remembers src store.now kept memo.new (moves.learn g known (key_of key) answer)) }
 {
     match tables.holder(key.rule) {
         Some(_) => Ok(floor),
@@ -76,7 +80,10 @@ impl<'m, A: Allocator + Clone + Drop> Top<'m, A> {
         key: Key,
         entry: Entry,
     ) -> Result<(), AllocError>
-        ensures remembers { (src : Source) (g : Grammar) (known : Option Known) (answer : Result Tree Stop) → StandFor tables.now g → IsMark self.old.store self.old.floor → IsKnown src (before self.old.store self.old.floor) memo.old known → IsEntryOf src self.old.store key (Some entry) (Some answer) → OnOk result (Remembers src self.old.store self.new.floor memo.new (moves.learn g known (key_of key) answer)) }
+        ensures remembers { (src : Source) (g : Grammar) (known : Option Known) (answer : Result Tree Stop) → StandFor tables.now g
+            → IsMark self.old.store self.old.floor → IsKnown src (before self.old.store self.old.floor) memo.old known
+            → IsEntryOf src self.old.store key (Some entry) (Some answer)
+            → OnOk result (Remembers src self.old.store self.new.floor memo.new (moves.learn g known (key_of key) answer)) }
         ensures top { shown self.new ≡ record (shown self.old) { floor = self.new.floor } }
     {
         self.floor = remember(tables, &self.store, self.floor, memo, key, entry)?;

@@ -97,7 +97,9 @@ fn behind(alt: u32) -> Result<u32, AllocError>
 impl<'m, A: Allocator + Clone + Drop> Top<'m, A> {
     /// An attribute has its value.
     fn add_value(&mut self, tables: &Tables, attr: u32, value: i64) -> Result<(), AllocError>
-        ensures work { (src : Source) (frames : List Frame) (lower : List OpenCall) (items : List tree.Kid) (c : OpenCall) → IsAtWork tables.now src (shown self.old) frames lower items c → OnOk result (IsAtWork tables.now src (shown self.new) frames lower items (record c { state = with_value c.state attr value })) }
+        ensures work { (src : Source) (frames : List Frame) (lower : List OpenCall) (items : List tree.Kid) (c : OpenCall)
+            → IsAtWork tables.now src (shown self.old) frames lower items c
+            → OnOk result (IsAtWork tables.now src (shown self.new) frames lower items (record c { state = with_value c.state attr value })) }
         ensures keeps { IsMark self.old.store self.old.floor → OnOk result (Keeps (shown self.old) (shown self.new)) }
     {
         self.piles.add_own(attr, value)
@@ -105,7 +107,11 @@ impl<'m, A: Allocator + Clone + Drop> Top<'m, A> {
 
     /// The term at hand has its result.
     fn set_result(&mut self, tables: &Tables, done: Done)
-        ensures work { (src : Source) (frames : List Frame) (lower : List OpenCall) (items : List tree.Kid) (c : OpenCall) (one : core.Done) → IsAtWork tables.now src (shown self.old) frames lower items c → IsDone src self.old.store self.old.frame.from (calls.size_of self.old.frame) done one → IsAtWork tables.now src (shown self.new) frames lower items (record c { state = with_kid c.state (term_at_hand c.left) one.is_switch one.kid }) }
+        ensures work { (src : Source) (frames : List Frame) (lower : List OpenCall) (items : List tree.Kid) (c : OpenCall) (one : core.Done)
+            → IsAtWork tables.now src (shown self.old) frames lower items c
+            → IsDone src self.old.store self.old.frame.from (calls.size_of self.old.frame) done one
+            → IsAtWork tables.now src (shown self.new) frames lower items
+            (record c { state = with_kid c.state (term_at_hand c.left) one.is_switch one.kid }) }
         ensures keeps { IsMark self.old.store self.old.floor → Keeps (shown self.old) (shown self.new) }
     {
         result_set();
@@ -115,7 +121,10 @@ impl<'m, A: Allocator + Clone + Drop> Top<'m, A> {
 
     /// One item more.
     fn add_item(&mut self, tables: &Tables, item: Kid) -> Result<(), AllocError>
-        ensures work { (src : Source) (frames : List Frame) (lower : List OpenCall) (items : List tree.Kid) (c : OpenCall) (one : tree.Kid) → IsAtWork tables.now src (shown self.old) frames lower items c → IsItem src self.old.store self.old.frame.from (calls.size_of self.old.frame) item one → OnOk result (IsAtWork tables.now src (shown self.new) frames lower (items ++ one ∷ []) c) }
+        ensures work { (src : Source) (frames : List Frame) (lower : List OpenCall) (items : List tree.Kid) (c : OpenCall) (one : tree.Kid)
+            → IsAtWork tables.now src (shown self.old) frames lower items c
+            → IsItem src self.old.store self.old.frame.from (calls.size_of self.old.frame) item one
+            → OnOk result (IsAtWork tables.now src (shown self.new) frames lower (items ++ one ∷ []) c) }
         ensures keeps { IsMark self.old.store self.old.floor → OnOk result (Keeps (shown self.old) (shown self.new)) }
         ensures frame { self.new.frame ≡ self.old.frame }
     {
@@ -125,7 +134,10 @@ impl<'m, A: Allocator + Clone + Drop> Top<'m, A> {
 
     /// The items so far are the array of the term at hand.
     fn set_array(&mut self, tables: &Tables, sym: u32) -> Result<(), AllocError>
-        ensures work { (src : Source) (frames : List Frame) (lower : List OpenCall) (items : List tree.Kid) (c : OpenCall) (one : Sym) → IsAtWork tables.now src (shown self.old) frames lower items c → slice_get src.syms sym ≡ Some one → OnOk result (IsAtWork tables.now src (shown self.new) frames lower items (record c { state = with_kid c.state (term_at_hand c.left) false (tree.Array one (kids_of items)) })) }
+        ensures work { (src : Source) (frames : List Frame) (lower : List OpenCall) (items : List tree.Kid) (c : OpenCall) (one : Sym)
+            → IsAtWork tables.now src (shown self.old) frames lower items c → slice_get src.syms sym ≡ Some one
+            → OnOk result (IsAtWork tables.now src (shown self.new) frames lower items
+            (record c { state = with_kid c.state (term_at_hand c.left) false (tree.Array one (kids_of items)) })) }
         ensures keeps { IsMark self.old.store self.old.floor → OnOk result (Keeps (shown self.old) (shown self.new)) }
     {
         items_stay();
@@ -137,7 +149,10 @@ impl<'m, A: Allocator + Clone + Drop> Top<'m, A> {
 
     /// The items so far are the repetition of the term at hand.
     fn set_repetition(&mut self, tables: &Tables, sym: u32) -> Result<(), AllocError>
-        ensures work { (src : Source) (frames : List Frame) (lower : List OpenCall) (items : List tree.Kid) (c : OpenCall) (one : Sym) → IsAtWork tables.now src (shown self.old) frames lower items c → slice_get src.syms sym ≡ Some one → OnOk result (IsAtWork tables.now src (shown self.new) frames lower items (record c { state = with_kid c.state (term_at_hand c.left) false (tree.Many one (kids_of items)) })) }
+        ensures work { (src : Source) (frames : List Frame) (lower : List OpenCall) (items : List tree.Kid) (c : OpenCall) (one : Sym)
+            → IsAtWork tables.now src (shown self.old) frames lower items c → slice_get src.syms sym ≡ Some one
+            → OnOk result (IsAtWork tables.now src (shown self.new) frames lower items
+            (record c { state = with_kid c.state (term_at_hand c.left) false (tree.Many one (kids_of items)) })) }
         ensures keeps { IsMark self.old.store self.old.floor → OnOk result (Keeps (shown self.old) (shown self.new)) }
     {
         items_stay();
@@ -149,7 +164,8 @@ impl<'m, A: Allocator + Clone + Drop> Top<'m, A> {
 
     /// The call holds its answer.
     fn hold(&mut self, held: Held)
-        ensures shown { IsBase self.old.piles self.old.frame.base → shown self.new ≡ record (shown self.old) { piles = below self.old.piles self.old.frame.base; answer = Some held } }
+        ensures shown { IsBase self.old.piles self.old.frame.base
+            → shown self.new ≡ record (shown self.old) { piles = below self.old.piles self.old.frame.base; answer = Some held } }
         ensures store { self.new.store ≡ self.old.store }
         ensures floor { self.new.floor ≡ self.old.floor }
     {
@@ -159,7 +175,9 @@ impl<'m, A: Allocator + Clone + Drop> Top<'m, A> {
 
     /// All terms have run: the call holds its node.
     fn close(&mut self, tables: &Tables) -> Result<(), AllocError>
-        ensures holds { (src : Source) (frames : List Frame) (lower : List OpenCall) (items : List tree.Kid) (c : OpenCall) → IsAtWork tables.now src (shown self.old) frames lower items c → OnOk result (IsHolding tables.now src (shown self.new) frames lower (key_at c.frame c.from) (Ok (node_of c.frame c.terms c.state))) }
+        ensures holds { (src : Source) (frames : List Frame) (lower : List OpenCall) (items : List tree.Kid) (c : OpenCall)
+            → IsAtWork tables.now src (shown self.old) frames lower items c
+            → OnOk result (IsHolding tables.now src (shown self.new) frames lower (key_at c.frame c.from) (Ok (node_of c.frame c.terms c.state))) }
         ensures keeps { IsMark self.old.store self.old.floor → OnOk result (Keeps (shown self.old) (shown self.new)) }
     {
         items_stay();
@@ -179,7 +197,9 @@ impl<'m, A: Allocator + Clone + Drop> Top<'m, A> {
 
     /// The terms left run, or the call is closed.
     fn run_on(&mut self, tables: &Tables) -> Result<(), AllocError>
-        ensures highest { (src : Source) (frames : List Frame) (lower : List OpenCall) (c : OpenCall) → IsAtWork tables.now src (shown self.old) frames lower [] c → self.old.frame.entry ≡ Outside → OnOk result (IsHighest tables.now src (shown self.new) frames lower (runs_on c c.state c.left)) }
+        ensures highest { (src : Source) (frames : List Frame) (lower : List OpenCall) (c : OpenCall)
+            → IsAtWork tables.now src (shown self.old) frames lower [] c → self.old.frame.entry ≡ Outside
+            → OnOk result (IsHighest tables.now src (shown self.new) frames lower (runs_on c c.state c.left)) }
         ensures keeps { IsMark self.old.store self.old.floor → OnOk result (Keeps (shown self.old) (shown self.new)) }
     {
         match first(self.frame.left) {
@@ -190,7 +210,9 @@ impl<'m, A: Allocator + Clone + Drop> Top<'m, A> {
 
     /// The term at hand is past.
     fn pass(&mut self, tables: &Tables) -> Result<(), AllocError>
-        ensures highest { (src : Source) (frames : List Frame) (lower : List OpenCall) (items : List tree.Kid) (c : OpenCall) → IsAtWork tables.now src (shown self.old) frames lower items c → OnOk result (IsHighest tables.now src (shown self.new) frames lower (runs_on c c.state (drop 1 c.left))) }
+        ensures highest { (src : Source) (frames : List Frame) (lower : List OpenCall) (items : List tree.Kid) (c : OpenCall)
+            → IsAtWork tables.now src (shown self.old) frames lower items c
+            → OnOk result (IsHighest tables.now src (shown self.new) frames lower (runs_on c c.state (drop 1 c.left))) }
         ensures keeps { IsMark self.old.store self.old.floor → OnOk result (Keeps (shown self.old) (shown self.new)) }
     {
         self.piles.clear_items(self.frame.base);
@@ -201,7 +223,9 @@ impl<'m, A: Allocator + Clone + Drop> Top<'m, A> {
 
     /// An attribute has its value, and the term at hand is past.
     fn pass_value(&mut self, tables: &Tables, attr: u32, value: i64) -> Result<(), AllocError>
-        ensures highest { (src : Source) (frames : List Frame) (lower : List OpenCall) (items : List tree.Kid) (c : OpenCall) → IsAtWork tables.now src (shown self.old) frames lower items c → OnOk result (IsHighest tables.now src (shown self.new) frames lower (turned c (Ok (Past (with_value c.state attr value))))) }
+        ensures highest { (src : Source) (frames : List Frame) (lower : List OpenCall) (items : List tree.Kid) (c : OpenCall)
+            → IsAtWork tables.now src (shown self.old) frames lower items c
+            → OnOk result (IsHighest tables.now src (shown self.new) frames lower (turned c (Ok (Past (with_value c.state attr value))))) }
         ensures keeps { IsMark self.old.store self.old.floor → OnOk result (Keeps (shown self.old) (shown self.new)) }
     {
         self.add_value(tables, attr, value)?;
@@ -210,7 +234,11 @@ impl<'m, A: Allocator + Clone + Drop> Top<'m, A> {
 
     /// The term at hand has its result, and is past.
     fn pass_result(&mut self, tables: &Tables, done: Done) -> Result<(), AllocError>
-        ensures highest { (src : Source) (frames : List Frame) (lower : List OpenCall) (items : List tree.Kid) (c : OpenCall) (one : core.Done) → IsAtWork tables.now src (shown self.old) frames lower items c → IsDone src self.old.store self.old.frame.from (calls.size_of self.old.frame) done one → OnOk result (IsHighest tables.now src (shown self.new) frames lower (turned c (Ok (Past (with_kid c.state (term_at_hand c.left) one.is_switch one.kid))))) }
+        ensures highest { (src : Source) (frames : List Frame) (lower : List OpenCall) (items : List tree.Kid) (c : OpenCall) (one : core.Done)
+            → IsAtWork tables.now src (shown self.old) frames lower items c
+            → IsDone src self.old.store self.old.frame.from (calls.size_of self.old.frame) done one
+            → OnOk result (IsHighest tables.now src (shown self.new) frames lower
+            (turned c (Ok (Past (with_kid c.state (term_at_hand c.left) one.is_switch one.kid))))) }
         ensures keeps { IsMark self.old.store self.old.floor → OnOk result (Keeps (shown self.old) (shown self.new)) }
     {
         self.set_result(tables, done);
@@ -219,7 +247,10 @@ impl<'m, A: Allocator + Clone + Drop> Top<'m, A> {
 
     /// The items so far are the array of the term at hand, which is past.
     fn pass_array(&mut self, tables: &Tables, sym: u32) -> Result<(), AllocError>
-        ensures highest { (src : Source) (frames : List Frame) (lower : List OpenCall) (items : List tree.Kid) (c : OpenCall) (one : Sym) → IsAtWork tables.now src (shown self.old) frames lower items c → slice_get src.syms sym ≡ Some one → OnOk result (IsHighest tables.now src (shown self.new) frames lower (turned c (Ok (Past (with_kid c.state (term_at_hand c.left) false (tree.Array one (kids_of items))))))) }
+        ensures highest { (src : Source) (frames : List Frame) (lower : List OpenCall) (items : List tree.Kid) (c : OpenCall) (one : Sym)
+            → IsAtWork tables.now src (shown self.old) frames lower items c → slice_get src.syms sym ≡ Some one
+            → OnOk result (IsHighest tables.now src (shown self.new) frames lower
+            (turned c (Ok (Past (with_kid c.state (term_at_hand c.left) false (tree.Array one (kids_of items))))))) }
         ensures keeps { IsMark self.old.store self.old.floor → OnOk result (Keeps (shown self.old) (shown self.new)) }
     {
         self.set_array(tables, sym)?;
@@ -228,7 +259,10 @@ impl<'m, A: Allocator + Clone + Drop> Top<'m, A> {
 
     /// The items so far are the repetition of the term at hand, which is past.
     fn pass_repetition(&mut self, tables: &Tables, sym: u32) -> Result<(), AllocError>
-        ensures highest { (src : Source) (frames : List Frame) (lower : List OpenCall) (items : List tree.Kid) (c : OpenCall) (one : Sym) → IsAtWork tables.now src (shown self.old) frames lower items c → slice_get src.syms sym ≡ Some one → OnOk result (IsHighest tables.now src (shown self.new) frames lower (turned c (Ok (Past (with_kid c.state (term_at_hand c.left) false (tree.Many one (kids_of items))))))) }
+        ensures highest { (src : Source) (frames : List Frame) (lower : List OpenCall) (items : List tree.Kid) (c : OpenCall) (one : Sym)
+            → IsAtWork tables.now src (shown self.old) frames lower items c → slice_get src.syms sym ≡ Some one
+            → OnOk result (IsHighest tables.now src (shown self.new) frames lower
+            (turned c (Ok (Past (with_kid c.state (term_at_hand c.left) false (tree.Many one (kids_of items))))))) }
         ensures keeps { IsMark self.old.store self.old.floor → OnOk result (Keeps (shown self.old) (shown self.new)) }
     {
         self.set_repetition(tables, sym)?;
@@ -237,7 +271,9 @@ impl<'m, A: Allocator + Clone + Drop> Top<'m, A> {
 
     /// The first of these alternatives begins; where there is none, the call holds that there is no tree.
     pub fn begin(&mut self, tables: &'m Tables, alts: &'m [AltRow]) -> Result<(), AllocError>
-        ensures highest { (src : Source) (frames : List Frame) (lower : List OpenCall) (f : meaning.Frame) (from : ℕ) (those : List CoreAlt) → IsReady tables.now src (shown self.old) frames lower f from → Each (HoldsAlt tables.now) alts.now those → OnOk result (IsHighest tables.now src (shown self.new) frames lower (begins f from those)) }
+        ensures highest { (src : Source) (frames : List Frame) (lower : List OpenCall) (f : meaning.Frame) (from : ℕ) (those : List CoreAlt)
+            → IsReady tables.now src (shown self.old) frames lower f from → Each (HoldsAlt tables.now) alts.now those
+            → OnOk result (IsHighest tables.now src (shown self.new) frames lower (begins f from those)) }
         ensures keeps { IsMark self.old.store self.old.floor → OnOk result (Keeps (shown self.old) (shown self.new)) }
     {
         match first(alts) {
@@ -259,8 +295,11 @@ impl<'m, A: Allocator + Clone + Drop> Top<'m, A> {
 
     /// The alternative has no tree: the next one begins.
     fn begin_next(&mut self, tables: &'m Tables) -> Result<(), AllocError>
-        ensures highest { (src : Source) (frames : List Frame) (lower : List OpenCall) (items : List tree.Kid) (c : OpenCall) → IsMark self.old.store self.old.floor → IsAtWork tables.now src (shown self.old) frames lower items c → OnOk result (IsHighest tables.now src (shown self.new) frames lower (begins (record c.frame { alt = c.frame.alt + 1 }) c.from c.alts)) }
-        ensures keeps { IsMark self.old.store self.old.floor → IsMark self.old.store self.old.frame.mark → OnOk result (Keeps (shown self.old) (shown self.new)) }
+        ensures highest { (src : Source) (frames : List Frame) (lower : List OpenCall) (items : List tree.Kid) (c : OpenCall)
+            → IsMark self.old.store self.old.floor → IsAtWork tables.now src (shown self.old) frames lower items c
+            → OnOk result (IsHighest tables.now src (shown self.new) frames lower (begins (record c.frame { alt = c.frame.alt + 1 }) c.from c.alts)) }
+        ensures keeps { IsMark self.old.store self.old.floor → IsMark self.old.store self.old.frame.mark
+            → OnOk result (Keeps (shown self.old) (shown self.new)) }
     {
         self.frame.alt = behind(self.frame.alt)?;
         before_before();
@@ -271,8 +310,12 @@ impl<'m, A: Allocator + Clone + Drop> Top<'m, A> {
 
     /// The term at hand has come to this: the call goes on, with its next alternative where there is no tree.
     pub fn turned(&mut self, tables: &'m Tables, adv: Advance) -> Result<(), AllocError>
-        ensures highest { (src : Source) (frames : List Frame) (lower : List OpenCall) (c : OpenCall) (answer : Result moves.Advance Stop) → IsMark self.old.store self.old.floor → IsWorking tables.now src (shown self.old) frames lower c → IsAdvance src self.old.store self.old.frame.from (calls.size_of self.old.frame) (term_at_hand c.left) c.state (items_in c.entry) adv answer → OnOk result (IsHighest tables.now src (shown self.new) frames lower (turned c answer)) }
-        ensures keeps { IsMark self.old.store self.old.floor → IsMark self.old.store self.old.frame.mark → OnOk result (Keeps (shown self.old) (shown self.new)) }
+        ensures highest { (src : Source) (frames : List Frame) (lower : List OpenCall) (c : OpenCall) (answer : Result moves.Advance Stop)
+            → IsMark self.old.store self.old.floor → IsWorking tables.now src (shown self.old) frames lower c
+            → IsAdvance src self.old.store self.old.frame.from (calls.size_of self.old.frame) (term_at_hand c.left) c.state (items_in c.entry) adv
+            answer → OnOk result (IsHighest tables.now src (shown self.new) frames lower (turned c answer)) }
+        ensures keeps { IsMark self.old.store self.old.floor → IsMark self.old.store self.old.frame.mark
+            → OnOk result (Keeps (shown self.old) (shown self.new)) }
     {
         match adv {
             Advance::Value { attr, value } => self.pass_value(tables, attr, value),

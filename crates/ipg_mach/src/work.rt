@@ -5,7 +5,8 @@ ghost use Rattle.ipg_core.specs.Tree.{Tree};
 ghost use Rattle.ipg_core.specs.Run.{Stop};
 ghost use Rattle.ipg_memo.specs.declared.memo.Key.{Key};
 ghost use Rattle.ipg_moves.specs.Moves as moves;
-ghost use Rattle.ipg_moves.specs.Moves.{OpenCall, Evaluation, Key as CallKey, Works, Holds, works, asks, asked_key, returns, turned, move, silent, always, at_hand, known_of, ended};
+ghost use Rattle.ipg_moves.specs.Moves.{OpenCall, Evaluation, Key as CallKey, Works, Holds, works, asks, asked_key, returns, turned, move, silent};
+ghost use Rattle.ipg_moves.specs.Moves.{always, at_hand, known_of, ended};
 ghost use Rattle.ipg_nodes.specs.Stored.{Source, before};
 ghost use Rattle.ipg_mach.specs.Known.{IsEntryOf};
 ghost use Rattle.ipg_mach.specs.declared.frame.Held.{Held};
@@ -61,7 +62,11 @@ fn known_kid(entry: Entry, from: u32, to: u32) -> Option<Kid>
 impl<'m, A: Allocator + Clone + Drop> Work<'m, A> {
     /// The call that the highest one asks for is known: its answer is taken.
     fn take_known(&mut self, entry: Entry, from: u32, to: u32) -> Result<(), AllocError>
-        ensures { (src : Source) (e : Evaluation) (c : OpenCall) (rule : ℕ) (key : Key) (answer : Result Tree Stop) (q : IsAsking self.old.top.frame c rule from to) → IsAt src (staged self.old) e → e.highest ≡ Works c → key.from ≡ self.old.top.frame.from + from → key.to ≡ self.old.top.frame.from + to → IsEntryOf src (before self.old.top.store self.old.top.floor) key (Some entry) (Some answer) → OnOk result (IsAt src (staged self.new) (asks e c q.call.ask (Some answer))) }
+        ensures { (src : Source) (e : Evaluation) (c : OpenCall) (rule : ℕ) (key : Key) (answer : Result Tree Stop)
+            (q : IsAsking self.old.top.frame c rule from to) → IsAt src (staged self.old) e → e.highest ≡ Works c
+            → key.from ≡ self.old.top.frame.from + from → key.to ≡ self.old.top.frame.from + to
+            → IsEntryOf src (before self.old.top.store self.old.top.floor) key (Some entry) (Some answer)
+            → OnOk result (IsAt src (staged self.new) (asks e c q.call.ask (Some answer))) }
     {
         grows_from_before();
         trees_stay();
@@ -74,7 +79,9 @@ impl<'m, A: Allocator + Clone + Drop> Work<'m, A> {
 
     /// The call that the highest one asks for is opened above it.
     fn open(&mut self, key: Key) -> Result<(), AllocError>
-        ensures { (src : Source) (e : Evaluation) (c : OpenCall) (from to : ℕ) (q : IsAsking self.old.top.frame c key.rule from to) → IsAt src (staged self.old) e → e.highest ≡ Works c → key.from ≡ self.old.top.frame.from + from → key.to ≡ self.old.top.frame.from + to → OnOk result (IsAt src (staged self.new) (asks e c q.call.ask None)) }
+        ensures { (src : Source) (e : Evaluation) (c : OpenCall) (from to : ℕ) (q : IsAsking self.old.top.frame c key.rule from to)
+            → IsAt src (staged self.old) e → e.highest ≡ Works c → key.from ≡ self.old.top.frame.from + from → key.to ≡ self.old.top.frame.from + to
+            → OnOk result (IsAt src (staged self.new) (asks e c q.call.ask None)) }
     {
         let holder = self.reader.tables.holder(key.rule);
         let outer = self.top.outer(holder);
@@ -93,7 +100,8 @@ impl<'m, A: Allocator + Clone + Drop> Work<'m, A> {
 
     /// The highest call asks for a call on an interval of its part.
     fn ask(&mut self, rule: u32, from: u32, to: u32) -> Result<(), AllocError>
-        ensures { (src : Source) (e : Evaluation) (c : OpenCall) (q : IsAsking self.old.top.frame c rule from to) → IsAt src (staged self.old) e → e.highest ≡ Works c → OnOk result (IsAt src (staged self.new) (asks e c q.call.ask (known_of e.known (asked_key c q.call.ask)))) }
+        ensures { (src : Source) (e : Evaluation) (c : OpenCall) (q : IsAsking self.old.top.frame c rule from to) → IsAt src (staged self.old) e
+            → e.highest ≡ Works c → OnOk result (IsAt src (staged self.new) (asks e c q.call.ask (known_of e.known (asked_key c q.call.ask)))) }
     {
         let at = self.top.frame.from;
         let key = Key {
@@ -109,7 +117,8 @@ impl<'m, A: Allocator + Clone + Drop> Work<'m, A> {
 
     /// The highest call works on its term at hand.
     fn work(&mut self) -> Result<(), AllocError>
-        ensures { (src : Source) (e : Evaluation) (c : OpenCall) → IsAt src (staged self.old) e → e.highest ≡ Works c → OnOk result (IsAt src (staged self.new) (works e c (at_hand silent c).answer (at_hand silent c).asked)) }
+        ensures { (src : Source) (e : Evaluation) (c : OpenCall) → IsAt src (staged self.old) e → e.highest ≡ Works c
+            → OnOk result (IsAt src (staged self.new) (works e c (at_hand silent c).answer (at_hand silent c).asked)) }
     {
         match self.reader.at_hand(&self.top) {
             AtHand::Makes(adv) => self.top.turned(self.reader.tables, adv),
@@ -119,7 +128,15 @@ impl<'m, A: Allocator + Clone + Drop> Work<'m, A> {
 
     /// The highest call is taken away, and its answer goes to its caller.
     fn come_back(&mut self, caller: Frame<'m>, entry: Entry) -> Result<(), AllocError>
-        ensures { (src : Source) (e : Evaluation) (c : OpenCall) (lower : List OpenCall) (key : CallKey) (answer : Result Tree Stop) → IsAt src (record (staged self.old) { frames = self.old.frames.items ++ caller.entry ∷ [] }) e → e.highest ≡ Holds key answer → e.lower ≡ c ∷ lower → IsEntryOf src self.old.top.store (key_in self.old.top.frame) (Some entry) (Some answer) → OnOk result (IsAt src (staged self.new) (record e { lower = lower; highest = turned c (at_hand (always answer) c).answer; known = moves.learn c.frame.grammar e.known key answer })) }
+        ensures { (src : Source) (e : Evaluation) (c : OpenCall) (lower : List OpenCall) (key : CallKey) (answer : Result Tree Stop)
+            → IsAt src (record (staged self.old) { frames = self.old.frames.items ++ caller.entry ∷ [] }) e → e.highest ≡ Holds key answer
+            → e.lower ≡ c ∷ lower → IsEntryOf src self.old.top.store (key_in self.old.top.frame) (Some entry) (Some answer)
+            → OnOk result (IsAt src (staged self.new)
+            (record e {
+              lower = lower;
+              highest = turned c (at_hand (always answer) c).answer;
+              known = moves.learn c.frame.grammar e.known key answer;
+            })) }
     {
         let callee = self.top.frame;
         let key = Key {
@@ -140,7 +157,9 @@ impl<'m, A: Allocator + Clone + Drop> Work<'m, A> {
 
     /// The highest call holds an answer.
     fn back(&mut self, entry: Entry) -> Result<(), AllocError>
-        ensures { (src : Source) (e : Evaluation) (key : CallKey) (answer : Result Tree Stop) → IsAt src (staged self.old) e → e.highest ≡ Holds key answer → IsEntryOf src self.old.top.store (key_in self.old.top.frame) (Some entry) (Some answer) → OnOk result (IsAt src (staged self.new) (returns e key answer e.lower)) }
+        ensures { (src : Source) (e : Evaluation) (key : CallKey) (answer : Result Tree Stop) → IsAt src (staged self.old) e
+            → e.highest ≡ Holds key answer → IsEntryOf src self.old.top.store (key_in self.old.top.frame) (Some entry) (Some answer)
+            → OnOk result (IsAt src (staged self.new) (returns e key answer e.lower)) }
     {
         match self.frames.pop() {
             Some(caller) => self.come_back(caller, entry),
@@ -150,7 +169,8 @@ impl<'m, A: Allocator + Clone + Drop> Work<'m, A> {
 
     /// The highest call holds this answer: it goes to its caller.
     fn give(&mut self, held: Held) -> Result<(), AllocError>
-        ensures { (src : Source) (e : Evaluation) → IsAt src (staged self.old) e → self.old.top.answer ≡ Some held → OnOk result (IsAt src (staged self.new) (move e)) }
+        ensures { (src : Source) (e : Evaluation) → IsAt src (staged self.old) e → self.old.top.answer ≡ Some held
+            → OnOk result (IsAt src (staged self.new) (move e)) }
     {
         match held {
             Held::Node(id) => self.back(Entry::Node(id)),
@@ -192,7 +212,8 @@ impl<'m, A: Allocator + Clone + Drop> Work<'m, A> {
 
     /// Whether a call waits for the highest one.
     fn turn_below(&self) -> Turn
-        ensures { (src : Source) (e : Evaluation) (one : Held) → IsAt src (staged self.now) e → self.now.top.answer ≡ Some one → one ≢ held.Range → result ≡ turn_of (ended e) }
+        ensures { (src : Source) (e : Evaluation) (one : Held) → IsAt src (staged self.now) e → self.now.top.answer ≡ Some one → one ≢ held.Range
+            → result ≡ turn_of (ended e) }
     {
         if self.frames.is_empty() {
             Turn::Done

@@ -18,7 +18,8 @@ use Rattle.ipg_memo.specs.Keyed.{key_cmp}
 pub exact_keys : CmpEqualImpliesEq key_cmp
 exact_keys a b h =
     ap (λ (p : ℕ × (ℕ × ℕ)). record { rule = p.0; from = p.1.0; to = p.1.1 })
-    (exact_pairs nat_cmp (λ (x y : ℕ × ℕ). ordering_then (nat_cmp x.0 y.0) (nat_cmp x.1 y.1)) exact_unsigned (exact_pairs nat_cmp nat_cmp exact_unsigned exact_unsigned)
+    (exact_pairs nat_cmp (λ (x y : ℕ × ℕ). ordering_then (nat_cmp x.0 y.0) (nat_cmp x.1 y.1)) exact_unsigned
+    (exact_pairs nat_cmp nat_cmp exact_unsigned exact_unsigned)
     (a.rule, (a.from, a.to)) (b.rule, (b.from, b.to)) h)
 
 pub keys_total : IsTotalOrder key_cmp
@@ -48,7 +49,9 @@ pub get_key : (es : List (Key × Entry)) (q : Key) → get (from_entries {R = ke
 get_key es q = get-from_entries keys_total es q ∙ find_key es q
 
 -- entries that differ at one key make maps that differ there
-pub one_put : (es fs : List (Key × Entry)) (k : Key) (v : Entry) → ((q : Key) → lookup (key_eq q) fs ≡ cond (key_eq k q) (Some v) (lookup (key_eq q) es)) → from_entries {R = key_cmp} fs ≡ insert (from_entries es) k v
+pub one_put : (es fs : List (Key × Entry)) (k : Key) (v : Entry)
+    → ((q : Key) → lookup (key_eq q) fs ≡ cond (key_eq k q) (Some v) (lookup (key_eq q) es))
+    → from_entries {R = key_cmp} fs ≡ insert (from_entries es) k v
 one_put es fs k v h = same_map keys_total exact_keys _ _ (λ q.
     get_key fs q ∙ h q
     ∙ ap (λ b. cond b (Some v) (lookup (key_eq q) es)) (sym (same_test k q) ∙ (eq_by_cmp_equiv keys_total).symm k q)
@@ -65,5 +68,6 @@ unfolding IsDistinct
 len_distinct [] h = len-empty key_cmp Entry
 len_distinct (e ∷ es) h =
     len-insert keys_total (from_entries es) e.0 e.1
-    ∙ ap (λ (o : Option Entry). cond (is_some o) (len (from_entries {R = key_cmp} es)) (len (from_entries {R = key_cmp} es) + 1)) (get_key es e.0 ∙ not_among es e.0 h.0)
+    ∙ ap (λ (o : Option Entry). cond (is_some o) (len (from_entries {R = key_cmp} es)) (len (from_entries {R = key_cmp} es) + 1))
+    (get_key es e.0 ∙ not_among es e.0 h.0)
     ∙ omega (arith, len_distinct es h.1)

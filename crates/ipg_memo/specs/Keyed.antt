@@ -18,7 +18,8 @@ Entries = map.FinMap key_cmp Entry
 -- a key is stored as its three numbers
 abbrev pub key_code : Coded Key
 key_code =
-    code_by (ℕ × (ℕ × ℕ)) (coded× coded_ℕ (coded× coded_ℕ coded_ℕ)) (λ k. (k.rule, (k.from, k.to))) (λ p. record { rule = p.0; from = p.1.0; to = p.1.1 }) (λ _. refl)
+    code_by (ℕ × (ℕ × ℕ)) (coded× coded_ℕ (coded× coded_ℕ coded_ℕ)) (λ k. (k.rule, (k.from, k.to)))
+    (λ p. record { rule = p.0; from = p.1.0; to = p.1.1 }) (λ _. refl)
 
 -- an entry is stored as the place of its node, if it has one
 abbrev pub place_of : Entry → Option ℕ

@@ -1,5 +1,6 @@
 -- A term at hand makes one call at most, and hangs on its answer alone.
-use Rattle.std.proofs.Common.{◌≡◌, ℕ, suc, ◌+◌, ℤ, refl, sym, ap, ◌∙◌, subst, append-nil, List, [], ◌∷◌, Option, Some, None, Result, Ok, Err, Bool, true, false, if◌then◌else◌, length, ◌⊎◌, inl, inr}
+use Rattle.std.proofs.Common.{◌≡◌, ℕ, suc, ◌+◌, ℤ, refl, sym, ap, ◌∙◌, subst, append-nil, List, [], ◌∷◌, Option, Some, None, Result, Ok, Err, Bool}
+use Rattle.std.proofs.Common.{true, false, if◌then◌else◌, length, ◌⊎◌, inl, inr}
 use Rattle.std.specs.Prelude.{slice_get}
 use Rattle.ipg_num.specs.declared.op.Answer.{Answer}
 use Rattle.ipg_num.specs.declared.op.Answer.TheVariants.{Val, Fail, Range}
@@ -17,7 +18,8 @@ use Rattle.ipg_core.specs.Tree.{Tree, Kid, Sub}
 use Rattle.ipg_core.specs.Environment.{Values}
 use Rattle.ipg_core.specs.Eval.{eval, is_zero}
 use Rattle.ipg_core.specs.Run.{Stop, NoTree, OutOfRange, Deep, Asked, Run, finish, stop, after, go_on, ◌>>=◌, value_of, some_of}
-use Rattle.ipg_core.specs.Meaning.{Call, Frame, State, Place, environment, value_in, outer_for, ask, token_on, number_on, primitive_on, symbol_on, slot_on, item_end, item_on, pick_on}
+use Rattle.ipg_core.specs.Meaning.{Call, Frame, State, Place, environment, value_in, outer_for, ask, token_on, number_on, primitive_on, symbol_on}
+use Rattle.ipg_core.specs.Meaning.{slot_on, item_end, item_on, pick_on}
 use Rattle.ipg_moves.specs.Moves.{Entry, Outside, Items, Turns, OpenCall, Advance, lifted, parsed, taken, advance, first_left, at_hand}
 
 -- a run that makes no call

@@ -1,5 +1,6 @@
 -- An item of a repetition that touches a byte ends further on, within the interval.
-use Rattle.std.proofs.Common.{◌≡◌, ℕ, ◌+◌, ◌-◌, ◌<◌, ◌≤◌, refl, ap, arith, subst, List, Option, Some, None, Result, Ok, Err, Bool, true, false, if◌then◌else◌, length, take, drop}
+use Rattle.std.proofs.Common.{◌≡◌, ℕ, ◌+◌, ◌-◌, ◌<◌, ◌≤◌, refl, ap, arith, subst, List, Option, Some, None, Result, Ok, Err, Bool, true, false}
+use Rattle.std.proofs.Common.{if◌then◌else◌, length, take, drop}
 use Rattle.std.specs.Prelude.{nat_eq, nat_le, bytes_eq}
 use Rattle.std.proofs.lemmas.List.{length-take}
 use Rattle.std.proofs.lemmas.Bool.{leb-true, ltb-true, ltb-false}

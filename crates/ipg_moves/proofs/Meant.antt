@@ -1,5 +1,6 @@
 -- Terms, alternatives and rules come to what they mean.
-use Rattle.std.proofs.Common.{◌≡◌, ℕ, zero, suc, ◌+◌, ◌<◌, ◌≤◌, ◌+ℤ◌, ◌-ℤ◌, pos, ℤ, refl, sym, ap, ◌∙◌, subst, arith, List, [], ◌∷◌, ◌++◌, Option, Some, None, Result, Ok, Err, Bool, true, false, if◌then◌else◌, length, cond, negsuc}
+use Rattle.std.proofs.Common.{◌≡◌, ℕ, zero, suc, ◌+◌, ◌<◌, ◌≤◌, ◌+ℤ◌, ◌-ℤ◌, pos, ℤ, refl, sym, ap, ◌∙◌, subst, arith, List, [], ◌∷◌, ◌++◌, Option}
+use Rattle.std.proofs.Common.{Some, None, Result, Ok, Err, Bool, true, false, if◌then◌else◌, length, cond, negsuc}
 use Rattle.std.specs.Prelude.{slice_get, nat_le, ◌&&◌}
 use Rattle.std.proofs.lemmas.Bool.{leb-true, and_parts}
 use Rattle.ipg_core.specs.declared.grammar.Sym.{Sym}
@@ -15,9 +16,11 @@ use Rattle.ipg_core.specs.Tree.{Tree, Kid, Array, Many as Repetition, kids_of}
 use Rattle.ipg_core.specs.Touch.{touches, ends_of}
 use Rattle.ipg_core.specs.Eval.{is_zero}
 use Rattle.ipg_core.specs.Run.{Stop, NoTree, OutOfRange, Deep, Run, finish, stop, after, go_on, ◌>>=◌, or_next, or_else, some_of}
-use Rattle.ipg_core.specs.Meaning.{Call, Frame, State, Place, start, with_kid, with_value, value_in, slot_on, pick_on, items_on, times, item_on, kept, many_on, turns, repetition_on, term_on, terms_on, node_of, alt_on, alts_on, rule_run, rule_on, den}
+use Rattle.ipg_core.specs.Meaning.{Call, Frame, State, Place, start, with_kid, with_value, value_in, slot_on, pick_on, items_on, times, item_on, kept}
+use Rattle.ipg_core.specs.Meaning.{many_on, turns, repetition_on, term_on, terms_on, node_of, alt_on, alts_on, rule_run, rule_on, den}
 use Rattle.ipg_core.specs.Laws.{HeightsAgree, LiesWithin}
-use Rattle.ipg_moves.specs.Moves.{Entry, Outside, Items, Turns, OpenCall, Highest, Works, Holds, Known, Tally, Evaluation, lifted, advance, Advance, Inside, Past, array_on, repeated, key_at, runs_on, begins, alts_of, turned}
+use Rattle.ipg_moves.specs.Moves.{Entry, Outside, Items, Turns, OpenCall, Highest, Works, Holds, Known, Tally, Evaluation, lifted, advance, Advance}
+use Rattle.ipg_moves.specs.Moves.{Inside, Past, array_on, repeated, key_at, runs_on, begins, alts_of, turned}
 use Rattle.ipg_moves.proofs.Parts.{StandsAt}
 use Rattle.ipg_moves.proofs.Ends.{item_moves_on, den_lies}
 use Rattle.ipg_moves.proofs.Paths.{Fit, Path, stay}

@@ -1,5 +1,6 @@
 -- The moves of an evaluation follow its meaning, call by call.
-use Rattle.std.proofs.Common.{◌≡◌, ◌≢◌, ℕ, zero, suc, ◌+◌, ◌<◌, ◌≤◌, refl, sym, ap, ◌∙◌, subst, arith, List, [], ◌∷◌, Option, Some, None, Result, Ok, Err, length, max, ◌⊎◌, inl, inr}
+use Rattle.std.proofs.Common.{◌≡◌, ◌≢◌, ℕ, zero, suc, ◌+◌, ◌<◌, ◌≤◌, refl, sym, ap, ◌∙◌, subst, arith, List, [], ◌∷◌, Option, Some, None, Result, Ok}
+use Rattle.std.proofs.Common.{Err, length, max, ◌⊎◌, inl, inr}
 use Rattle.ipg_core.specs.Grammar.{Grammar, rule_at, holder_of}
 use Rattle.ipg_core.specs.Part.{part}
 use Rattle.ipg_core.specs.Tree.{Tree}
@@ -7,7 +8,8 @@ use Rattle.ipg_core.specs.Environment.{Values}
 use Rattle.ipg_core.specs.Run.{Stop, NoTree, OutOfRange, Deep, Run}
 use Rattle.ipg_core.specs.Meaning.{den}
 use Rattle.ipg_core.specs.Laws.{HeightsAgree}
-use Rattle.ipg_moves.specs.Moves.{Key, OpenCall, Highest, Works, Holds, Known, Evaluation, Tally, one_opened, one_known, known_of, learn, Advance, at_hand, key_at, opened, turned, always, silent, asked_part, asked_key, asks, works, returns, move}
+use Rattle.ipg_moves.specs.Moves.{Key, OpenCall, Highest, Works, Holds, Known, Evaluation, Tally, one_opened, one_known, known_of, learn, Advance}
+use Rattle.ipg_moves.specs.Moves.{at_hand, key_at, opened, turned, always, silent, asked_part, asked_key, asks, works, returns, move}
 use Rattle.ipg_moves.proofs.Asks.{Quiet, Asking, Anything, hand_once}
 use Rattle.ipg_moves.proofs.Parts.{StandsAt, part_at, part_stands}
 use Rattle.ipg_moves.proofs.Paths.{Fit, Path, stay, step, join}

@@ -18,12 +18,14 @@ impl<T> Model for Held<T> {
 }
 
 impl<T> Held<T> {
+    /// The value.
     pub fn get(&self) -> &T
         ensures { result.now ≡ self.now }
     {
         &self.inner
     }
 
+    /// The value, out of its memory.
     pub fn into_inner(self) -> T
         ensures { result ≡ self }
     {
@@ -33,6 +35,7 @@ impl<T> Held<T> {
 }
 
 impl<T: Drop> Held<T> {
+    /// Holds a value in memory of its own, where there is some.
     pub fn new(alloc: Global, value: T) -> Result<Held<T>, AllocError>
         ensures { IfOk result (λ held. held ≡ value) }
     {

@@ -21,6 +21,7 @@ impl<T> Model for List<T> {
 }
 
 impl<T> List<T> {
+    /// A list without items. It takes no memory.
     pub fn new(alloc: Global) -> List<T>
         ensures { result ≡ [] }
     {
@@ -36,6 +37,7 @@ impl<T> List<T> {
         List { items }
     }
 
+    /// The vector of the items, in the list's memory.
     pub fn into_vec(self) -> Vec<T>
         ensures { result.items ≡ self }
     {
@@ -43,12 +45,14 @@ impl<T> List<T> {
         items
     }
 
+    /// The items.
     pub fn as_slice(&self) -> &[T]
         ensures { result.now ≡ self.now }
     {
         self.items.as_slice()
     }
 
+    /// How many items there are.
     pub fn len(&self) -> usize
         ensures { result ≡ length self.now }
     {
@@ -57,6 +61,7 @@ impl<T> List<T> {
 }
 
 impl<T: Drop> List<T> {
+    /// Puts an item at the end. Where memory runs out, nothing changes.
     pub fn push(&mut self, item: T) -> Result<(), AllocError>
         ensures ok { OnOk result (self.new ≡ self.old ++ item ∷ []) }
         ensures err { OnErr result (self.new ≡ self.old) }

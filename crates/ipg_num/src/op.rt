@@ -1,6 +1,7 @@
 ghost use Rattle.std.specs.Prelude.{◌≡◌, ◌+◌, ◌*◌, ◌/◌, ◌^◌, ◌+ℤ◌, ◌-ℤ◌, ◌*ℤ◌, pos, bit_and, bit_or, bit_xor};
 ghost use Rattle.ipg_num.specs.Number.{limited, floor_div, floor_mod, by_divisor, by_places, on_digits, flag, apply_of, negate_of};
 
+/// The operators of two numbers.
 #[derive(Clone, Copy, Debug, PartialEq, Eq)]
 pub enum Op2 {
     Add,
@@ -29,6 +30,7 @@ pub enum Answer {
     Range,
 }
 
+/// The number of the other sign; `Range` for the least.
 pub fn negate(a: i64) -> Answer
     ensures { result ≡ negate_of a }
 {
@@ -38,6 +40,7 @@ pub fn negate(a: i64) -> Answer
     }
 }
 
+/// What an operator gives for two numbers.
 pub fn apply(op: Op2, a: i64, b: i64) -> Answer
     ensures { result ≡ apply_of op a b }
 {

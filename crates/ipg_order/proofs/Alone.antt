@@ -14,7 +14,8 @@ use Rattle.ipg_core.specs.declared.grammar.CoreRule.{CoreRule}
 use Rattle.ipg_core.specs.Grammar.{Grammar, rule_at, holder_of}
 use Rattle.ipg_core.specs.Mention.{Mention, SeenOf, ItemOf, AfterOf, OwnOf, OuterOf, FieldOf, LoopOf, term_mentions, EachSym}
 use Rattle.ipg_core.specs.Order.{TermOf, Reads, itself, through, Passes, Names, Provides}
-use Rattle.ipg_core.specs.Good.{AltAt, IsSym, SetsSome, HolderSets, IsGoodMention, IsGoodShape, IsCallable, MayCall, GoodAlt, IsGlobalAlt, WellFormed, slots_of, slots_in}
+use Rattle.ipg_core.specs.Good.{AltAt, IsSym, SetsSome, HolderSets, IsGoodMention, IsGoodShape, IsCallable, MayCall, GoodAlt, IsGlobalAlt, WellFormed}
+use Rattle.ipg_core.specs.Good.{slots_of, slots_in}
 use Rattle.ipg_order.specs.Answer.{alt_alone, rule_alone, without_orders}
 use Rattle.ipg_order.proofs.Members.{in_map, to_map}
 use Rattle.ipg_order.proofs.Telling.{written}
@@ -121,7 +122,8 @@ module _ (g : Grammar) where
     terms = λ u term e. let t = h.terms u term e in record {
       shape = shape term t.shape;
       syms = each_more (IsCallable alone at holder) (IsCallable g at holder) term (callable at holder) t.syms;
-      mentions = all_more (IsGoodMention alone holder alt.terms u) (IsGoodMention g holder alt.terms u) (term_mentions term) (mention holder alt.terms u) t.mentions;
+      mentions = all_more (IsGoodMention alone holder alt.terms u) (IsGoodMention g holder alt.terms u) (term_mentions term)
+          (mention holder alt.terms u) t.mentions;
     };
   }
 
@@ -168,23 +170,41 @@ module _ (g : Grammar) where
 
   reads_to : (attr r : ℕ) → Reads g attr r → Reads alone attr r
   reads_to attr _ (itself r term of m) = itself r term (term_to r term of) m
-  reads_to attr _ (through r callee holder term of calls is reads) = through r callee holder term (term_to r term of) calls (holder_is callee ∙ is) (reads_to attr callee reads)
+  reads_to attr _ (through r callee holder term of calls is reads) = through r callee holder term (term_to r term of) calls (holder_is callee ∙ is)
+      (reads_to attr callee reads)
 
   reads_from : (attr r : ℕ) → Reads alone attr r → Reads g attr r
   reads_from attr _ (itself r term of m) = itself r term (term_from r term of) m
-  reads_from attr _ (through r callee holder term of calls is reads) = through r callee holder term (term_from r term of) calls (sym (holder_is callee) ∙ is) (reads_from attr callee reads)
+  reads_from attr _ (through r callee holder term of calls is reads) = through r callee holder term (term_from r term of) calls
+      (sym (holder_is callee) ∙ is) (reads_from attr callee reads)
 
   passes_to : (at : ℕ × ℕ) (terms : List CoreTerm) (term : CoreTerm) (v : ℕ) → Passes g at terms term v → Passes alone at terms term v
-  passes_to at terms term v h = record { callee = h.callee; attr = h.attr; calls = h.calls; is_local = holder_is h.callee ∙ h.is_local; reads = reads_to h.attr h.callee h.reads; sets = h.sets }
+  passes_to at terms term v h = record {
+    callee = h.callee;
+    attr = h.attr;
+    calls = h.calls;
+    is_local = holder_is h.callee ∙ h.is_local;
+    reads = reads_to h.attr h.callee h.reads;
+    sets = h.sets;
+  }
 
   passes_from : (at : ℕ × ℕ) (terms : List CoreTerm) (term : CoreTerm) (v : ℕ) → Passes alone at terms term v → Passes g at terms term v
-  passes_from at terms term v h = record { callee = h.callee; attr = h.attr; calls = h.calls; is_local = sym (holder_is h.callee) ∙ h.is_local; reads = reads_from h.attr h.callee h.reads; sets = h.sets }
+  passes_from at terms term v h = record {
+    callee = h.callee;
+    attr = h.attr;
+    calls = h.calls;
+    is_local = sym (holder_is h.callee) ∙ h.is_local;
+    reads = reads_from h.attr h.callee h.reads;
+    sets = h.sets;
+  }
 
-  how_to : (at : ℕ × ℕ) (terms : List CoreTerm) (term : CoreTerm) (v : ℕ) → Names terms term v ⊎ Passes g at terms term v → Names terms term v ⊎ Passes alone at terms term v
+  how_to : (at : ℕ × ℕ) (terms : List CoreTerm) (term : CoreTerm) (v : ℕ) → Names terms term v ⊎ Passes g at terms term v
+      → Names terms term v ⊎ Passes alone at terms term v
   how_to at terms term v (inl h) = inl h
   how_to at terms term v (inr h) = inr (passes_to at terms term v h)
 
-  how_from : (at : ℕ × ℕ) (terms : List CoreTerm) (term : CoreTerm) (v : ℕ) → Names terms term v ⊎ Passes alone at terms term v → Names terms term v ⊎ Passes g at terms term v
+  how_from : (at : ℕ × ℕ) (terms : List CoreTerm) (term : CoreTerm) (v : ℕ) → Names terms term v ⊎ Passes alone at terms term v
+      → Names terms term v ⊎ Passes g at terms term v
   how_from at terms term v (inl h) = inl h
   how_from at terms term v (inr h) = inr (passes_from at terms term v h)
 

@@ -27,8 +27,11 @@ module _ (holders : Holders) (flags : Marks) (r : ℕ) where
       → AreOrderedAlts holders flags r n olds news → IsOrderedAlt holders flags (r, n + length olds) old new
       → AreOrderedAlts holders flags r n (olds ++ old ∷ []) (news ++ new ∷ [])
   one_more n [] [] old new h is = (subst (λ k. IsOrderedAlt holders flags (r, k) old new) (omega arith) is, tt)
-  one_more n (o ∷ olds) (w ∷ news) old new h is =
-      (h.0, one_more (n + 1) olds news old new h.1 (subst (λ k. IsOrderedAlt holders flags (r, k) old new) (let z : n + length (o ∷ olds) ≡ (n + 1) + length olds = omega arith in z) is))
+  one_more n (o ∷ olds) (w ∷ news) old new h is = (
+    h.0,
+    one_more (n + 1) olds news old new h.1
+        (subst (λ k. IsOrderedAlt holders flags (r, k) old new) (let z : n + length (o ∷ olds) ≡ (n + 1) + length olds = omega arith in z) is),
+  )
   one_more n [] (w ∷ news) old new h is = absurd h
   one_more n (o ∷ olds) [] old new h is = absurd h
 
@@ -53,7 +56,8 @@ module _ (holders : Holders) (flags : Marks) where
   all_orders : (r : ℕ) (old : CompletedRule) (new : CoreRule) → IsOrderedRule holders flags r old new → HasOrders holders flags r old
   all_orders r old new h b alt e =
       subst (λ k. HasOrder holders flags (r, k) alt) (let z : 0 + b ≡ b = omega arith in z)
-      (have_orders holders flags r 0 old.alts [] new.alts h.alts b alt (slice_get_within old.alts b alt e) (ap (λ xs. slice_get xs b) (append-nil old.alts) ∙ e))
+      (have_orders holders flags r 0 old.alts [] new.alts h.alts b alt (slice_get_within old.alts b alt e)
+      (ap (λ xs. slice_get xs b) (append-nil old.alts) ∙ e))
 
   pub as_many_rules : (n : ℕ) (olds : List CompletedRule) (news : List CoreRule) → AreOrderedRules holders flags n olds news → length news ≡ length olds
   as_many_rules n [] [] h = refl
@@ -65,8 +69,11 @@ module _ (holders : Holders) (flags : Marks) where
       → AreOrderedRules holders flags n olds news → IsOrderedRule holders flags (n + length olds) old new
       → AreOrderedRules holders flags n (olds ++ old ∷ []) (news ++ new ∷ [])
   one_more_rule n [] [] old new h is = (subst (λ k. IsOrderedRule holders flags k old new) (omega arith) is, tt)
-  one_more_rule n (o ∷ olds) (w ∷ news) old new h is =
-      (h.0, one_more_rule (n + 1) olds news old new h.1 (subst (λ k. IsOrderedRule holders flags k old new) (let z : n + length (o ∷ olds) ≡ (n + 1) + length olds = omega arith in z) is))
+  one_more_rule n (o ∷ olds) (w ∷ news) old new h is = (
+    h.0,
+    one_more_rule (n + 1) olds news old new h.1
+        (subst (λ k. IsOrderedRule holders flags k old new) (let z : n + length (o ∷ olds) ≡ (n + 1) + length olds = omega arith in z) is),
+  )
   one_more_rule n [] (w ∷ news) old new h is = absurd h
   one_more_rule n (o ∷ olds) [] old new h is = absurd h
 

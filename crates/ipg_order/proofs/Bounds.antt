@@ -1,5 +1,6 @@
 -- The places of flags are within the rows, and alternatives are few.
-use Rattle.std.proofs.Common.{◌≡◌, ℕ, zero, suc, ◌*◌, ◌<◌, ◌≤◌, refl, ap, subst, arith, List, [], ◌∷◌, Option, Some, None, map, length, Bool, Vec, Global, Result, Ok, Err, IfOk}
+use Rattle.std.proofs.Common.{◌≡◌, ℕ, zero, suc, ◌*◌, ◌<◌, ◌≤◌, refl, ap, subst, arith, List, [], ◌∷◌, Option, Some, None, map, length, Bool, Vec}
+use Rattle.std.proofs.Common.{Global, Result, Ok, Err, IfOk}
 use Rattle.std.specs.declared.alloc.AllocError.{AllocError}
 use Rattle.std.specs.Prelude.{slice_get, Contains}
 use Rattle.std.specs.List.{AllByRecursion}
@@ -61,7 +62,8 @@ module _ (c : Unordered) (good : WellFormed (core_of c)) where
       (row_below hand.caller h.holder h.is_local, row_below hand.callee h.under h.callee_local))
 
 -- flags that are reached tell of what waits
-pub if_reached : (c : Unordered) (rules : List CompletedRule) (keys : List ℕ) (hands : List Hand) (flags : Result (Vec Bool Global) AllocError) → rules ≡ c.rules → keys ≡ all_keys rules → hands ≡ all_hands rules → WellFormed (core_of c)
+pub if_reached : (c : Unordered) (rules : List CompletedRule) (keys : List ℕ) (hands : List Hand) (flags : Result (Vec Bool Global) AllocError)
+    → rules ≡ c.rules → keys ≡ all_keys rules → hands ≡ all_hands rules → WellFormed (core_of c)
     → IfOk flags (λ f. AreReached (length rules) keys hands f.items) → IfOk flags (λ f. TellWaits c f.items)
 if_reached c rules keys hands (Ok f) e k h good reached =
     tell_waits c good f.items

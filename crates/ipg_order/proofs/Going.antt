@@ -1,5 +1,6 @@
 -- Items taken one after another.
-use Rattle.std.proofs.Common.{◌≡◌, ℕ, zero, suc, ◌<◌, refl, sym, ap, ◌∙◌, subst, arith, List, [], ◌∷◌, ◌++◌, Bool, true, false, length, true≢false, ◌⊎◌, inl, inr}
+use Rattle.std.proofs.Common.{◌≡◌, ℕ, zero, suc, ◌<◌, refl, sym, ap, ◌∙◌, subst, arith, List, [], ◌∷◌, ◌++◌, Bool, true, false, length, true≢false}
+use Rattle.std.proofs.Common.{◌⊎◌, inl, inr}
 use Rattle.std.specs.Prelude.{slice_set, replicate, ◌||◌, nat_eq}
 use Rattle.std.proofs.lemmas.Bool.Decides.{nat_tests}
 use Rattle.ipg_core.specs.MustTouch.{Marks, is_marked}
@@ -22,15 +23,18 @@ pub taken_more : (taken order : List ℕ) (u : ℕ) → taken_after taken (order
 taken_more taken [] u = refl
 taken_more taken (v ∷ order) u = taken_more (v ∷ taken) order u
 
-pub goes_more : (provides : ℕ → ℕ → Type 0) (n : ℕ) (taken order : List ℕ) (u : ℕ) → Goes provides n taken order → IsNext provides n (taken_after taken order) u → Goes provides n taken (order ++ u ∷ [])
+pub goes_more : (provides : ℕ → ℕ → Type 0) (n : ℕ) (taken order : List ℕ) (u : ℕ) → Goes provides n taken order
+    → IsNext provides n (taken_after taken order) u → Goes provides n taken (order ++ u ∷ [])
 goes_more provides n taken [] u h k = (k, tt)
 goes_more provides n taken (v ∷ order) u h k = (h.0, goes_more provides n (v ∷ taken) order u h.1 k)
 
-pub goes_whole : (provides : ℕ → ℕ → Type 0) (n : ℕ) (taken order : List ℕ) → Goes provides n taken order → ((u : ℕ) → u < n → is_taken (taken_after taken order) u ≡ true) → InOrder provides n taken order
+pub goes_whole : (provides : ℕ → ℕ → Type 0) (n : ℕ) (taken order : List ℕ) → Goes provides n taken order
+    → ((u : ℕ) → u < n → is_taken (taken_after taken order) u ≡ true) → InOrder provides n taken order
 goes_whole provides n taken [] h k = k
 goes_whole provides n taken (v ∷ order) h k = (h.0, goes_whole provides n (v ∷ taken) order h.1 k)
 
-pub goes_stuck : (provides : ℕ → ℕ → Type 0) (n : ℕ) (taken order : List ℕ) (u : ℕ) → Goes provides n taken order → IsEnd provides n (taken_after taken order) u → EndsAt provides n taken order u
+pub goes_stuck : (provides : ℕ → ℕ → Type 0) (n : ℕ) (taken order : List ℕ) (u : ℕ) → Goes provides n taken order
+    → IsEnd provides n (taken_after taken order) u → EndsAt provides n taken order u
 goes_stuck provides n taken [] u h k = k
 goes_stuck provides n taken (v ∷ order) u h k = (h.0, goes_stuck provides n (v ∷ taken) order u h.1 k)
 
@@ -108,10 +112,12 @@ not_marked flags taken v h e = false_by (is_marked flags v) refl
     false_by true k = sym (h.only v k) ∙ e
     false_by false k = refl
 
-ready : (needs : List (List ℕ)) (flags : Marks) (taken : List ℕ) (w : ℕ) → Shows flags taken → w < length needs → is_taken taken w ≡ false → IsProvided (Listed needs) taken w → IsReady needs flags w
+ready : (needs : List (List ℕ)) (flags : Marks) (taken : List ℕ) (w : ℕ) → Shows flags taken → w < length needs → is_taken taken w ≡ false
+    → IsProvided (Listed needs) taken w → IsReady needs flags w
 ready needs flags taken w h lt fresh provided = record { below = lt; fresh = not_marked flags taken w h fresh; provided = λ v k. h.all v (provided v k) }
 
-pub is_next : (needs : List (List ℕ)) (flags : Marks) (taken : List ℕ) (u : ℕ) → Shows flags taken → IsFirstReady needs flags u → IsNext (Listed needs) (length needs) taken u
+pub is_next : (needs : List (List ℕ)) (flags : Marks) (taken : List ℕ) (u : ℕ) → Shows flags taken → IsFirstReady needs flags u
+    → IsNext (Listed needs) (length needs) taken u
 is_next needs flags taken u h first = record {
   below = first.ready.below;
   fresh = not_taken flags taken u h first.ready.fresh;
@@ -119,7 +125,8 @@ is_next needs flags taken u h first = record {
   least = λ w lt fresh provided. first.least w lt (ready needs flags taken w h (let a = first.ready.below in omega arith) fresh provided);
 }
 
-pub is_end : (needs : List (List ℕ)) (flags : Marks) (taken : List ℕ) (u : ℕ) → Shows flags taken → length flags ≡ length needs → ((w : ℕ) → IsReady needs flags w → ⊥) → IsFirstFree flags u → IsEnd (Listed needs) (length needs) taken u
+pub is_end : (needs : List (List ℕ)) (flags : Marks) (taken : List ℕ) (u : ℕ) → Shows flags taken → length flags ≡ length needs
+    → ((w : ℕ) → IsReady needs flags w → ⊥) → IsFirstFree flags u → IsEnd (Listed needs) (length needs) taken u
 is_end needs flags taken u h same none first = record {
   below = let a = first.below in omega arith;
   fresh = not_taken flags taken u h first.fresh;

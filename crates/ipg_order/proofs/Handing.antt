@@ -1,5 +1,6 @@
 -- Flags that are handed on, one after another.
-use Rattle.std.proofs.Common.{◌≡◌, ℕ, zero, suc, ◌+◌, ◌*◌, ◌<◌, refl, sym, ap, ◌∙◌, subst, arith, List, [], ◌∷◌, Bool, true, false, length, true≢false, ◌⊎◌, inl, inr, take, get_or}
+use Rattle.std.proofs.Common.{◌≡◌, ℕ, zero, suc, ◌+◌, ◌*◌, ◌<◌, refl, sym, ap, ◌∙◌, subst, arith, List, [], ◌∷◌, Bool, true, false, length}
+use Rattle.std.proofs.Common.{true≢false, ◌⊎◌, inl, inr, take, get_or}
 use Rattle.std.specs.Prelude.{slice_set, slice_index_or, Contains, ◌||◌}
 use Rattle.std.specs.List.{AllByRecursion}
 use Rattle.std.proofs.lemmas.List.{take_more}
@@ -13,11 +14,13 @@ pub step_size : (new : Bool) (old : Marks) (from to : ℕ) (flags : Marks) → S
 step_size true old from to flags s = ap length s.0 ∙ set_size old to
 step_size false old from to flags s = ap length s.0
 
-pub step_keeps : (new : Bool) (old : Marks) (from to : ℕ) (flags : Marks) → Stepped new old from to flags → (k : ℕ) → is_marked old k ≡ true → is_marked flags k ≡ true
+pub step_keeps : (new : Bool) (old : Marks) (from to : ℕ) (flags : Marks) → Stepped new old from to flags → (k : ℕ) → is_marked old k ≡ true
+    → is_marked flags k ≡ true
 step_keeps true old from to flags s k h = ap (λ fs. is_marked fs k) s.0 ∙ set_keeps old to k h
 step_keeps false old from to flags s k h = ap (λ fs. is_marked fs k) s.0 ∙ h
 
-pub step_sound : (new : Bool) (old : Marks) (hand : Hand) (column : ℕ) (flags : Marks) → column < 256 → Stepped new old (flag hand.callee column) (flag hand.caller column) flags
+pub step_sound : (new : Bool) (old : Marks) (hand : Hand) (column : ℕ) (flags : Marks) → column < 256
+    → Stepped new old (flag hand.callee column) (flag hand.caller column) flags
     → (keys : List ℕ) (hands : List Hand) → Contains hands hand → AreSound keys hands old → AreSound keys hands flags
 step_sound true old hand column flags lt s keys hands m sound = λ k h. one k (was_set old (flag hand.caller column) k (ap (λ fs. is_marked fs k) (sym s.0) ∙ h))
   where
@@ -31,7 +34,9 @@ pub Passing : Bool → Hand → ℕ → Marks → Marks → Type 0
 Passing true hand columns old flags = unset flags < unset old
 Passing false hand columns old flags = (flags ≡ old) × IsHandedOn columns hand flags
 
-one_more : (hand : Hand) (column : ℕ) (flags : Marks) → (is_marked flags (flag hand.callee column) ≡ true → is_marked flags (flag hand.caller column) ≡ true) → IsHandedOn column hand flags → IsHandedOn (column + 1) hand flags
+one_more : (hand : Hand) (column : ℕ) (flags : Marks)
+    → (is_marked flags (flag hand.callee column) ≡ true → is_marked flags (flag hand.caller column) ≡ true) → IsHandedOn column hand flags
+    → IsHandedOn (column + 1) hand flags
 one_more hand column flags here so_far c lt h = by_order (below_or_same c column lt)
   where
     below_or_same : (c column : ℕ) → c < column + 1 → (c < column) ⊎ (c ≡ column)
@@ -41,11 +46,13 @@ one_more hand column flags here so_far c lt h = by_order (below_or_same c column
     by_order (inl below) = so_far c below h
     by_order (inr same) = ap (λ n. is_marked flags (flag hand.caller n)) same ∙ here (ap (λ n. is_marked flags (flag hand.callee n)) (sym same) ∙ h)
 
-pub passing_next : (more new : Bool) (hand : Hand) (column : ℕ) (first old flags : Marks) → flag hand.caller column < length old → Stepped new old (flag hand.callee column) (flag hand.caller column) flags
+pub passing_next : (more new : Bool) (hand : Hand) (column : ℕ) (first old flags : Marks) → flag hand.caller column < length old
+    → Stepped new old (flag hand.callee column) (flag hand.caller column) flags
     → Passing more hand column first old → Passing (more || new) hand (column + 1) first flags
 unfolding Passing
 passing_next true true hand column first old flags lt s h =
-    let less = fewer_unset old (flag hand.caller column) lt s.2 in let same : unset flags ≡ unset (slice_set old (flag hand.caller column) true) = ap unset s.0 in omega arith
+    let less = fewer_unset old (flag hand.caller column) lt s.2 in let same : unset flags ≡ unset (slice_set old (flag hand.caller column) true) =
+    ap unset s.0 in omega arith
 passing_next true false hand column first old flags lt s h = let same : unset flags ≡ unset old = ap unset s.0 in omega arith
 passing_next false true hand column first old flags lt s h =
     let less = fewer_unset old (flag hand.caller column) lt s.2 in
@@ -62,12 +69,14 @@ pub nothing_passed : (hand : Hand) (flags : Marks) → Passing false hand 0 flag
 unfolding Passing
 nothing_passed hand flags = (refl, λ c lt. absurd (omega arith))
 
-pub passed_closed : (more : Bool) (hand : Hand) (columns : ℕ) (first flags : Marks) → more ≡ false → Passing more hand columns first flags → (flags ≡ first) × IsHandedOn columns hand flags
+pub passed_closed : (more : Bool) (hand : Hand) (columns : ℕ) (first flags : Marks) → more ≡ false → Passing more hand columns first flags
+    → (flags ≡ first) × IsHandedOn columns hand flags
 unfolding Passing
 passed_closed true hand columns first flags e h = absurd (true≢false e)
 passed_closed false hand columns first flags e h = h
 
-pub passed_fewer : (more : Bool) (hand : Hand) (columns : ℕ) (first flags : Marks) → more ≡ true → Passing more hand columns first flags → unset flags < unset first
+pub passed_fewer : (more : Bool) (hand : Hand) (columns : ℕ) (first flags : Marks) → more ≡ true → Passing more hand columns first flags
+    → unset flags < unset first
 unfolding Passing
 passed_fewer true hand columns first flags e h = h
 passed_fewer false hand columns first flags e h = absurd (true≢false (sym e))
@@ -83,7 +92,8 @@ pub record Handed (new : Bool) (hand : Hand) (old flags : Marks) : Type 0 where
   pub closed : new ≡ false → (flags ≡ old) × IsHandedOn 256 hand flags
   pub fewer : new ≡ true → unset flags < unset old
 
-pub all_next : (more new : Bool) (before : List Hand) (hand : Hand) (after : List Hand) (first old flags : Marks) → ((h : Hand) → Contains after h → Contains before h ⊎ (h ≡ hand))
+pub all_next : (more new : Bool) (before : List Hand) (hand : Hand) (after : List Hand) (first old flags : Marks)
+    → ((h : Hand) → Contains after h → Contains before h ⊎ (h ≡ hand))
     → Handed new hand old flags → PassingAll more before first old → PassingAll (more || new) after first flags
 unfolding PassingAll
 all_next true true before hand after first old flags m s h = let less = s.fewer refl in omega arith
@@ -113,11 +123,14 @@ all_fewer false hands first flags e h = absurd (true≢false (sym e))
 
 -- ---- closed flags that hold the keys are all that is reached
 
-pub reached : (keys : List ℕ) (hands : List Hand) (flags : Marks) → ((k : ℕ) → Contains keys k → is_marked flags k ≡ true) → AreHandedOn hands flags → (k : ℕ) → Reached keys hands k → is_marked flags k ≡ true
+pub reached : (keys : List ℕ) (hands : List Hand) (flags : Marks) → ((k : ℕ) → Contains keys k → is_marked flags k ≡ true) → AreHandedOn hands flags
+    → (k : ℕ) → Reached keys hands k → is_marked flags k ≡ true
 reached keys hands flags holds closed k (direct _ m) = holds k m
-reached keys hands flags holds closed k (handed hand column m lt r) = closed hand m column lt (reached keys hands flags holds closed (flag hand.callee column) r)
+reached keys hands flags holds closed k (handed hand column m lt r) =
+    closed hand m column lt (reached keys hands flags holds closed (flag hand.callee column) r)
 
-pub are_reached : (rows : ℕ) (keys : List ℕ) (hands : List Hand) (flags : Marks) → length flags ≡ rows * 256 → AreSound keys hands flags → ((k : ℕ) → Contains keys k → is_marked flags k ≡ true) → AreHandedOn hands flags → AreReached rows keys hands flags
+pub are_reached : (rows : ℕ) (keys : List ℕ) (hands : List Hand) (flags : Marks) → length flags ≡ rows * 256 → AreSound keys hands flags
+    → ((k : ℕ) → Contains keys k → is_marked flags k ≡ true) → AreHandedOn hands flags → AreReached rows keys hands flags
 are_reached rows keys hands flags size sound holds closed = record { size = size; exact = λ k. (sound k, reached keys hands flags holds closed k) }
 
 -- ---- what is gone over so far

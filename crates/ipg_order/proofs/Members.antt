@@ -70,12 +70,15 @@ in_numbered n f (x ∷ xs) y m =
 same_item : {X : Type 0} (x z : X) (xs : List X) → slice_get (z ∷ xs) zero ≡ Some x → z ≡ x
 same_item x z xs e = cc
 
-pub to_numbered : {X Y : Type 0} (n : ℕ) (f : ℕ → X → List Y) (xs : List X) (k : ℕ) (x : X) (y : Y) → slice_get xs k ≡ Some x → Contains (f (n + k) x) y → Contains (numbered n f xs) y
+pub to_numbered : {X Y : Type 0} (n : ℕ) (f : ℕ → X → List Y) (xs : List X) (k : ℕ) (x : X) (y : Y) → slice_get xs k ≡ Some x
+    → Contains (f (n + k) x) y → Contains (numbered n f xs) y
 to_numbered n f [] k x y e m = absurd (cc)
 to_numbered n f (z ∷ xs) zero x y e m =
-    Contains-append_left (f n z) (numbered (n + 1) f xs) y (subst (λ w. Contains (f n w) y) (sym (same_item x z xs e)) (subst (λ j. Contains (f j x) y) (let e : n + 0 ≡ n = omega arith in e) m))
+    Contains-append_left (f n z) (numbered (n + 1) f xs) y
+    (subst (λ w. Contains (f n w) y) (sym (same_item x z xs e)) (subst (λ j. Contains (f j x) y) (let e : n + 0 ≡ n = omega arith in e) m))
 to_numbered n f (z ∷ xs) (suc k) x y e m =
-    Contains-append_right (f n z) (numbered (n + 1) f xs) y (to_numbered (n + 1) f xs k x y e (subst (λ j. Contains (f j x) y) (let e : n + suc k ≡ (n + 1) + k = omega arith in e) m))
+    Contains-append_right (f n z) (numbered (n + 1) f xs) y
+    (to_numbered (n + 1) f xs k x y e (subst (λ j. Contains (f j x) y) (let e : n + suc k ≡ (n + 1) + k = omega arith in e) m))
 
 pub record Image {X Y : Type 0} (f : X → Y) (xs : List X) (y : Y) : Type 0 where
   pub item : X

@@ -39,7 +39,8 @@ module _ (holders : Holders) (flags : Marks) where
       let alts = alts_alone r 0 old.alts new.alts h.alts in
       rw (h.name, h.holder, alts) refl
 
-  pub rules_alone : (r : ℕ) (olds : List CompletedRule) (news : List CoreRule) → AreOrderedRules holders flags r olds news → map rule_alone news ≡ map rule_of olds
+  pub rules_alone : (r : ℕ) (olds : List CompletedRule) (news : List CoreRule) → AreOrderedRules holders flags r olds news
+      → map rule_alone news ≡ map rule_of olds
   rules_alone r [] [] h = refl
   rules_alone r (old ∷ olds) (new ∷ news) h =
       let one = one_alone r old new h.0 in
@@ -53,33 +54,56 @@ module _ (holders : Holders) (flags : Marks) where
     there : slice_get olds k ≡ Some old
     is : IsOrderedRule holders flags (r + k) old new
 
-  rule_was : (r : ℕ) (olds : List CompletedRule) (news : List CoreRule) → AreOrderedRules holders flags r olds news → (k : ℕ) (new : CoreRule) → slice_get news k ≡ Some new → RuleWas olds r k new
+  rule_was : (r : ℕ) (olds : List CompletedRule) (news : List CoreRule) → AreOrderedRules holders flags r olds news → (k : ℕ) (new : CoreRule)
+      → slice_get news k ≡ Some new → RuleWas olds r k new
   rule_was r olds [] h k new e = absurd (cc)
   rule_was r [] (n ∷ news) h k new e = absurd h
   rule_was r (old ∷ olds) (n ∷ news) h zero new e =
       let same : n ≡ new = cc in
-      record { old = old; there = refl; is = subst (λ j. IsOrderedRule holders flags j old new) (let z : r ≡ r + 0 = omega arith in z) (subst (IsOrderedRule holders flags r old) same h.0) }
+      record {
+        old = old;
+        there = refl;
+        is = subst (λ j. IsOrderedRule holders flags j old new) (let z : r ≡ r + 0 = omega arith in z)
+            (subst (IsOrderedRule holders flags r old) same h.0);
+      }
   rule_was r (old ∷ olds) (n ∷ news) h (suc k) new e =
       let w = rule_was (r + 1) olds news h.1 k new e in
-      record { old = w.old; there = w.there; is = subst (λ j. IsOrderedRule holders flags j w.old new) (let z : (r + 1) + k ≡ r + suc k = omega arith in z) w.is }
+      record {
+        old = w.old;
+        there = w.there;
+        is = subst (λ j. IsOrderedRule holders flags j w.old new) (let z : (r + 1) + k ≡ r + suc k = omega arith
+            in z) w.is;
+      }
 
   record AltWas (olds : List CompletedAlt) (r n k : ℕ) (new : CoreAlt) : Type 0 where
     old : CompletedAlt
     there : slice_get olds k ≡ Some old
     is : IsOrderedAlt holders flags (r, n + k) old new
 
-  alt_was : (r n : ℕ) (olds : List CompletedAlt) (news : List CoreAlt) → AreOrderedAlts holders flags r n olds news → (k : ℕ) (new : CoreAlt) → slice_get news k ≡ Some new → AltWas olds r n k new
+  alt_was : (r n : ℕ) (olds : List CompletedAlt) (news : List CoreAlt) → AreOrderedAlts holders flags r n olds news → (k : ℕ) (new : CoreAlt)
+      → slice_get news k ≡ Some new → AltWas olds r n k new
   alt_was r n olds [] h k new e = absurd (cc)
   alt_was r n [] (m ∷ news) h k new e = absurd h
   alt_was r n (old ∷ olds) (m ∷ news) h zero new e =
       let same : m ≡ new = cc in
-      record { old = old; there = refl; is = subst (λ j. IsOrderedAlt holders flags (r, j) old new) (let z : n ≡ n + 0 = omega arith in z) (subst (IsOrderedAlt holders flags (r, n) old) same h.0) }
+      record {
+        old = old;
+        there = refl;
+        is = subst (λ j. IsOrderedAlt holders flags (r, j) old new) (let z : n ≡ n + 0 = omega arith in z)
+            (subst (IsOrderedAlt holders flags (r, n) old) same h.0);
+      }
   alt_was r n (old ∷ olds) (m ∷ news) h (suc k) new e =
       let w = alt_was r (n + 1) olds news h.1 k new e in
-      record { old = w.old; there = w.there; is = subst (λ j. IsOrderedAlt holders flags (r, j) w.old new) (let z : (n + 1) + k ≡ n + suc k = omega arith in z) w.is }
+      record {
+        old = w.old;
+        there = w.there;
+        is = subst (λ j. IsOrderedAlt holders flags (r, j) w.old new)
+            (let z : (n + 1) + k ≡ n + suc k = omega arith in z) w.is;
+      }
 
 module _ (c : Unordered) (good : WellFormed (core_of c)) (flags : Marks) (tells : TellWaits c flags) where
-  alt_there : (rule : CompletedRule) (alt : CompletedAlt) (at : ℕ × ℕ) → slice_get c.rules at.0 ≡ Some rule → slice_get rule.alts at.1 ≡ Some alt → AltAt (core_of c) (rule_of rule) (alt_of alt) at
+  alt_there : (rule : CompletedRule) (alt : CompletedAlt) (at : ℕ × ℕ) → slice_get c.rules at.0 ≡ Some rule → slice_get rule.alts at.1 ≡ Some alt
+      → AltAt (core_of c) (rule_of rule) (alt_of alt) at
   alt_there rule alt at e f = record {
     is_rule = slice_get-map rule_of c.rules at.0 ∙ ap (option_map rule_of) e;
     is_alt = slice_get-map alt_of rule.alts at.1 ∙ ap (option_map alt_of) f;
@@ -92,7 +116,8 @@ module _ (c : Unordered) (good : WellFormed (core_of c)) (flags : Marks) (tells 
   -- ---- the first that has none
 
   module _ (r a u : ℕ) (h : StopsAtRule (holders_of c.rules) flags c.rules r a u) where
-    before : (to : ℕ × ℕ) (rule : CompletedRule) (alt : CompletedAlt) → IsBefore to (r, a) → slice_get c.rules to.0 ≡ Some rule → slice_get rule.alts to.1 ≡ Some alt
+    before : (to : ℕ × ℕ) (rule : CompletedRule) (alt : CompletedAlt) → IsBefore to (r, a) → slice_get c.rules to.0 ≡ Some rule
+        → slice_get rule.alts to.1 ≡ Some alt
         → lists.HasOrder (holders_of c.rules) flags to alt
     before (s, b) rule alt (inl lt) e f = h.before s rule lt e b alt f
     before (s, b) rule alt (inr (same, lt)) e f =
@@ -108,7 +133,8 @@ module _ (c : Unordered) (good : WellFormed (core_of c)) (flags : Marks) (tells 
       is_alt = alt_there h.rule h.stops.alt (r, a) h.is_rule h.stops.is_alt;
       stuck = record {
         order = h.stops.stops.0;
-        ends = is_stuck c good flags tells (rule_of h.rule) (alt_of h.stops.alt) (r, a) (alt_there h.rule h.stops.alt (r, a) h.is_rule h.stops.is_alt) h.stops.stops.0 u h.stops.stops.1;
+        ends = is_stuck c good flags tells (rule_of h.rule) (alt_of h.stops.alt) (r, a) (alt_there h.rule h.stops.alt (r, a) h.is_rule h.stops.is_alt)
+            h.stops.stops.0 u h.stops.stops.1;
       };
       before = λ to other alt is_before at.
           let w = written rule_of c.rules to.0 other at.is_rule in
@@ -163,13 +189,15 @@ are_small c good = record {
       let is_rule = slice_get-map rule_of c.rules r ∙ ap (option_map rule_of) e in record {
         count = subst (λ n. n ≤ 64) (length-map rule.alts alt_of) (good.rules r (rule_of rule) is_rule).limit;
         each = at_each (λ alt. length alt.terms ≤ 256) rule.alts (λ a alt f.
-            (good.alts (r, a) (rule_of rule) (alt_of alt) (record { is_rule = is_rule; is_alt = slice_get-map alt_of rule.alts a ∙ ap (option_map alt_of) f })).limit);
+            (good.alts (r, a) (rule_of rule) (alt_of alt)
+            (record { is_rule = is_rule; is_alt = slice_get-map alt_of rule.alts a ∙ ap (option_map alt_of) f })).limit);
       });
 }
 
 -- ---- the same of a value in the words of its parts
 
-module _ (inside c : Unordered) (is : inside ≡ c) (good : WellFormed (core_of inside)) (holders : Holders) (held : holders ≡ holders_of c.rules) (flags : Marks) (tells : TellWaits c flags) where
+module _ (inside c : Unordered) (is : inside ≡ c) (good : WellFormed (core_of inside)) (holders : Holders) (held : holders ≡ holders_of c.rules)
+    (flags : Marks) (tells : TellWaits c flags) where
   tells_inside : TellWaits inside flags
   tells_inside = subst (λ x. TellWaits x flags) (sym is) tells
 
@@ -182,8 +210,10 @@ module _ (inside c : Unordered) (is : inside ≡ c) (good : WellFormed (core_of 
   pub is_good : (news : List CoreRule) → AreOrderedRules holders flags 0 inside.rules news → Good (record { rules = news; names = inside.names })
   is_good news h = good_of inside good flags tells_inside news (in_order news h)
 
-  pub is_same : (news : List CoreRule) → AreOrderedRules holders flags 0 inside.rules news → without_orders (record { rules = news; names = inside.names }) ≡ core_of c
+  pub is_same : (news : List CoreRule) → AreOrderedRules holders flags 0 inside.rules news
+      → without_orders (record { rules = news; names = inside.names }) ≡ core_of c
   is_same news h = same_alone inside good flags tells_inside news (in_order news h) ∙ ap core_of is
 
   pub stops_so : (fault : OrderFault) → RulesStop holders flags inside.rules (Err fault) → OrderStops (core_of c) fault
-  stops_so fault h = subst (λ x. OrderStops (core_of x) fault) is (stops_of inside good flags tells_inside fault (subst (λ hs. RulesStop hs flags inside.rules (Err fault)) held_inside h))
+  stops_so fault h = subst (λ x. OrderStops (core_of x) fault) is
+      (stops_of inside good flags tells_inside fault (subst (λ hs. RulesStop hs flags inside.rules (Err fault)) held_inside h))

@@ -1,5 +1,6 @@
 -- Flags that are reached are those of the terms that a local rule waits for.
-use Rattle.std.proofs.Common.{◌≡◌, ℕ, zero, suc, ◌+◌, ◌<◌, ◌≤◌, refl, sym, ap, ◌∙◌, subst, arith, List, [], ◌∷◌, Option, Some, None, Bool, true, false, cond, map, length, inl, inr, true≢false}
+use Rattle.std.proofs.Common.{◌≡◌, ℕ, zero, suc, ◌+◌, ◌<◌, ◌≤◌, refl, sym, ap, ◌∙◌, subst, arith, List, [], ◌∷◌, Option, Some, None, Bool, true}
+use Rattle.std.proofs.Common.{false, cond, map, length, inl, inr, true≢false}
 use Rattle.std.specs.Prelude.{slice_get, option_map, option_to_list, flat_map, Contains}
 use Rattle.std.specs.List.{AllByRecursion}
 use Rattle.std.proofs.lemmas.Option.{slice_get-map, slice_get_within}
@@ -25,7 +26,8 @@ use Rattle.ipg_order.specs.declared.named.Named.TheVariants.{Term, Own, Outer}
 use Rattle.ipg_order.specs.declared.closure.Hand.{Hand}
 use Rattle.ipg_order.specs.Named.{named}
 use Rattle.ipg_order.specs.Closure.{flag, Reached, direct, handed, AreReached}
-use Rattle.ipg_order.specs.Locals.{setter, terms_in, terms_of_rule, terms_at, name_keys, term_keys, alt_keys, keys_under, rule_keys, all_keys, is_some, is_local, sym_hands, term_hands, alt_hands, hands_under, rule_hands, all_hands}
+use Rattle.ipg_order.specs.Locals.{setter, terms_in, terms_of_rule, terms_at, name_keys, term_keys, alt_keys, keys_under, rule_keys, all_keys}
+use Rattle.ipg_order.specs.Locals.{is_some, is_local, sym_hands, term_hands, alt_hands, hands_under, rule_hands, all_hands}
 use Rattle.ipg_order.specs.Reading.{WaitsFor, TellWaits}
 use Rattle.ipg_order.proofs.Members.{by, not_in, cons_cases, here, in_flat, to_flat, in_numbered, to_numbered, in_map, to_map, place_of}
 use Rattle.ipg_order.proofs.Handing.{only_one}
@@ -55,7 +57,8 @@ terms_there c rule alt at a =
 
 -- ---- a symbol of a term
 
-cases_at : (P : Sym → Type 0) (cases : List (CoreExpr × CoreSlot)) (one : Sym) → AllByRecursion (λ x. P x.1.sym) cases → Contains (flat_map (λ x. x.1.sym ∷ []) cases) one → P one
+cases_at : (P : Sym → Type 0) (cases : List (CoreExpr × CoreSlot)) (one : Sym) → AllByRecursion (λ x. P x.1.sym) cases
+    → Contains (flat_map (λ x. x.1.sym ∷ []) cases) one → P one
 cases_at P [] one h m = absurd (not_in one m)
 cases_at P (x ∷ cases) one h m = elim (cons_cases x.1.sym (flat_map (λ y. y.1.sym ∷ []) cases) one m) as (λ _. P one) [
   | inl e ↦ subst P (sym e) h.0
@@ -71,7 +74,8 @@ each_at P (Set attr e) one h m = absurd (not_in one m)
 each_at P (Test e) one h m = absurd (not_in one m)
 each_at P (Repeat first last item from to) one h m = alone P item one h m
 each_at P (Many item from to) one h m = alone P item one h m
-each_at P (Pick cases other) one h m = by (Contains-append_cases (flat_map (λ x. x.1.sym ∷ []) cases) (other.sym ∷ []) one m) (λ k. cases_at P cases one h.0 k) (λ k. alone P other.sym one h.1 k)
+each_at P (Pick cases other) one h m = by (Contains-append_cases (flat_map (λ x. x.1.sym ∷ []) cases) (other.sym ∷ []) one m)
+    (λ k. cases_at P cases one h.0 k) (λ k. alone P other.sym one h.1 k)
 
 -- ---- a local rule calls local rules of its own holder alone
 
@@ -86,12 +90,14 @@ module _ (c : Unordered) (good : WellFormed (core_of c)) where
       let same : rule ≡ global.0 = let a = global.2.is_rule in cc in
       ap (λ (x : CoreRule). x.holder) same ∙ global.3
 
-  same_holder : (r callee : ℕ) (holder other : ℕ × ℕ) (term : CoreTerm) → TermOf g r term → holder_of (rule_at g r) ≡ Some holder → Contains (term_syms term) (syms.Rule callee) → holder_of (rule_at g callee) ≡ Some other → other ≡ holder
+  same_holder : (r callee : ℕ) (holder other : ℕ × ℕ) (term : CoreTerm) → TermOf g r term → holder_of (rule_at g r) ≡ Some holder
+      → Contains (term_syms term) (syms.Rule callee) → holder_of (rule_at g callee) ≡ Some other → other ≡ holder
   same_holder r callee holder other term t h m k =
       let alt = place_of t.rule.alts t.alt t.is_alt in
       let term_at = place_of t.alt.terms term t.is_term in
       let at : AltAt g t.rule t.alt (r, alt.place) = record { is_rule = t.is_rule; is_alt = alt.is } in
-      let call = each_at (IsCallable g (r, alt.place) t.rule.holder) term (syms.Rule callee) ((good.alts (r, alt.place) t.rule t.alt at).terms term_at.place term term_at.is).syms m in
+      let call = each_at (IsCallable g (r, alt.place) t.rule.holder) term (syms.Rule callee)
+      ((good.alts (r, alt.place) t.rule t.alt at).terms term_at.place term term_at.is).syms m in
       one (r, alt.place) t.rule refl t.is_rule (subst (MayCall (r, alt.place) t.rule.holder) k call.1)
     where
       one : (at : ℕ × ℕ) (rule : CoreRule) → at.0 ≡ r → rule_at g r ≡ Some rule → MayCall at rule.holder (Some other) → other ≡ holder
@@ -111,11 +117,13 @@ module _ (c : Unordered) (good : WellFormed (core_of c)) where
     pub is_local : holder_of (rule_at g row) ≡ Some holder
     pub waits : WaitsFor c holder row column
 
-  keys_by : (terms : List CoreTerm) (row k attr : ℕ) (o : Option ℕ) → Contains (option_to_list (option_map (flag row) o)) k → (v : ℕ) × ((o ≡ Some v) × (k ≡ flag row v))
+  keys_by : (terms : List CoreTerm) (row k attr : ℕ) (o : Option ℕ) → Contains (option_to_list (option_map (flag row) o)) k
+      → (v : ℕ) × ((o ≡ Some v) × (k ≡ flag row v))
   keys_by terms row k attr None m = absurd (not_in k m)
   keys_by terms row k attr (Some v) m = (v, (refl, only_one (flag row v) k m))
 
-  name_key : (row : ℕ) (holder : ℕ × ℕ) (term : CoreTerm) (k : ℕ) (name : Named) → holder_of (rule_at g row) ≡ Some holder → TermOf g row term → Contains (flat_map named (term_mentions term)) name
+  name_key : (row : ℕ) (holder : ℕ × ℕ) (term : CoreTerm) (k : ℕ) (name : Named) → holder_of (rule_at g row) ≡ Some holder → TermOf g row term
+      → Contains (flat_map named (term_mentions term)) name
       → Contains (name_keys (terms_at c.rules holder) row name) k → IsKey k
   name_key row holder term k (Term t) h of m n = absurd (not_in k n)
   name_key row holder term k (Own a) h of m n = absurd (not_in k n)
@@ -127,19 +135,27 @@ module _ (c : Unordered) (good : WellFormed (core_of c)) where
         holder = holder;
         is = s.1.1;
         is_local = h;
-        waits = record { attr = attr; sets = setter_is (terms_at c.rules holder) attr s.0 s.1.0; reads = itself row term of (mentioned_outer (term_mentions term) attr m) };
+        waits = record {
+          attr = attr;
+          sets = setter_is (terms_at c.rules holder) attr s.0 s.1.0;
+          reads = itself row term of (mentioned_outer (term_mentions term) attr m);
+        };
       }
 
-  written_term : (r : ℕ) (rule : CompletedRule) (alt : CompletedAlt) (term : CoreTerm) → slice_get c.rules r ≡ Some rule → Contains rule.alts alt → Contains alt.terms term → TermOf g r term
-  written_term r rule alt term e m n = record { rule = rule_of rule; alt = alt_of alt; is_rule = rule_there c r rule e; is_alt = to_map alt_of rule.alts alt m; is_term = n }
+  written_term : (r : ℕ) (rule : CompletedRule) (alt : CompletedAlt) (term : CoreTerm) → slice_get c.rules r ≡ Some rule → Contains rule.alts alt
+      → Contains alt.terms term → TermOf g r term
+  written_term r rule alt term e m n =
+      record { rule = rule_of rule; alt = alt_of alt; is_rule = rule_there c r rule e; is_alt = to_map alt_of rule.alts alt m; is_term = n }
 
-  key_under : (r : ℕ) (rule : CompletedRule) (k : ℕ) (o : Option (ℕ × ℕ)) → slice_get c.rules r ≡ Some rule → rule.holder ≡ o → Contains (keys_under c.rules r o rule.alts) k → IsKey k
+  key_under : (r : ℕ) (rule : CompletedRule) (k : ℕ) (o : Option (ℕ × ℕ)) → slice_get c.rules r ≡ Some rule → rule.holder ≡ o
+      → Contains (keys_under c.rules r o rule.alts) k → IsKey k
   key_under r rule k None e h m = absurd (not_in k m)
   key_under r rule k (Some holder) e h m =
       let alt = in_flat (alt_keys (terms_at c.rules holder) r) rule.alts k m in
       let term = in_flat (term_keys (terms_at c.rules holder) r) alt.item.terms k alt.holds in
       let name = in_flat (name_keys (terms_at c.rules holder) r) (flat_map named (term_mentions term.item)) k term.holds in
-      name_key r holder term.item k name.item (ap holder_of (rule_there c r rule e) ∙ h) (written_term r rule alt.item term.item e alt.member term.member) name.member name.holds
+      name_key r holder term.item k name.item (ap holder_of (rule_there c r rule e) ∙ h)
+      (written_term r rule alt.item term.item e alt.member term.member) name.member name.holds
 
   pub is_key : (k : ℕ) → Contains (all_keys c.rules) k → IsKey k
   is_key k m = let n = in_numbered 0 (rule_keys c.rules) c.rules k m in
@@ -160,16 +176,19 @@ module _ (c : Unordered) (good : WellFormed (core_of c)) where
   some_holder None h = absurd (true≢false (sym h))
   some_holder (Some holder) h = (holder, refl)
 
-  local_holder : (callee : ℕ) (rule : Option CompletedRule) → slice_get c.rules callee ≡ rule → is_local rule ≡ true → (h : ℕ × ℕ) × (holder_of (rule_at g callee) ≡ Some h)
+  local_holder : (callee : ℕ) (rule : Option CompletedRule) → slice_get c.rules callee ≡ rule → is_local rule ≡ true
+      → (h : ℕ × ℕ) × (holder_of (rule_at g callee) ≡ Some h)
   local_holder callee None e h = absurd (true≢false (sym h))
   local_holder callee (Some rule) e h = let s = some_holder rule.holder h in (s.0, ap holder_of (rule_there c callee rule e) ∙ s.1)
 
   -- the hand of a call, where the callee is local
-  chosen_hand : (row callee : ℕ) (hand : Hand) (b : Bool) → Contains (cond b (record { caller = row; callee = callee } ∷ []) []) hand → (b ≡ true) × (hand ≡ record { caller = row; callee = callee })
+  chosen_hand : (row callee : ℕ) (hand : Hand) (b : Bool) → Contains (cond b (record { caller = row; callee = callee } ∷ []) []) hand
+      → (b ≡ true) × (hand ≡ record { caller = row; callee = callee })
   chosen_hand row callee hand true m = (refl, only_one (record { caller = row; callee = callee }) hand m)
   chosen_hand row callee hand false m = absurd (not_in hand m)
 
-  sym_hand : (row : ℕ) (holder : ℕ × ℕ) (term : CoreTerm) (hand : Hand) (one : Sym) → holder_of (rule_at g row) ≡ Some holder → TermOf g row term → Contains (term_syms term) one
+  sym_hand : (row : ℕ) (holder : ℕ × ℕ) (term : CoreTerm) (hand : Hand) (one : Sym) → holder_of (rule_at g row) ≡ Some holder → TermOf g row term
+      → Contains (term_syms term) one
       → Contains (sym_hands c.rules row one) hand → IsHand hand
   sym_hand row holder term hand (syms.Text bytes) h of m n = absurd (not_in hand n)
   sym_hand row holder term hand (syms.Prim prim) h of m n = absurd (not_in hand n)
@@ -178,13 +197,15 @@ module _ (c : Unordered) (good : WellFormed (core_of c)) where
       let under = local_holder callee (slice_get c.rules callee) refl s.0 in
       subst IsHand (sym s.1) (record { holder = holder; is_local = h; term = term; of = of; calls = m; under = under.0; callee_local = under.1 })
 
-  hand_under : (r : ℕ) (rule : CompletedRule) (hand : Hand) (o : Option (ℕ × ℕ)) → slice_get c.rules r ≡ Some rule → rule.holder ≡ o → Contains (hands_under c.rules r o rule.alts) hand → IsHand hand
+  hand_under : (r : ℕ) (rule : CompletedRule) (hand : Hand) (o : Option (ℕ × ℕ)) → slice_get c.rules r ≡ Some rule → rule.holder ≡ o
+      → Contains (hands_under c.rules r o rule.alts) hand → IsHand hand
   hand_under r rule hand None e h m = absurd (not_in hand m)
   hand_under r rule hand (Some holder) e h m =
       let alt = in_flat (alt_hands c.rules r) rule.alts hand m in
       let term = in_flat (term_hands c.rules r) alt.item.terms hand alt.holds in
       let one = in_flat (sym_hands c.rules r) (term_syms term.item) hand term.holds in
-      sym_hand r holder term.item hand one.item (ap holder_of (rule_there c r rule e) ∙ h) (written_term r rule alt.item term.item e alt.member term.member) one.member one.holds
+      sym_hand r holder term.item hand one.item (ap holder_of (rule_there c r rule e) ∙ h)
+      (written_term r rule alt.item term.item e alt.member term.member) one.member one.holds
 
   pub is_hand : (hand : Hand) → Contains (all_hands c.rules) hand → IsHand hand
   is_hand hand m = let n = in_numbered 0 (rule_hands c.rules) c.rules hand m in
@@ -201,21 +222,27 @@ module _ (c : Unordered) (good : WellFormed (core_of c)) where
       let global = good.holders r holder h in
       let alt = good.alts holder global.0 global.1 global.2 in
       let there = terms_there c global.0 global.1 holder global.2 in
-      record { few = subst (λ ts. length ts ≤ 256) there alt.limit; once = subst (λ ts. (attr u v : ℕ) → Sets ts u attr → Sets ts v attr → u ≡ v) there alt.sets_once }
+      record {
+        few = subst (λ ts. length ts ≤ 256) there alt.limit;
+        once = subst (λ ts. (attr u v : ℕ) → Sets ts u attr → Sets ts v attr
+            → u ≡ v) there alt.sets_once;
+      }
 
   pub column_below : (r : ℕ) (holder : ℕ × ℕ) (v attr : ℕ) → holder_of (rule_at g r) ≡ Some holder → Sets (terms_at c.rules holder) v attr → v < 256
   column_below r holder v attr h s = let lt = slice_get_within (terms_at c.rules holder) v _ s.1 in let few = (is_holder r holder h).few in omega arith
 
   -- ---- what is reached waits
 
-  reached_waits : (k : ℕ) → Reached (all_keys c.rules) (all_hands c.rules) k → (holder : ℕ × ℕ) (r v : ℕ) → holder_of (rule_at g r) ≡ Some holder → v < 256 → k ≡ flag r v → WaitsFor c holder r v
+  reached_waits : (k : ℕ) → Reached (all_keys c.rules) (all_hands c.rules) k → (holder : ℕ × ℕ) (r v : ℕ) → holder_of (rule_at g r) ≡ Some holder
+      → v < 256 → k ≡ flag r v → WaitsFor c holder r v
   reached_waits k (direct _ m) holder r v h lt e =
       let key = is_key k m in
       let below = column_below key.row key.holder key.column key.waits.attr key.is_local key.waits.sets in
       let row = same_row r key.row v key.column (sym e ∙ key.is) lt below in
       let column = same_column r key.row v key.column (sym e ∙ key.is) lt below in
       let same : holder ≡ key.holder = let a = ap (λ n. holder_of (rule_at g n)) row in let b = key.is_local in cc in
-      subst (λ hd. WaitsFor c hd r v) (sym same) (subst (λ n. WaitsFor c key.holder n v) (sym row) (subst (WaitsFor c key.holder key.row) (sym column) key.waits))
+      subst (λ hd. WaitsFor c hd r v) (sym same)
+      (subst (λ n. WaitsFor c key.holder n v) (sym row) (subst (WaitsFor c key.holder key.row) (sym column) key.waits))
   reached_waits k (handed hand column m below more) holder r v h lt e =
       let is = is_hand hand m in
       let row = same_row r hand.caller v column (sym e) lt below in
@@ -241,13 +268,15 @@ module _ (c : Unordered) (good : WellFormed (core_of c)) where
       let i = in_map alt_of w.item.alts of.alt (subst (λ (x : CoreRule). Contains x.alts of.alt) w.is of.is_alt) in
       record { rule = w.item; is_rule = w.is_item; alt = i.item; is_alt = i.member; is_term = subst (λ (x : CoreAlt). Contains x.terms term) i.is of.is_term }
 
-  under_is : (r : ℕ) (rule : CompletedRule) (holder : ℕ × ℕ) → slice_get c.rules r ≡ Some rule → holder_of (rule_at g r) ≡ Some holder → rule.holder ≡ Some holder
+  under_is : (r : ℕ) (rule : CompletedRule) (holder : ℕ × ℕ) → slice_get c.rules r ≡ Some rule → holder_of (rule_at g r) ≡ Some holder
+      → rule.holder ≡ Some holder
   under_is r rule holder e h = sym (ap holder_of (rule_there c r rule e)) ∙ h
 
   holder_some : (o : Option (ℕ × ℕ)) (holder : ℕ × ℕ) → o ≡ Some holder → is_some o ≡ true
   holder_some o holder e = ap is_some e
 
-  own_key : (r v attr : ℕ) (holder : ℕ × ℕ) (term : CoreTerm) → holder_of (rule_at g r) ≡ Some holder → TermOf g r term → Contains (term_mentions term) (OuterOf attr) → Sets (terms_at c.rules holder) v attr
+  own_key : (r v attr : ℕ) (holder : ℕ × ℕ) (term : CoreTerm) → holder_of (rule_at g r) ≡ Some holder → TermOf g r term
+      → Contains (term_mentions term) (OuterOf attr) → Sets (terms_at c.rules holder) v attr
       → Contains (all_keys c.rules) (flag r v)
   own_key r v attr holder term h of m s =
       let st = standing r term of in
@@ -259,9 +288,11 @@ module _ (c : Unordered) (good : WellFormed (core_of c)) where
       let in_alt = to_flat (term_keys terms r) st.alt.terms term (flag r v) st.is_term in_term in
       let in_rule = to_flat (alt_keys terms r) st.rule.alts st.alt (flag r v) st.is_alt in_alt in
       let under = subst (λ o. Contains (keys_under c.rules r o st.rule.alts) (flag r v)) (sym (under_is r st.rule holder st.is_rule h)) in_rule in
-      to_numbered 0 (rule_keys c.rules) c.rules r st.rule (flag r v) st.is_rule (subst (λ n. Contains (rule_keys c.rules n st.rule) (flag r v)) (let e : r ≡ 0 + r = omega arith in e) under)
+      to_numbered 0 (rule_keys c.rules) c.rules r st.rule (flag r v) st.is_rule
+      (subst (λ n. Contains (rule_keys c.rules n st.rule) (flag r v)) (let e : r ≡ 0 + r = omega arith in e) under)
 
-  own_hand : (r callee : ℕ) (holder other : ℕ × ℕ) (term : CoreTerm) → holder_of (rule_at g r) ≡ Some holder → TermOf g r term → Contains (term_syms term) (syms.Rule callee) → holder_of (rule_at g callee) ≡ Some other
+  own_hand : (r callee : ℕ) (holder other : ℕ × ℕ) (term : CoreTerm) → holder_of (rule_at g r) ≡ Some holder → TermOf g r term
+      → Contains (term_syms term) (syms.Rule callee) → holder_of (rule_at g callee) ≡ Some other
       → Contains (all_hands c.rules) (record { caller = r; callee = callee })
   own_hand r callee holder other term h of m k =
       let st = standing r term of in
@@ -272,13 +303,16 @@ module _ (c : Unordered) (good : WellFormed (core_of c)) where
       let in_alt = to_flat (term_hands c.rules r) st.alt.terms term hand st.is_term in_term in
       let in_rule = to_flat (alt_hands c.rules r) st.rule.alts st.alt hand st.is_alt in_alt in
       let under = subst (λ o. Contains (hands_under c.rules r o st.rule.alts) hand) (sym (under_is r st.rule holder st.is_rule h)) in_rule in
-      to_numbered 0 (rule_hands c.rules) c.rules r st.rule hand st.is_rule (subst (λ n. Contains (rule_hands c.rules n st.rule) hand) (let e : r ≡ 0 + r = omega arith in e) under)
+      to_numbered 0 (rule_hands c.rules) c.rules r st.rule hand st.is_rule
+      (subst (λ n. Contains (rule_hands c.rules n st.rule) hand) (let e : r ≡ 0 + r = omega arith in e) under)
     where
-      callee_is : (callee : ℕ) (other : ℕ × ℕ) (rule : Option CompletedRule) → slice_get c.rules callee ≡ rule → holder_of (rule_at g callee) ≡ Some other → is_local rule ≡ true
+      callee_is : (callee : ℕ) (other : ℕ × ℕ) (rule : Option CompletedRule) → slice_get c.rules callee ≡ rule
+          → holder_of (rule_at g callee) ≡ Some other → is_local rule ≡ true
       callee_is callee other None e k = let none = ap holder_of (slice_get-map rule_of c.rules callee ∙ ap (option_map rule_of) e) in absurd (cc)
       callee_is callee other (Some rule) e k = holder_some rule.holder other (under_is callee rule other e k)
 
-  waits_reached : (attr r : ℕ) → Reads g attr r → (holder : ℕ × ℕ) (v : ℕ) → holder_of (rule_at g r) ≡ Some holder → Sets (terms_at c.rules holder) v attr → Reached (all_keys c.rules) (all_hands c.rules) (flag r v)
+  waits_reached : (attr r : ℕ) → Reads g attr r → (holder : ℕ × ℕ) (v : ℕ) → holder_of (rule_at g r) ≡ Some holder
+      → Sets (terms_at c.rules holder) v attr → Reached (all_keys c.rules) (all_hands c.rules) (flag r v)
   waits_reached attr r (itself _ term of m) holder v h s = direct (flag r v) (own_key r v attr holder term h of m s)
   waits_reached attr r (through _ callee under term of m k reads) holder v h s =
       let one = same_holder r callee holder under term of h m k in

@@ -37,7 +37,8 @@ sets_here n (Pick cases other) terms attr v h s = absurd (true≢false (sym h))
 abbrev some_number : ℕ → Option ℕ
 some_number n = Some n
 
-setter_by : (n : ℕ) (term : CoreTerm) (terms : List CoreTerm) (attr v : ℕ) (b : Bool) → sets term attr ≡ b → cond b (Some n) (setter (n + 1) terms attr) ≡ Some v
+setter_by : (n : ℕ) (term : CoreTerm) (terms : List CoreTerm) (attr v : ℕ) (b : Bool) → sets term attr ≡ b
+    → cond b (Some n) (setter (n + 1) terms attr) ≡ Some v
     → (setter (n + 1) terms attr ≡ Some v → SetsAt (n + 1) terms attr v) → SetsAt n (term ∷ terms) attr v
 setter_by n term terms attr v true t e more = sets_here n term terms attr v t (let same : some_number n ≡ some_number v = e in cc)
 setter_by n term terms attr v false t e more = sets_later n term terms attr v (more e)
@@ -50,7 +51,8 @@ record Found (n : ℕ) (terms : List CoreTerm) (attr : ℕ) : Type 0 where
   number : ℕ
   is : setter n terms attr ≡ Some number
 
-found_by : (n : ℕ) (term : CoreTerm) (terms : List CoreTerm) (attr : ℕ) (b : Bool) → sets term attr ≡ b → (b ≡ false → Found (n + 1) terms attr) → Found n (term ∷ terms) attr
+found_by : (n : ℕ) (term : CoreTerm) (terms : List CoreTerm) (attr : ℕ) (b : Bool) → sets term attr ≡ b → (b ≡ false → Found (n + 1) terms attr)
+    → Found n (term ∷ terms) attr
 found_by n term terms attr true t more = record { number = n; is = ap (λ b. cond b (Some n) (setter (n + 1) terms attr)) t }
 found_by n term terms attr false t more = let f = more refl in record { number = f.number; is = ap (λ b. cond b (Some n) (setter (n + 1) terms attr)) t ∙ f.is }
 

@@ -10,7 +10,8 @@ flag row column = row * 256 + column
 -- a key, or what a callee's row hands on
 pub data Reached (keys : List ℕ) (hands : List Hand) : ℕ → Type 0 where
   direct : (k : ℕ) → Contains keys k → Reached keys hands k
-  handed : (hand : Hand) (column : ℕ) → Contains hands hand → column < 256 → Reached keys hands (flag hand.callee column) → Reached keys hands (flag hand.caller column)
+  handed : (hand : Hand) (column : ℕ) → Contains hands hand → column < 256 → Reached keys hands (flag hand.callee column)
+      → Reached keys hands (flag hand.caller column)
 
 abbrev pub AreSound : List ℕ → List Hand → Marks → Type 0
 AreSound keys hands flags = (k : ℕ) → is_marked flags k ≡ true → Reached keys hands k
@@ -24,7 +25,8 @@ IsRow rows hand = (hand.caller < rows) × (hand.callee < rows)
 
 -- the columns below that number are handed on
 abbrev pub IsHandedOn : ℕ → Hand → Marks → Type 0
-IsHandedOn columns hand flags = (column : ℕ) → column < columns → is_marked flags (flag hand.callee column) ≡ true → is_marked flags (flag hand.caller column) ≡ true
+IsHandedOn columns hand flags = (column : ℕ) → column < columns → is_marked flags (flag hand.callee column) ≡ true
+    → is_marked flags (flag hand.caller column) ≡ true
 
 abbrev pub AreHandedOn : List Hand → Marks → Type 0
 AreHandedOn hands flags = (hand : Hand) → Contains hands hand → IsHandedOn 256 hand flags

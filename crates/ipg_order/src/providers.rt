@@ -55,7 +55,8 @@ fn term_needs(
     term: &CoreTerm,
 ) -> Result<Vec<u32>, AllocError>
     requires { length of.terms.now ≤ 256 }
-    ensures { IfOk result (λ needs. needs.items ≡ spec.term_needs local.entry.holders.now local.entry.flags.now of.entry.at of.entry.terms.now of.entry.number term.now) }
+    ensures { IfOk result (λ needs. needs.items ≡ spec.term_needs local.entry.holders.now local.entry.flags.now of.entry.at of.entry.terms.now
+        of.entry.number term.now) }
 {
     let names = named_in(alloc, term)?;
     let mut needs = Vec::new(alloc);
@@ -106,7 +107,8 @@ fn add_syms(
     term: &CoreTerm,
 ) -> Result<(), AllocError>
     requires { length of.terms.now ≤ 256 }
-    ensures { OnOk result (needs.new.items ≡ needs.old.items ++ spec.syms_needs local.entry.holders.now local.entry.flags.now of.entry.at of.entry.terms.now of.entry.number term.now) }
+    ensures { OnOk result (needs.new.items ≡ needs.old.items ++ spec.syms_needs local.entry.holders.now local.entry.flags.now of.entry.at
+        of.entry.terms.now of.entry.number term.now) }
 {
     match term {
         CoreTerm::Slot(slot) => add_sym(needs, local, of, &slot.sym),
@@ -138,7 +140,8 @@ fn add_cases(
     cases: &[(CoreExpr, CoreSlot)],
 ) -> Result<(), AllocError>
     requires { length of.terms.now ≤ 256 }
-    ensures { OnOk result (needs.new.items ≡ needs.old.items ++ flat_map (spec.sym_needs local.entry.holders.now local.entry.flags.now of.entry.at (length of.entry.terms.now) of.entry.number) (flat_map case_syms cases.now)) }
+    ensures { OnOk result (needs.new.items ≡ needs.old.items ++ flat_map (spec.sym_needs local.entry.holders.now local.entry.flags.now of.entry.at
+        (length of.entry.terms.now) of.entry.number) (flat_map case_syms cases.now)) }
 {
     for case in cases {
         add_sym(needs, local, of, &case.1.sym)?;
@@ -149,7 +152,8 @@ fn add_cases(
 /// A call of a local rule of this alternative needs what that rule waits for.
 fn add_sym(needs: &mut Vec<u32>, local: Local<'_>, of: Of<'_>, sym: &Sym) -> Result<(), AllocError>
     requires { length of.terms.now ≤ 256 }
-    ensures { OnOk result (needs.new.items ≡ needs.old.items ++ spec.sym_needs local.entry.holders.now local.entry.flags.now of.entry.at (length of.entry.terms.now) of.entry.number sym.now) }
+    ensures { OnOk result (needs.new.items ≡ needs.old.items ++ spec.sym_needs local.entry.holders.now local.entry.flags.now of.entry.at
+        (length of.entry.terms.now) of.entry.number sym.now) }
 {
     let Sym::Rule(callee) = sym else {
         return Ok(());

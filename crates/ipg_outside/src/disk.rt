@@ -18,6 +18,7 @@ pub struct DiskFiles<R: std::rt::Files + Drop> {
 }
 
 impl<R: std::rt::Files + Drop> DiskFiles<R> {
+    /// The files of this machine; no reading has failed yet.
     pub fn new(rt: R) -> DiskFiles<R>
         ensures rt { result.rt ≡ rt }
         ensures faults { result.faults ≡ 0 }

@@ -19,6 +19,7 @@ pub struct StdSink<W: io::Write + Drop> {
 }
 
 impl<W: io::Write + Drop> StdSink<W> {
+    /// A sink over a writer. It holds nothing, and no writing has failed yet.
     pub fn new(out: W) -> StdSink<W>
         ensures out { result.out ≡ out }
         ensures held { result.held.items ≡ [] }

@@ -8,6 +8,7 @@ use crate::sink::{Sink, SinkFault};
 pub struct SureSink;
 
 impl SureSink {
+    /// A sink that takes whatever it is given.
     pub fn new() -> SureSink
         ensures { result ≡ record {} }
     {

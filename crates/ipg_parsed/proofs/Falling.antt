@@ -66,7 +66,11 @@ module _ (room : ℕ) (around : List Level) (level rest : Level) (is : rest.next
       → (length pushed < room → steps room levels ≤ (2 ^ 64 + 1) * wide ^ (room - length pushed) + steps room pushed)
       → steps room levels < steps room (level ∷ around)
   falls_by pushed levels push full kept enter = elim (cases_lt (length around) room) [
-    | inl lt ↦ elim (cases_lt (length pushed) room) [ inl less ↦ put_into pushed levels (push lt) lt (enter less) | inr ge ↦ put_back levels (kept ge ∙ push lt) ]
+    | inl lt ↦ elim (cases_lt (length pushed) room) [
+      | inl less ↦ put_into pushed levels (push lt) lt (enter less)
+      | inr ge ↦
+          put_back levels (kept ge ∙ push lt)
+    ]
     | inr ge ↦ no_room levels (kept (let e = ap length (full ge) in omega arith) ∙ full ge)
   ]
 

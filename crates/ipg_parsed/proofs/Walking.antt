@@ -1,5 +1,6 @@
 -- What a walk has left, step by step.
-use Rattle.std.proofs.Common.{◌≡◌, ℕ, zero, suc, ◌+◌, ◌*◌, ◌^◌, ◌<◌, ◌≤◌, refl, sym, ap, ◌∙◌, subst, arith, max, List, [], ◌∷◌, ◌++◌, length, drop, Some, None, add-one}
+use Rattle.std.proofs.Common.{◌≡◌, ℕ, zero, suc, ◌+◌, ◌*◌, ◌^◌, ◌<◌, ◌≤◌, refl, sym, ap, ◌∙◌, subst, arith, max, List, [], ◌∷◌, ◌++◌, length, drop}
+use Rattle.std.proofs.Common.{Some, None, add-one}
 use Rattle.std.specs.Prelude.{slice_get}
 use Rattle.std.proofs.lemmas.List.{append_assoc}
 use Rattle.ipg_core.specs.Tree as tree

@@ -99,18 +99,21 @@ impl<'a, A: Allocator + Clone + Drop> Parsed<'a, A> {
         })
     }
 
+    /// The tables of the grammar that was parsed by.
     pub fn tables(&self) -> &'a Tables
         ensures { result.now ≡ self.now.parse.tables }
     {
         self.tables
     }
 
+    /// The node of the first rule.
     pub fn root(&self) -> RunId
         ensures { result ≡ self.now.parse.root }
     {
         self.root
     }
 
+    /// What the parse counted.
     pub fn counts(&self) -> Counts
         ensures { result ≡ self.now.parse.counts }
     {
@@ -185,7 +188,8 @@ impl<'a, A: Allocator + Clone + Drop> Parsed<'a, A> {
 
     /// The children of a node.
     pub fn kids(&self, node: RunId) -> &[Kid]
-        ensures { (src : Source) (at : ℕ) (one : Tree) → StandsTree src self.now.parse.store at node one → StandKids src self.now.parse.store at result.now (kids_in_tree one) }
+        ensures { (src : Source) (at : ℕ) (one : Tree) → StandsTree src self.now.parse.store at node one
+            → StandKids src self.now.parse.store at result.now (kids_in_tree one) }
     {
         match self.store.node(node) {
             Some(node) => self.store.kids(node.kids),
@@ -212,7 +216,8 @@ impl<'a, A: Allocator + Clone + Drop> Parsed<'a, A> {
     fn begin(&mut self) -> Visit
         ensures parse { self.new.parse ≡ self.old.parse }
         ensures begun { self.new.is_ahead ≡ false }
-        ensures left { (src : Source) (one : Tree) (first : Seen) (more : List Seen) → StandsTree src self.old.parse.store 0 self.old.parse.root one → visits one ≡ first ∷ more → Shows src self.old.parse.store result first × Left src self.new more }
+        ensures left { (src : Source) (one : Tree) (first : Seen) (more : List Seen) → StandsTree src self.old.parse.store 0 self.old.parse.root one
+            → visits one ≡ first ∷ more → Shows src self.old.parse.store result first × Left src self.new more }
         ensures ends { steps_left self.new < wide ^ (self.old.stack.room + 1) }
     {
         let visit = root_visit(self.root, self.size(self.root));
@@ -226,7 +231,8 @@ impl<'a, A: Allocator + Clone + Drop> Parsed<'a, A> {
     pub fn next(&mut self) -> Option<Visit>
         ensures parse { self.new.parse ≡ self.old.parse }
         ensures end { (src : Source) → Left src self.old [] → result ≡ None }
-        ensures more { (src : Source) (one : Seen) (more : List Seen) → Left src self.old (one ∷ more) → IsSomeAnd result (λ visit. Shows src self.old.parse.store visit one) × Left src self.new more }
+        ensures more { (src : Source) (one : Seen) (more : List Seen) → Left src self.old (one ∷ more)
+            → IsSomeAnd result (λ visit. Shows src self.old.parse.store visit one) × Left src self.new more }
         ensures ends { OnSome result (steps_left self.new < steps_left self.old) }
     {
         if self.is_ahead {

@@ -46,7 +46,8 @@ fn interval_of(kid: Kid) -> Interval
 
 /// The level of the children of a node, whose part begins at `at`.
 fn level_of<A: Allocator + Clone + Drop>(store: &Store<A>, id: RunId, at: u64) -> Option<Level>
-    ensures { (src : Source) (one : Tree) → StandsTree src store.now at id one → IsSomeAnd result (λ level. (level.at ≡ at) × Holds src store.now level (kids_in_tree one)) }
+    ensures { (src : Source) (one : Tree) → StandsTree src store.now at id one
+        → IsSomeAnd result (λ level. (level.at ≡ at) × Holds src store.now level (kids_in_tree one)) }
 {
     match store.node(id) {
         Some(node) => Some(Level {
@@ -89,8 +90,13 @@ pub(crate) fn enter<A: Allocator + Clone + Drop>(
 )
     ensures room { stack.new.room ≡ stack.old.room }
     ensures full { stack.old.room ≤ length stack.old.levels → stack.new.levels ≡ stack.old.levels }
-    ensures ends { length stack.old.levels < stack.old.room → steps stack.new.room stack.new.levels ≤ (2 ^ 64 + 1) * wide ^ (stack.old.room - length stack.old.levels) + steps stack.old.room stack.old.levels }
-    ensures entered { (src : Source) (one : tree.Kid) (more : List Seen) → StandsKid src store.now at kid one → place_in at one < 2 ^ 64 → place_in at one ≤ length stack.old.levels * 2 ^ 32 → length stack.old.levels + kid_levels one ≤ stack.old.room → Leave src store.now stack.old.room stack.old.levels more → Leave src store.now stack.new.room stack.new.levels (kids_visits (length stack.old.levels + 1) (place_in at one) (kids_in one) ++ more) }
+    ensures ends { length stack.old.levels < stack.old.room
+        → steps stack.new.room stack.new.levels ≤ (2 ^ 64 + 1) * wide ^ (stack.old.room - length stack.old.levels) + steps stack.old.room
+        stack.old.levels }
+    ensures entered { (src : Source) (one : tree.Kid) (more : List Seen) → StandsKid src store.now at kid one → place_in at one < 2 ^ 64
+        → place_in at one ≤ length stack.old.levels * 2 ^ 32 → length stack.old.levels + kid_levels one ≤ stack.old.room
+        → Leave src store.now stack.old.room stack.old.levels more
+        → Leave src store.now stack.new.room stack.new.levels (kids_visits (length stack.old.levels + 1) (place_in at one) (kids_in one) ++ more) }
 {
     if let Some(level) = level_in(store, kid, at) {
         stack.push(level);
@@ -125,7 +131,8 @@ fn next_in<A: Allocator + Clone + Drop>(store: &Store<A>, level: Level) -> Optio
 /// The visit of a child at the depth of a level.
 fn shown(depth: u64, at: u64, kid: Kid) -> Visit
     ensures near { (src : Source) (st : Stored) (one : tree.Kid) → StandsKid src st at kid one → from_of one < 2 ^ 32 }
-    ensures shows { (src : Source) (st : Stored) (one : tree.Kid) → StandsKid src st at kid one → at + 2 ^ 33 ≤ 2 ^ 64 → Shows src st result (record { depth = depth; at = at; child = one }) }
+    ensures shows { (src : Source) (st : Stored) (one : tree.Kid) → StandsKid src st at kid one → at + 2 ^ 33 ≤ 2 ^ 64
+        → Shows src st result (record { depth = depth; at = at; child = one }) }
 {
     let interval = interval_of(kid);
     Visit {
@@ -141,7 +148,9 @@ fn shown(depth: u64, at: u64, kid: Kid) -> Visit
 fn go_on<A: Allocator + Clone + Drop>(store: &Store<A>, stack: &mut Stack<A>, taken: Taken) -> Visit
     ensures room { stack.new.room ≡ stack.old.room }
     ensures ends { (level : Level) → Takes store.now level taken → steps stack.new.room stack.new.levels < steps stack.old.room (level ∷ stack.old.levels) }
-    ensures visited { (src : Source) (level : Level) (one : Seen) (more : List Seen) → Takes store.now level taken → Leave src store.now stack.old.room (level ∷ stack.old.levels) (one ∷ more) → Shows src store.now result one × Leave src store.now stack.new.room stack.new.levels more }
+    ensures visited { (src : Source) (level : Level) (one : Seen) (more : List Seen) → Takes store.now level taken
+        → Leave src store.now stack.old.room (level ∷ stack.old.levels) (one ∷ more)
+        → Shows src store.now result one × Leave src store.now stack.new.room stack.new.levels more }
 {
     let depth = stack.len() + 1;
     let at = taken.rest.at;
@@ -158,7 +167,8 @@ pub(crate) fn step<A: Allocator + Clone + Drop>(
     ensures room { stack.new.room ≡ stack.old.room }
     ensures ends { OnSome result (steps stack.new.room stack.new.levels < steps stack.old.room stack.old.levels) }
     ensures end { (src : Source) → Leave src store.now stack.old.room stack.old.levels [] → result ≡ None }
-    ensures more { (src : Source) (one : Seen) (more : List Seen) → Leave src store.now stack.old.room stack.old.levels (one ∷ more) → IsSomeAnd result (λ visit. Shows src store.now visit one) × Leave src store.now stack.new.room stack.new.levels more }
+    ensures more { (src : Source) (one : Seen) (more : List Seen) → Leave src store.now stack.old.room stack.old.levels (one ∷ more)
+        → IsSomeAnd result (λ visit. Shows src store.now visit one) × Leave src store.now stack.new.room stack.new.levels more }
 {
     while let Some(level) = stack.pop() {
         if let Some(taken) = next_in(store, level) {
@@ -170,7 +180,8 @@ pub(crate) fn step<A: Allocator + Clone + Drop>(
 
 /// The visit of the root of a tree of so many bytes.
 pub(crate) fn root_visit(root: RunId, size: u32) -> Visit
-    ensures { (src : Source) (st : Stored) (one : Tree) → StandsTree src st 0 root one → size_of one ≡ size → Shows src st result (record { depth = 0; at = 0; child = whole one }) }
+    ensures { (src : Source) (st : Stored) (one : Tree) → StandsTree src st 0 root one → size_of one ≡ size
+        → Shows src st result (record { depth = 0; at = 0; child = whole one }) }
 {
     Visit {
         depth: 0,

@@ -151,7 +151,8 @@ impl<A: Allocator + Clone + Drop> Piles<A> {
 
     /// One attribute more.
     pub fn add_own(&mut self, attr: u32, value: i64) -> Result<(), AllocError>
-        ensures { (base : Bases) → IsBase self.old base → OnOk result (Turns self.old self.new base (record (above self.old base) { own = (above self.old base).own ++ (attr, value) ∷ [] })) }
+        ensures { (base : Bases) → IsBase self.old base
+            → OnOk result (Turns self.old self.new base (record (above self.old base) { own = (above self.old base).own ++ (attr, value) ∷ [] })) }
     {
         if self.own.len() == MOST_ROWS {
             return Err(AllocError);
@@ -162,7 +163,8 @@ impl<A: Allocator + Clone + Drop> Piles<A> {
 
     /// One item more.
     pub fn add_item(&mut self, item: Kid) -> Result<(), AllocError>
-        ensures { (base : Bases) → IsBase self.old base → OnOk result (Turns self.old self.new base (record (above self.old base) { items = (above self.old base).items ++ item ∷ [] })) }
+        ensures { (base : Bases) → IsBase self.old base
+            → OnOk result (Turns self.old self.new base (record (above self.old base) { items = (above self.old base).items ++ item ∷ [] })) }
     {
         if self.items.len() == MOST_ROWS {
             return Err(AllocError);
@@ -173,7 +175,8 @@ impl<A: Allocator + Clone + Drop> Piles<A> {
 
     /// A term of the call has its result.
     pub fn set_done(&mut self, base: Bases, term: u32, row: Done)
-        ensures { IsBase self.old base → Turns self.old self.new base (record (above self.old base) { done = slice_set (above self.old base).done term (Some row) }) }
+        ensures { IsBase self.old base → Turns self.old self.new base
+            (record (above self.old base) { done = slice_set (above self.old base).done term (Some row) }) }
     {
         set_above(&mut self.done, base.done as usize, term as usize, Some(row));
     }

@@ -1,5 +1,6 @@
 -- The cycles of the edges that aren't dead, among those of all edges.
-use Rattle.std.proofs.Common.{◌≡◌, ℕ, zero, suc, ◌<◌, ◌⊎◌, List, [], ◌∷◌, ◌++◌, map, length, replicate, Bool, true, false, refl, sym, ap, subst, ◌∙◌, inl, inr, arith, ℤ, Option, Some, None, if◌then◌else◌}
+use Rattle.std.proofs.Common.{◌≡◌, ℕ, zero, suc, ◌<◌, ◌⊎◌, List, [], ◌∷◌, ◌++◌, map, length, replicate, Bool, true, false, refl, sym, ap, subst, ◌∙◌}
+use Rattle.std.proofs.Common.{inl, inr, arith, ℤ, Option, Some, None, if◌then◌else◌}
 use Rattle.std.specs.Prelude.{IsTrue, slice_index_or, slice_set, Contains, option_map, option_to_list}
 use Rattle.std.specs.List.{AllByRecursion}
 use Rattle.std.proofs.lemmas.Bool.{cases_eq, true≢false}
@@ -126,7 +127,8 @@ each_of P [] f = tt
 each_of P (x ∷ xs) f = (f x (0, omega arith, refl), each_of P xs (λ y h. f y (Contains-append_right (x ∷ []) xs y h)))
 
 module _ (refute : ChecksRefute) (parts_are : ConditionsAreParts) (solves_parts : JointSolvesParts) where
-  holds_none : (g : Grammar) (marks : Marks) (dead : List (ℕ × Refutation)) (cycle : List ℕ) → AllByRecursion (λ entry. IsTrue (edge_checks (calls_of g marks) entry)) dead
+  holds_none : (g : Grammar) (marks : Marks) (dead : List (ℕ × Refutation)) (cycle : List ℕ)
+      → AllByRecursion (λ entry. IsTrue (edge_checks (calls_of g marks) entry)) dead
       → Solvable (joint_of (calls_of g marks) cycle).0 (joint_of (calls_of g marks) cycle).1
       → (e : ℕ) → Contains cycle e → Contains (map (λ entry. entry.0) dead) e → ⊥
   holds_none g marks dead cycle check solvable e among is_dead =

@@ -1,5 +1,7 @@
 -- The digits of numbers, and a byte that is none behind them.
-use Rattle.std.proofs.Common.{◌≡◌, ℕ, zero, suc, ◌+◌, ◌-◌, ◌*◌, ◌/◌, ◌%◌, ◌^◌, ◌≤◌, ◌<◌, ◌⊎◌, List, [], ◌∷◌, ◌++◌, length, map, get_or, take, drop, decimal, Some, None, Result, Ok, Err, refl, sym, ap, ◌∙◌, subst, inl, inr, arith, append_assoc, length-append, append-nil}
+use Rattle.std.proofs.Common.{◌≡◌, ℕ, zero, suc, ◌+◌, ◌-◌, ◌*◌, ◌/◌, ◌%◌, ◌^◌, ◌≤◌, ◌<◌, ◌⊎◌, List, [], ◌∷◌, ◌++◌, length, map, get_or, take, drop}
+use Rattle.std.proofs.Common.{decimal, Some, None, Result, Ok, Err, refl, sym, ap, ◌∙◌, subst, inl, inr, arith, append_assoc, length-append}
+use Rattle.std.proofs.Common.{append-nil}
 use Rattle.std.specs.List.{AllByRecursion}
 use Rattle.std.specs.Char.{digit_value}
 use Rattle.std.specs.Int.Digits.{number_from_digits_after}
@@ -20,7 +22,8 @@ use Rattle.ipg_proof.proofs.Lists.{all_back, all_join}
 pub all_digits : (n : ℕ) → n < 2 ^ 64 → AllByRecursion IsDigit (decimal n)
 all_digits n small = decimal_by_steps (λ k ds. AllByRecursion IsDigit ds)
     (λ k h. (((let s : 48 ≤ 48 + k = omega arith in s), (let s : 48 + k ≤ 57 = omega (arith, h) in s)), tt))
-    (λ k ds h all. all_join IsDigit ds ((48 + k % 10) ∷ []) all (((let s : 48 ≤ 48 + k % 10 = omega arith in s), (let s : 48 + k % 10 ≤ 57 = omega arith in s)), tt))
+    (λ k ds h all. all_join IsDigit ds ((48 + k % 10) ∷ []) all
+    (((let s : 48 ≤ 48 + k % 10 = omega arith in s), (let s : 48 + k % 10 ≤ 57 = omega arith in s)), tt))
     n small
 
 value : (n : ℕ) → n < 2 ^ 64 → number_from_digits_after 10 0 (map digit_value (decimal n)) ≡ n
@@ -62,7 +65,8 @@ no_digit : (stop : ℕ) → stop < 48 → IsDigit stop → ⊥
 no_digit stop h d = let s : ⊥ = omega (arith, h, d.0) in s
 
 -- behind the digits of v stands the end, or a digit that leads to n
-pub behind : (stop v n b : ℕ) (x y : List ℕ) → stop < 48 → v < 2 ^ 64 → n < 2 ^ 64 → decimal n ++ stop ∷ x ≡ decimal v ++ b ∷ y → ((b ≡ stop) × (n ≡ v) × (x ≡ y)) ⊎ Goes v n b
+pub behind : (stop v n b : ℕ) (x y : List ℕ) → stop < 48 → v < 2 ^ 64 → n < 2 ^ 64 → decimal n ++ stop ∷ x ≡ decimal v ++ b ∷ y
+    → ((b ≡ stop) × (n ≡ v) × (x ≡ y)) ⊎ Goes v n b
 behind stop v n b x y h few small e = elim (fronts (decimal n) (stop ∷ x) (decimal v) (b ∷ y) e) [
   | inl f ↦ longer f.more f.longer f.rest
   | inr f ↦ shorter f.more f.longer f.rest
@@ -79,7 +83,8 @@ behind stop v n b x y h few small e = elim (fronts (decimal n) (stop ∷ x) (dec
     shorter : (more : List ℕ) → decimal v ≡ decimal n ++ more → stop ∷ x ≡ more ++ b ∷ y → ((b ≡ stop) × (n ≡ v) × (x ≡ y)) ⊎ Goes v n b
     shorter [] e' rest = same (sym (e' ∙ append-nil (decimal n))) (sym rest)
     shorter (d ∷ more) e' rest = absurd (no_digit stop h
-        (subst IsDigit (sym (heads stop d x (more ++ b ∷ y) rest)) (all_back IsDigit (decimal n) (d ∷ more) (subst (AllByRecursion IsDigit) e' (all_digits v few))).0))
+        (subst IsDigit (sym (heads stop d x (more ++ b ∷ y) rest))
+        (all_back IsDigit (decimal n) (d ∷ more) (subst (AllByRecursion IsDigit) e' (all_digits v few))).0))
 
 pub begun : (stop n b : ℕ) (x y : List ℕ) → n < 2 ^ 64 → decimal n ++ stop ∷ x ≡ b ∷ y → Begun n b
 begun stop n b x y small e = at (decimal n) refl (decimal_nonempty n small)
@@ -161,7 +166,8 @@ ends_small : (n : ℕ) → n < 2 ^ 32 → n < 2 ^ 64
 ends_small n h = omega (arith, h)
 
 -- no number begins here
-pub number_absent : (stop least : ℕ) (bytes left : List ℕ) → least ≤ 1 → stop < 48 → left ≡ bytes → IsNoStart least bytes → Reads (IsFrom least) (number_text stop) bytes left (Err Here)
+pub number_absent : (stop least : ℕ) (bytes left : List ℕ) → least ≤ 1 → stop < 48 → left ≡ bytes → IsNoStart least bytes
+    → Reads (IsFrom least) (number_text stop) bytes left (Err Here)
 number_absent stop least bytes left one low same none = record {
   says = record {
     taken = [];
@@ -183,7 +189,8 @@ number_absent stop least bytes left one low same none = record {
         never on.0 on.1.0 (begun stop on.0 b [] on.2 (ends_small on.0 on.1.1) (on.3 ∙ ap (λ y. y ∷ on.2) (sym (heads b x bs l e))))
 
 -- the number ends here
-pub number_there : (stop least v : ℕ) (bytes now left : List ℕ) → stop < 48 → IsNumber least bytes now v → now ≡ stop ∷ left → Reads (IsFrom least) (number_text stop) bytes left (Ok v)
+pub number_there : (stop least v : ℕ) (bytes now left : List ℕ) → stop < 48 → IsNumber least bytes now v → now ≡ stop ∷ left
+    → Reads (IsFrom least) (number_text stop) bytes left (Ok v)
 number_there stop least v bytes now left low is ends = record {
   says = record {
     is = (is.above, is.small);
@@ -197,7 +204,8 @@ number_there stop least v bytes now left low is ends = record {
 }
 
 -- the number has neither a digit more nor its end here
-pub number_stuck : (stop least v : ℕ) (bytes now left : List ℕ) → stop < 48 → IsNumber least bytes now v → IsDone v now → left ≡ now → ((rest : List ℕ) → now ≡ stop ∷ rest → ⊥)
+pub number_stuck : (stop least v : ℕ) (bytes now left : List ℕ) → stop < 48 → IsNumber least bytes now v → IsDone v now → left ≡ now
+    → ((rest : List ℕ) → now ≡ stop ∷ rest → ⊥)
     → Reads (IsFrom least) (number_text stop) bytes left (Err Here)
 number_stuck stop least v bytes now left low is done same never = record {
   says = record {
@@ -242,7 +250,8 @@ stuck_same b now left r = at r.says.taken r.says.splits r.says.begins.2 r.says.b
     at (x ∷ y ∷ taken) splits rest e = absurd (let s : ⊥ = omega (arith, ap length e) in s)
 
 -- and then the byte behind it
-pub number_ends : (stop least v : ℕ) (bytes now left : List ℕ) (r : Result (Unit {0}) Halt) → stop < 48 → IsNumber least bytes now v → IsDone v now → Reads any (always (stop ∷ [])) now left r
+pub number_ends : (stop least v : ℕ) (bytes now left : List ℕ) (r : Result (Unit {0}) Halt) → stop < 48 → IsNumber least bytes now v → IsDone v now
+    → Reads any (always (stop ∷ [])) now left r
     → Reads (IsFrom least) (number_text stop) bytes left (made_of (λ it. v) r)
 number_ends stop least v bytes now left (Ok it) low is done r = number_there stop least v bytes now left low is r.says.splits
 number_ends stop least v bytes now left (Err Here) low is done r =
@@ -260,19 +269,24 @@ number_more least v next bytes now left is more = record {
 rest_is : (b : ℕ) (left : List ℕ) → take (length (b ∷ left) - 1) (drop 1 (b ∷ left)) ≡ left
 rest_is b left = ap (λ n. take n left) (let s : suc (length left) - 1 ≡ length left = omega arith in s) ∙ take-length left
 
-pub first_found : (least d : ℕ) (bytes : List ℕ) → 1 ≤ length bytes → get_or bytes 0 0 ≡ 48 + d → d ≤ 9 → least ≤ d → FirstAnswer least bytes (take (length bytes - 1) (drop 1 bytes)) (Some d)
+pub first_found : (least d : ℕ) (bytes : List ℕ) → 1 ≤ length bytes → get_or bytes 0 0 ≡ 48 + d → d ≤ 9 → least ≤ d
+    → FirstAnswer least bytes (take (length bytes - 1) (drop 1 bytes)) (Some d)
 first_found least d [] some is small h = absurd (let s : ⊥ = omega (arith, some) in s)
-first_found least d (b ∷ left) some is small h = subst (λ l. FirstAnswer least (b ∷ left) l (Some d)) (sym (rest_is b left)) (first_digit_is least b d left is small h)
+first_found least d (b ∷ left) some is small h = subst (λ l. FirstAnswer least (b ∷ left) l (Some d)) (sym (rest_is b left))
+    (first_digit_is least b d left is small h)
 
-pub next_found : (v d next : ℕ) (bytes : List ℕ) → 1 ≤ length bytes → get_or bytes 0 0 ≡ 48 + d → d ≤ 9 → WithDigit v d (Some next) → NextAnswer v bytes (take (length bytes - 1) (drop 1 bytes)) (Some next)
+pub next_found : (v d next : ℕ) (bytes : List ℕ) → 1 ≤ length bytes → get_or bytes 0 0 ≡ 48 + d → d ≤ 9 → WithDigit v d (Some next)
+    → NextAnswer v bytes (take (length bytes - 1) (drop 1 bytes)) (Some next)
 next_found v d next [] some is small h = absurd (let s : ⊥ = omega (arith, some) in s)
-next_found v d next (b ∷ left) some is small h = subst (λ l. NextAnswer v (b ∷ left) l (Some next)) (sym (rest_is b left)) (next_digit_is v b d next left is small h)
+next_found v d next (b ∷ left) some is small h = subst (λ l. NextAnswer v (b ∷ left) l (Some next)) (sym (rest_is b left))
+    (next_digit_is v b d next left is small h)
 
 pub short_is : (n : ℕ) → IsShort n → IsFrom 0 n
 short_is n small = ((let s : 0 ≤ n = omega arith in s), small)
 
 pub alone_short : (stop : ℕ) → stop < 48 → AreAlone IsShort (number_text stop)
-alone_short stop low a b more is also e = alone_number stop 0 (2 ^ 32) low (let s : 2 ^ 32 ≤ 2 ^ 64 = omega arith in s) a b more (short_is a is) (short_is b also) e
+alone_short stop low a b more is also e = alone_number stop 0 (2 ^ 32) low (let s : 2 ^ 32 ≤ 2 ^ 64 = omega arith in s) a b more (short_is a is)
+    (short_is b also) e
 
 pub short_same : (stop : ℕ) → stop < 48 → (a b : ℕ) → IsShort a → IsShort b → number_text stop a ≡ number_text stop b → a ≡ b
 short_same stop low a b is also e = number_same stop a b low (ends_small a is) (ends_small b also) e

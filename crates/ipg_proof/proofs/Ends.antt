@@ -1,5 +1,6 @@
 -- A whole text, and what is at fault in one.
-use Rattle.std.proofs.Common.{◌≡◌, ℕ, ◌+◌, ◌-◌, ◌≤◌, ◌<◌, List, [], ◌∷◌, ◌++◌, length, take, sym, ap, ◌∙◌, subst, inl, inr, arith, append_assoc, append-nil, length-append, Ok, Err}
+use Rattle.std.proofs.Common.{◌≡◌, ℕ, ◌+◌, ◌-◌, ◌≤◌, ◌<◌, List, [], ◌∷◌, ◌++◌, length, take, sym, ap, ◌∙◌, subst, inl, inr, arith, append_assoc}
+use Rattle.std.proofs.Common.{append-nil, length-append, Ok, Err}
 use Rattle.std.proofs.Math.Seq.{take-append_seam}
 use Rattle.ipg_proof.specs.declared.certificate.Certificate.{Certificate}
 use Rattle.ipg_proof.specs.declared.reader.Halt.TheVariants.{Here}
@@ -12,7 +13,8 @@ use Rattle.ipg_proof.proofs.Whole.{dead_text, cycles_text, alone_section, one_ed
 -- no certificate's text begins another's
 alone_text : AreAlone IsSpeakable text_of
 alone_text a b more is also e =
-    elim (fronts (dead_text b.dead) (cycles_text b.cycles) (dead_text a.dead) (cycles_text a.cycles ++ more) (e ∙ append_assoc (dead_text a.dead) (cycles_text a.cycles) more)) [
+    elim (fronts (dead_text b.dead) (cycles_text b.cycles) (dead_text a.dead) (cycles_text a.cycles ++ more)
+    (e ∙ append_assoc (dead_text a.dead) (cycles_text a.cycles) more)) [
       | inl f ↦
           let none = alone_section heading IsEdgeEntry edge_line alone_edge_line one_edge one_edge_is a.dead b.dead f.more is.0 also.0 f.longer in
           cycles (sym (f.rest ∙ ap (λ w. w ++ cycles_text b.cycles) none))
@@ -24,7 +26,8 @@ alone_text a b more is also e =
     cycles : cycles_text b.cycles ≡ cycles_text a.cycles ++ more → more ≡ []
     cycles h = alone_section between IsCycleEntry cycle_line alone_cycle_line one_cycle one_cycle_is a.cycles b.cycles more is.1 also.1 h
 
-fault : (text taken left : List ℕ) → text ≡ taken ++ left → Continues IsSpeakable text_of taken → Stops IsSpeakable text_of taken left → ((c : Certificate) → ¬ IsTextOf c text)
+fault : (text taken left : List ℕ) → text ≡ taken ++ left → Continues IsSpeakable text_of taken → Stops IsSpeakable text_of taken left
+    → ((c : Certificate) → ¬ IsTextOf c text)
     → IsTextFault text (length text - length left)
 fault text taken left splits begins stops ends = subst (IsTextFault text) size (record {
   within = (let s : length taken ≤ length text = omega (arith, ap length splits, length-append taken left) in s);
@@ -51,7 +54,8 @@ pub stuck_text : (text left : List ℕ) → Reads IsSpeakable text_of text left 
 stuck_text text left r = fault text r.says.taken left r.says.splits r.says.begins r.says.stops
     (λ c is. here_is_no_memory (r.back c [] is.0 (is.1 ∙ sym (append-nil (text_of c)))))
 
-pub extra_text : (text left : List ℕ) (c : Certificate) → 0 < length left → Reads IsSpeakable text_of text left (Ok c) → IsTextFault text (length text - length left)
+pub extra_text : (text left : List ℕ) (c : Certificate) → 0 < length left → Reads IsSpeakable text_of text left (Ok c)
+    → IsTextFault text (length text - length left)
 extra_text text left c some r = fault text (text_of c) left r.says.splits (c, r.says.is, [], sym (append-nil (text_of c))) (stops left)
     (λ d is. never (r.back d [] is.0 (is.1 ∙ sym (append-nil (text_of d)))).1)
   where

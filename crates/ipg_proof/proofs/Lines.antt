@@ -1,5 +1,6 @@
 -- Lines: a refutation's words hold no line feed, so no line begins another.
-use Rattle.std.proofs.Common.{◌≡◌, ◌≢◌, ℕ, suc, ◌+◌, ◌-◌, ◌^◌, ◌≤◌, ◌<◌, List, [], ◌∷◌, ◌++◌, length, take, drop, get_or, length-drop, decimal, refl, sym, ap, ◌∙◌, subst, arith, append_assoc, ℤ, pos, negsuc, Ok, Err}
+use Rattle.std.proofs.Common.{◌≡◌, ◌≢◌, ℕ, suc, ◌+◌, ◌-◌, ◌^◌, ◌≤◌, ◌<◌, List, [], ◌∷◌, ◌++◌, length, take, drop, get_or, length-drop, decimal, refl}
+use Rattle.std.proofs.Common.{sym, ap, ◌∙◌, subst, arith, append_assoc, ℤ, pos, negsuc, Ok, Err}
 use Rattle.std.specs.Fmt.{signed_decimal}
 use Rattle.std.specs.List.{AllByRecursion, flat_map}
 use Rattle.std.proofs.Math.Seq.{drop-append_seam}
@@ -34,7 +35,8 @@ plain_join xs ys h k = all_join (λ b. b ≢ 10) xs ys h k
 plain_entries : (entries : List (ℕ × ℕ)) → AllByRecursion IsEntry entries → Plain (flat_map entry_words entries)
 plain_entries [] all = tt
 plain_entries (e ∷ entries) all =
-    plain_join (entry_words e) (flat_map entry_words entries) (plain_join (number_word e.0) (number_word e.1) (plain_number e.0 all.0.0) (plain_number e.1 all.0.1)) (plain_entries entries all.1)
+    plain_join (entry_words e) (flat_map entry_words entries) (plain_join (number_word e.0) (number_word e.1) (plain_number e.0 all.0.0)
+    (plain_number e.1 all.0.1)) (plain_entries entries all.1)
 
 plain_signed : (z : ℤ) → IsSignedWord z → Plain (signed_decimal z)
 plain_signed (pos n) small = plain_decimal n (omega (arith, small))
@@ -81,13 +83,15 @@ plain_numbers (n ∷ ns) all = plain_join (number_text 32 n) (flat_map (number_t
 line_is : (front : List ℕ) (r : Refutation) → front ++ refutation_line r ≡ (front ++ words_of r.steps) ++ 10 ∷ []
 line_is front r = sym (append_assoc front (words_of r.steps) (10 ∷ []))
 
-lines_alone : (a b more : List ℕ) (r q : Refutation) → Plain a → Plain b → IsTree r → IsTree q → b ++ refutation_line q ≡ (a ++ refutation_line r) ++ more → more ≡ []
+lines_alone : (a b more : List ℕ) (r q : Refutation) → Plain a → Plain b → IsTree r → IsTree q
+    → b ++ refutation_line q ≡ (a ++ refutation_line r) ++ more → more ≡ []
 lines_alone a b more r q ha hb hr hq e = ended_alone (a ++ words_of r.steps) (b ++ words_of q.steps) more
     (plain_join a (words_of r.steps) ha (plain_words r.steps hr.ranges)) (plain_join b (words_of q.steps) hb (plain_words q.steps hq.ranges))
     (sym (line_is b q) ∙ e ∙ ap (λ l. l ++ more) (line_is a r))
 
 pub alone_edge_line : AreAlone IsEdgeEntry edge_line
-alone_edge_line a b more is also e = lines_alone (number_text 32 a.0) (number_text 32 b.0) more a.1 b.1 (plain_text a.0 is.0) (plain_text b.0 also.0) is.1 also.1 e
+alone_edge_line a b more is also e = lines_alone (number_text 32 a.0) (number_text 32 b.0) more a.1 b.1 (plain_text a.0 is.0) (plain_text b.0 also.0)
+    is.1 also.1 e
 
 plain_cycle : (es : List ℕ) → IsShort (length es) → AllByRecursion IsShort es → Plain (counted_text 32 (number_text 32) es)
 plain_cycle es few all = plain_join (number_text 32 (length es)) (flat_map (number_text 32) es) (plain_text (length es) few) (plain_numbers es all)
@@ -106,7 +110,14 @@ pub leaf_tree : IsTree leaf
 unfolding leaf
 leaf_tree = record {
   tree = refl;
-  ranges = (((let s : 1 ≤ 1 = omega arith in s), (let s : 1 < 2 ^ 64 = omega arith in s), (((let s : 1 < 2 ^ 64 = omega arith in s), (let s : 1 < 2 ^ 64 = omega arith in s)), tt)), tt);
+  ranges = (
+    (
+      (let s : 1 ≤ 1 = omega arith in s),
+      (let s : 1 < 2 ^ 64 = omega arith in s),
+      (((let s : 1 < 2 ^ 64 = omega arith in s), (let s : 1 < 2 ^ 64 = omega arith in s)), tt),
+    ),
+    tt,
+  );
 }
 
 text_is : (r : Refutation) → IsTree r → cert.IsTextOf r.steps (refutation_line r)
@@ -115,7 +126,8 @@ text_is r is = record { tree = is.tree; ranges = is.ranges; words = refl }
 abbrev pub ReadsBack : List ℕ → (List Step → ℕ → Type 0) → Type 0
 ReadsBack text Answers = (steps : List Step) (words rest : List ℕ) → cert.IsTextOf steps words → drop 0 text ≡ words ++ rest → Answers steps (0 + length words)
 
-pub refutation_there : (text : List ℕ) (r : Refutation) (to : ℕ) → cert.IsTextAt text 0 r.steps to → ReadsBack text (λ steps end. (r.steps ≡ steps) × (to ≡ end)) → Reads IsTree refutation_line text (drop to text) (Ok r)
+pub refutation_there : (text : List ℕ) (r : Refutation) (to : ℕ) → cert.IsTextAt text 0 r.steps to
+    → ReadsBack text (λ steps end. (r.steps ≡ steps) × (to ≡ end)) → Reads IsTree refutation_line text (drop to text) (Ok r)
 refutation_there text r to is again = record {
   says = record {
     is = record { tree = is.is.tree; ranges = is.is.ranges };
@@ -123,8 +135,11 @@ refutation_there text r to is again = record {
   };
   back = λ a rest tree e.
       let both = again a.steps (refutation_line a) rest (text_is a tree) e in
-      let size : to ≡ length (refutation_line a) = omega (arith, both.1) in
-      (ap (λ steps. record { steps = steps }) both.0, ap (λ k. drop k text) size ∙ ap (drop (length (refutation_line a))) e ∙ drop-append_seam (refutation_line a) rest);
+      let size : to ≡ length (refutation_line a) = omega (arith, both.1) in (
+        ap (λ steps. record { steps = steps }) both.0,
+        ap (λ k. drop k text) size ∙ ap (drop (length (refutation_line a))) e
+            ∙ drop-append_seam (refutation_line a) rest,
+      );
 }
 
 one_more : (text : List ℕ) (n x : ℕ) (l : List ℕ) → drop n text ≡ x ∷ l → (n < length text) × (take (n + 1) text ≡ take n text ++ x ∷ [])
@@ -133,7 +148,8 @@ one_more text n x l e =
     let at : get_or text n x ≡ x = heads (get_or text n x) x (drop (n + 1) text) l (sym (drop_more text n x within) ∙ e) in
     (within, take_more text n x within ∙ ap (λ y. take n text ++ y ∷ []) at)
 
-pub refutation_stuck : (text : List ℕ) (place : ℕ) → cert.IsFaultFrom text 0 place → ReadsBack text (λ steps end. ⊥) → Reads IsTree refutation_line text (drop place text) (Err Here)
+pub refutation_stuck : (text : List ℕ) (place : ℕ) → cert.IsFaultFrom text 0 place → ReadsBack text (λ steps end. ⊥)
+    → Reads IsTree refutation_line text (drop place text) (Err Here)
 refutation_stuck text place is never = record {
   says = record {
     taken = take place text;

@@ -1,5 +1,6 @@
 -- Entries one after another: where each so far is in place, what is left decides.
-use Rattle.std.proofs.Common.{◌≡◌, ◌≢◌, ℕ, ◌+◌, ◌≤◌, ◌<◌, List, [], ◌∷◌, length, Bool, true, false, Some, refl, ap, ◌∙◌, subst, inl, inr, arith, rules, set, map, Option, MatchBool, MatchOption}
+use Rattle.std.proofs.Common.{◌≡◌, ◌≢◌, ℕ, ◌+◌, ◌≤◌, ◌<◌, List, [], ◌∷◌, length, Bool, true, false, Some, refl, ap, ◌∙◌, subst, inl, inr, arith}
+use Rattle.std.proofs.Common.{rules, set, map, Option, MatchBool, MatchOption}
 use Rattle.ipg_cert.specs.declared.refutation.Refutation.{Refutation}
 use Rattle.ipg_graph.specs.Graph.{Graph}
 use Rattle.ipg_graph.specs.Cycle.{StandsUpTo}
@@ -37,13 +38,15 @@ running_none first from n cycles e = record {
   other = λ at o. subst (λ k. IsFirstOther first.graph first.at k cycles at) e o;
 }
 
-pub running_more : (first now next : Listing) (from n m : ℕ) (c : List ℕ) (left cycles : List (List ℕ)) → IsNext now.graph now.at c → next.graph ≡ now.graph → next.at ≡ At c → m ≡ n + 1
+pub running_more : (first now next : Listing) (from n m : ℕ) (c : List ℕ) (left cycles : List (List ℕ)) → IsNext now.graph now.at c
+    → next.graph ≡ now.graph → next.at ≡ At c → m ≡ n + 1
     → Running first now from n (c ∷ left) cycles → Running first next from m left cycles
 running_more first now next from n m c left cycles is graph at one running = record {
   run = λ r. running.run (is, subst (λ g. IsRun g (At c) left) graph (subst (λ s. IsRun next.graph s left) at r));
   other = λ k o. running.other k (inr (
     is,
-    subst (λ i. IsFirstOther now.graph (At c) i left k) one (subst (λ g. IsFirstOther g (At c) m left k) graph (subst (λ s. IsFirstOther next.graph s m left k) at o)),
+    subst (λ i. IsFirstOther now.graph (At c) i left k) one
+        (subst (λ g. IsFirstOther g (At c) m left k) graph (subst (λ s. IsFirstOther next.graph s m left k) at o)),
   ));
 }
 
@@ -85,7 +88,8 @@ takes_due old new due c false is differs =
     λ next. differs (next_one old.graph old.at due c (subst (IsNext old.graph old.at) is.1.0 is.1.1.next) next)
 
 -- the cycles that are listed are those of another name for the same graph
-pub renamed : (graph given : Graph) (from : Spot) (n m : ℕ) (listed cycles : List (List ℕ × Refutation)) (r : Option ℕ) → graph ≡ given → from ≡ Start → n ≡ m → listed ≡ cycles
+pub renamed : (graph given : Graph) (from : Spot) (n m : ℕ) (listed cycles : List (List ℕ × Refutation)) (r : Option ℕ) → graph ≡ given → from ≡ Start
+    → n ≡ m → listed ≡ cycles
     → MatchOption r (IsRun graph from (map (λ entry. entry.0) listed)) (λ at. IsFirstOther graph from n (map (λ entry. entry.0) listed) at)
     → MatchOption r (IsRun given Start (map (λ entry. entry.0) cycles)) (λ at. IsFirstOther given Start m (map (λ entry. entry.0) cycles) at)
 renamed graph given from n m listed cycles r same start one all h =

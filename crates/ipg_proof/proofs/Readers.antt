@@ -1,5 +1,6 @@
 -- Readers one after another.
-use Rattle.std.proofs.Common.{◌≡◌, ◌-◌, ℕ, zero, suc, ◌⊎◌, List, [], ◌∷◌, ◌++◌, length, refl, sym, ap, ◌∙◌, subst, inl, inr, arith, append_assoc, length-append, Result, Ok, Err, append-nil}
+use Rattle.std.proofs.Common.{◌≡◌, ◌-◌, ℕ, zero, suc, ◌⊎◌, List, [], ◌∷◌, ◌++◌, length, refl, sym, ap, ◌∙◌, subst, inl, inr, arith, append_assoc}
+use Rattle.std.proofs.Common.{length-append, Result, Ok, Err, append-nil}
 use Rattle.std.specs.Prelude.{MatchResult, IsErrAnd}
 use Rattle.std.proofs.lemmas.Result.{err_from_is_err_and}
 use Rattle.std.specs.List.{flat_map}
@@ -107,13 +108,20 @@ module _ {A B C : Type 0} (IsA : A → Type 0) (a_spelled : A → List ℕ) (IsB
   }
 
   -- behind what the first has read, the third stops where the second does
-  second_stuck : AreAlone IsA a_spelled → (bytes mid left : List ℕ) (a : A) → Reads IsA a_spelled bytes mid (Ok a) → IsStuck (IsB a) (b_spelled a) mid left → IsStuck IsC c_spelled bytes left
+  second_stuck : AreAlone IsA a_spelled → (bytes mid left : List ℕ) (a : A) → Reads IsA a_spelled bytes mid (Ok a)
+      → IsStuck (IsB a) (b_spelled a) mid left → IsStuck IsC c_spelled bytes left
   second_stuck alone bytes mid left a r s =
       let (b, is, rest, e) = s.begins in
       record {
         taken = a_spelled a ++ s.taken;
         splits = r.says.splits ∙ ap (λ l. a_spelled a ++ l) s.splits ∙ sym (append_assoc (a_spelled a) s.taken left);
-        begins = (make a b, j.join a b r.says.is is, rest, j.spelled a b r.says.is is ∙ ap (λ l. a_spelled a ++ l) e ∙ sym (append_assoc (a_spelled a) s.taken rest));
+        begins = (
+          make a b,
+          j.join a b r.says.is is,
+          rest,
+          j.spelled a b r.says.is is ∙ ap (λ l. a_spelled a ++ l) e
+              ∙ sym (append_assoc (a_spelled a) s.taken rest),
+        );
         stops = stops left s.splits s.stops;
       }
     where
@@ -148,21 +156,25 @@ module _ {A B C : Type 0} (IsA : A → Type 0) (a_spelled : A → List ℕ) (IsB
                 let s : ⊥ = omega (arith, ap length none, length-append (s.taken ++ x ∷ []) f.more, length-append s.taken (x ∷ [])) in s
           ]
 
-  second_says : AreAlone IsA a_spelled → (bytes mid left : List ℕ) (a : A) (r : Result B Halt) → Reads IsA a_spelled bytes mid (Ok a) → MatchResult r (Taken (IsB a) (b_spelled a) mid left) (Halts (IsB a) (b_spelled a) mid left)
+  second_says : AreAlone IsA a_spelled → (bytes mid left : List ℕ) (a : A) (r : Result B Halt) → Reads IsA a_spelled bytes mid (Ok a)
+      → MatchResult r (Taken (IsB a) (b_spelled a) mid left) (Halts (IsB a) (b_spelled a) mid left)
       → MatchResult (made_of (make a) r) (Taken IsC c_spelled bytes left) (Halts IsC c_spelled bytes left)
   second_says alone bytes mid left a (Ok b) r s = record {
     is = j.join a b r.says.is s.is;
-    splits = r.says.splits ∙ ap (λ l. a_spelled a ++ l) s.splits ∙ sym (append_assoc (a_spelled a) (b_spelled a b) left) ∙ ap (λ l. l ++ left) (sym (j.spelled a b r.says.is s.is));
+    splits = r.says.splits ∙ ap (λ l. a_spelled a ++ l) s.splits ∙ sym (append_assoc (a_spelled a) (b_spelled a b) left)
+        ∙ ap (λ l. l ++ left) (sym (j.spelled a b r.says.is s.is));
   }
   second_says alone bytes mid left a (Err Here) r s = second_stuck alone bytes mid left a r s
   second_says alone bytes mid left a (Err Memory) r s = tt
 
-  second_back : (left rest : List ℕ) (a : A) (c : C) (r : Result B Halt) → IsC c → a ≡ j.first c → MatchResult r (λ b. (b ≡ j.second c) × (left ≡ rest)) (λ why. why ≡ Memory)
+  second_back : (left rest : List ℕ) (a : A) (c : C) (r : Result B Halt) → IsC c → a ≡ j.first c
+      → MatchResult r (λ b. (b ≡ j.second c) × (left ≡ rest)) (λ why. why ≡ Memory)
       → MatchResult (made_of (make a) r) (λ d. (d ≡ c) × (left ≡ rest)) (λ why. why ≡ Memory)
   second_back left rest a c (Ok b) is same h = (ap (λ y. make y b) same ∙ ap (make (j.first c)) h.0 ∙ j.made c is, h.1)
   second_back left rest a c (Err why) is same h = h
 
-  pub read_second : AreAlone IsA a_spelled → (bytes mid left : List ℕ) (a : A) (r : Result B Halt) → Reads IsA a_spelled bytes mid (Ok a) → Reads (IsB a) (b_spelled a) mid left r
+  pub read_second : AreAlone IsA a_spelled → (bytes mid left : List ℕ) (a : A) (r : Result B Halt) → Reads IsA a_spelled bytes mid (Ok a)
+      → Reads (IsB a) (b_spelled a) mid left r
       → Reads IsC c_spelled bytes left (made_of (make a) r)
   read_second alone bytes mid left a r one two = record {
     says = second_says alone bytes mid left a r one two.says;
@@ -175,7 +187,8 @@ module _ {A B C : Type 0} (IsA : A → Type 0) (a_spelled : A → List ℕ) (IsB
   }
 
   -- no spelling of the third begins another, where this holds of both
-  pub alone_both : AreAlone IsA a_spelled → ((a b : A) → IsA a → IsA b → a_spelled a ≡ a_spelled b → a ≡ b) → ((a : A) → IsA a → AreAlone (IsB a) (b_spelled a)) → AreAlone IsC c_spelled
+  pub alone_both : AreAlone IsA a_spelled → ((a b : A) → IsA a → IsA b → a_spelled a ≡ a_spelled b → a ≡ b)
+      → ((a : A) → IsA a → AreAlone (IsB a) (b_spelled a)) → AreAlone IsC c_spelled
   alone_both alone one alone' c d more is also e =
       let whole = sym (parts d also) ∙ e ∙ ap (λ l. l ++ more) (parts c is) ∙ append_assoc (a_spelled (j.first c)) (b_spelled (j.first c) (j.second c)) more in
       elim (fronts (a_spelled (j.first d)) (b_spelled (j.first d) (j.second d)) (a_spelled (j.first c)) (b_spelled (j.first c) (j.second c) ++ more) whole) [
@@ -187,14 +200,18 @@ module _ {A B C : Type 0} (IsA : A → Type 0) (a_spelled : A → List ℕ) (IsB
       ends same rest = alone' (j.first c) (j.first_is c is) (j.second c) (j.second d) more (j.second_is c is)
           (subst (λ y. IsB y (j.second d)) (sym same) (j.second_is d also)) (ap (λ y. b_spelled y (j.second d)) same ∙ rest)
 
-      go : (w : List ℕ) → w ≡ [] → a_spelled (j.first d) ≡ a_spelled (j.first c) ++ w → b_spelled (j.first c) (j.second c) ++ more ≡ w ++ b_spelled (j.first d) (j.second d) → more ≡ []
+      go : (w : List ℕ) → w ≡ [] → a_spelled (j.first d) ≡ a_spelled (j.first c) ++ w
+          → b_spelled (j.first c) (j.second c) ++ more ≡ w ++ b_spelled (j.first d) (j.second d) → more ≡ []
       go w none longer rest =
-          let same = one (j.first c) (j.first d) (j.first_is c is) (j.first_is d also) (sym (longer ∙ ap (λ l. a_spelled (j.first c) ++ l) none ∙ append-nil (a_spelled (j.first c)))) in
+          let same = one (j.first c) (j.first d) (j.first_is c is) (j.first_is d also)
+          (sym (longer ∙ ap (λ l. a_spelled (j.first c) ++ l) none ∙ append-nil (a_spelled (j.first c)))) in
           ends same (sym (rest ∙ ap (λ l. l ++ b_spelled (j.first d) (j.second d)) none))
 
-      go' : (w : List ℕ) → w ≡ [] → a_spelled (j.first c) ≡ a_spelled (j.first d) ++ w → b_spelled (j.first d) (j.second d) ≡ w ++ (b_spelled (j.first c) (j.second c) ++ more) → more ≡ []
+      go' : (w : List ℕ) → w ≡ [] → a_spelled (j.first c) ≡ a_spelled (j.first d) ++ w
+          → b_spelled (j.first d) (j.second d) ≡ w ++ (b_spelled (j.first c) (j.second c) ++ more) → more ≡ []
       go' w none longer rest =
-          let same = one (j.first c) (j.first d) (j.first_is c is) (j.first_is d also) (longer ∙ ap (λ l. a_spelled (j.first d) ++ l) none ∙ append-nil (a_spelled (j.first d))) in
+          let same = one (j.first c) (j.first d) (j.first_is c is) (j.first_is d also) (longer ∙ ap (λ l. a_spelled (j.first d) ++ l) none
+          ∙ append-nil (a_spelled (j.first d))) in
           ends same (rest ∙ ap (λ l. l ++ (b_spelled (j.first c) (j.second c) ++ more)) none)
 
 -- ---- the exit of a `?`
@@ -216,7 +233,8 @@ pub alone_word : (word : List ℕ) → AreAlone any (always word)
 alone_word word it other more is also e = append_cancel_left word more [] (sym e ∙ sym (append-nil word))
 
 -- a word behind a word
-pub word_joins : {B : Type 0} (word : List ℕ) (IsB : B → Type 0) (spell : B → List ℕ) (one : B) → IsB one → Joins any (always word) (λ it. IsB) (λ it. spell) IsB (λ b. word ++ spell b) (λ it b. b)
+pub word_joins : {B : Type 0} (word : List ℕ) (IsB : B → Type 0) (spell : B → List ℕ) (one : B) → IsB one
+    → Joins any (always word) (λ it. IsB) (λ it. spell) IsB (λ b. word ++ spell b) (λ it b. b)
 word_joins word IsB spell one one_is = record {
   join = λ it b is also. also;
   spelled = λ it b is also. refl;
@@ -243,15 +261,19 @@ made_same : (r : Result (Unit {0}) Halt) → made_of (λ it. it) r ≡ r
 made_same (Ok it) = refl
 made_same (Err why) = refl
 
-pub word_more : (word first : List ℕ) (b : ℕ) (left now mid : List ℕ) → Reads any (always (b ∷ [])) now mid (Ok tt) → WordGoes word first (b ∷ left) now → WordGoes word first left mid
+pub word_more : (word first : List ℕ) (b : ℕ) (left now mid : List ℕ) → Reads any (always (b ∷ [])) now mid (Ok tt)
+    → WordGoes word first (b ∷ left) now → WordGoes word first left mid
 word_more word first b left now mid one w = record {
   goes = λ end r h. w.goes end r (subst (Reads any (always (b ∷ left)) now end) (made_same r)
-      (read_second any (always (b ∷ [])) (λ it. any) (λ it. always left) any (always (b ∷ left)) (λ it other. other) (byte_joins b left) (alone_word (b ∷ [])) now mid end tt r one h));
+      (read_second any (always (b ∷ [])) (λ it. any) (λ it. always left) any (always (b ∷ left)) (λ it other. other) (byte_joins b left)
+      (alone_word (b ∷ [])) now mid end tt r one h));
 }
 
-pub word_halts : (word first : List ℕ) (b : ℕ) (left now end : List ℕ) (why : Halt) → Reads any (always (b ∷ [])) now end (Err why) → WordGoes word first (b ∷ left) now → Reads any (always word) first end (Err why)
+pub word_halts : (word first : List ℕ) (b : ℕ) (left now end : List ℕ) (why : Halt) → Reads any (always (b ∷ [])) now end (Err why)
+    → WordGoes word first (b ∷ left) now → Reads any (always word) first end (Err why)
 word_halts word first b left now end why one w =
-    w.goes end (Err why) (read_first any (always (b ∷ [])) (λ it. any) (λ it. always left) any (always (b ∷ left)) (λ it other. other) (byte_joins b left) now end why one)
+    w.goes end (Err why) (read_first any (always (b ∷ [])) (λ it. any) (λ it. always left) any (always (b ∷ left)) (λ it other. other)
+    (byte_joins b left) now end why one)
 
 pub word_ends : (word first now : List ℕ) → WordGoes word first [] now → Reads any (always word) first now (Ok tt)
 word_ends word first now w = w.goes now (Ok tt) (record { says = record { is = tt; splits = refl }; back = λ it rest is e. (refl, e) })
@@ -336,7 +358,8 @@ module _ {A : Type 0} (Is : A → Type 0) (spell : A → List ℕ) (alone : AreA
   list_starts count first done n none size =
       subst (λ xs. ListGoes count first xs n first) (sym none) (subst (λ k. ListGoes count first [] k first) (sym size) (list_begins count first))
 
-  made_more : (done : List A) (a : A) (r : Result (List A) Halt) → made_of (λ xs. done ++ xs) (made_of (λ xs. a ∷ xs) r) ≡ made_of (λ xs. (done ++ a ∷ []) ++ xs) r
+  made_more : (done : List A) (a : A) (r : Result (List A) Halt)
+      → made_of (λ xs. done ++ xs) (made_of (λ xs. a ∷ xs) r) ≡ made_of (λ xs. (done ++ a ∷ []) ++ xs) r
   made_more done a (Ok xs) = ap Ok (sym (append_assoc done (a ∷ []) xs))
   made_more done a (Err why) = refl
 
@@ -344,7 +367,8 @@ module _ {A : Type 0} (Is : A → Type 0) (spell : A → List ℕ) (alone : AreA
       → ListGoes count first done n now → ListGoes count first (done ++ a ∷ []) m mid
   list_more count first done n m a now mid size r l = record {
     goes = λ end rest h.
-        let both = read_second Is spell (λ x. AreSo Is m) (λ x. flat_map spell) (AreSo Is (suc m)) (flat_map spell) (λ x xs. x ∷ xs) (cons_joins m) alone now mid end a rest r h in
+        let both = read_second Is spell (λ x. AreSo Is m) (λ x. flat_map spell) (AreSo Is (suc m)) (flat_map spell) (λ x xs. x ∷ xs)
+        (cons_joins m) alone now mid end a rest r h in
         let all = subst (λ k. Reads (AreSo Is k) (flat_map spell) now end (made_of (λ xs. a ∷ xs) rest)) (sym size) both in
         subst (Reads (AreSo Is count) (flat_map spell) first end) (made_more done a rest) (l.goes end (made_of (λ xs. a ∷ xs) rest) all);
   }
@@ -352,7 +376,8 @@ module _ {A : Type 0} (Is : A → Type 0) (spell : A → List ℕ) (alone : AreA
   pub list_halts : (count : ℕ) (first : List ℕ) (done : List A) (n m : ℕ) (why : Halt) (now end : List ℕ) → n ≡ suc m → Reads Is spell now end (Err why)
       → ListGoes count first done n now → Reads (AreSo Is count) (flat_map spell) first end (Err why)
   list_halts count first done n m why now end size r l =
-      let one' = read_first Is spell (λ x. AreSo Is m) (λ x. flat_map spell) (AreSo Is (suc m)) (flat_map spell) (λ x xs. x ∷ xs) (cons_joins m) now end why r in
+      let one' = read_first Is spell (λ x. AreSo Is m) (λ x. flat_map spell) (AreSo Is (suc m)) (flat_map spell) (λ x xs. x ∷ xs) (cons_joins m) now
+      end why r in
       l.goes end (Err why) (subst (λ k. Reads (AreSo Is k) (flat_map spell) now end (Err why)) (sym size) one')
 
   none_left : (now : List ℕ) → Reads (AreSo Is 0) (flat_map spell) now now (Ok [])
@@ -365,7 +390,8 @@ module _ {A : Type 0} (Is : A → Type 0) (spell : A → List ℕ) (alone : AreA
       back [] rest is e = (refl, e)
       back (x ∷ xs) rest is e = absurd (let s : ⊥ = omega (arith, is.0) in s)
 
-  pub list_ends : (count : ℕ) (first : List ℕ) (done : List A) (n : ℕ) (now : List ℕ) → n ≡ 0 → ListGoes count first done n now → Reads (AreSo Is count) (flat_map spell) first now (Ok done)
+  pub list_ends : (count : ℕ) (first : List ℕ) (done : List A) (n : ℕ) (now : List ℕ) → n ≡ 0 → ListGoes count first done n now
+      → Reads (AreSo Is count) (flat_map spell) first now (Ok done)
   list_ends count first done n now size l =
       subst (λ xs. Reads (AreSo Is count) (flat_map spell) first now (Ok xs)) (append-nil done)
       (l.goes now (Ok []) (subst (λ k. Reads (AreSo Is k) (flat_map spell) now now (Ok [])) (sym size) (none_left now)))
@@ -387,8 +413,10 @@ module _ {A : Type 0} (Is : A → Type 0) (spell : A → List ℕ) (alone : AreA
 
 -- ---- one value and then another
 
-pub pair_joins : {A B C : Type 0} (IsA : A → Type 0) (a_spelled : A → List ℕ) (IsB : B → Type 0) (b_spelled : B → List ℕ) (IsC : C → Type 0) (c_spelled : C → List ℕ)
-    (make : A → B → C) (first : C → A) (second : C → B) → ((c : C) → make (first c) (second c) ≡ c) → ((a : A) (b : B) → c_spelled (make a b) ≡ a_spelled a ++ b_spelled b)
+pub pair_joins : {A B C : Type 0} (IsA : A → Type 0) (a_spelled : A → List ℕ) (IsB : B → Type 0) (b_spelled : B → List ℕ) (IsC : C
+    → Type 0) (c_spelled : C → List ℕ)
+    (make : A → B → C) (first : C → A) (second : C → B) → ((c : C) → make (first c) (second c) ≡ c)
+    → ((a : A) (b : B) → c_spelled (make a b) ≡ a_spelled a ++ b_spelled b)
     → ((a : A) (b : B) → IsA a → IsB b → IsC (make a b)) → ((c : C) → IsC c → IsA (first c) × IsB (second c)) → (one : B) → IsB one
     → Joins IsA a_spelled (λ a. IsB) (λ a. b_spelled) IsC c_spelled make
 pair_joins IsA a_spelled IsB b_spelled IsC c_spelled make first second made spelled join both one one_is = record {
@@ -404,7 +432,8 @@ pair_joins IsA a_spelled IsB b_spelled IsC c_spelled make first second made spel
 }
 
 -- the same values under another name
-says_same : {A : Type 0} (Is Also : A → Type 0) (spell : A → List ℕ) (bytes left : List ℕ) (r : Result A Halt) → ((a : A) → Is a → Also a) → ((a : A) → Also a → Is a)
+says_same : {A : Type 0} (Is Also : A → Type 0) (spell : A → List ℕ) (bytes left : List ℕ) (r : Result A Halt) → ((a : A) → Is a → Also a)
+    → ((a : A) → Also a → Is a)
     → MatchResult r (Taken Is spell bytes left) (Halts Is spell bytes left) → MatchResult r (Taken Also spell bytes left) (Halts Also spell bytes left)
 says_same Is Also spell bytes left (Ok a) to from h = record { is = to a h.is; splits = h.splits }
 says_same Is Also spell bytes left (Err Memory) to from h = tt
@@ -419,7 +448,8 @@ says_same Is Also spell bytes left (Err Here) to from h = record {
     stops [] s = tt
     stops (x ∷ l) s = λ on. s (on.0, from on.0 on.1, on.2, on.3)
 
-pub read_same : {A : Type 0} (Is Also : A → Type 0) (spell : A → List ℕ) (bytes left : List ℕ) (r : Result A Halt) → ((a : A) → Is a → Also a) → ((a : A) → Also a → Is a)
+pub read_same : {A : Type 0} (Is Also : A → Type 0) (spell : A → List ℕ) (bytes left : List ℕ) (r : Result A Halt) → ((a : A) → Is a → Also a)
+    → ((a : A) → Also a → Is a)
     → Reads Is spell bytes left r → Reads Also spell bytes left r
 read_same Is Also spell bytes left r to from h = record {
   says = says_same Is Also spell bytes left r to from h.says;

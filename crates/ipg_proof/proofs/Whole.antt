@@ -3,7 +3,8 @@ use Rattle.std.proofs.Common.{◌≡◌, ℕ, ◌^◌, ◌≤◌, ◌<◌, List,
 use Rattle.std.specs.List.{flat_map}
 use Rattle.ipg_cert.specs.declared.refutation.Refutation.{Refutation}
 use Rattle.ipg_proof.specs.declared.reader.Halt.{Halt}
-use Rattle.ipg_proof.specs.Texts.{heading, between, number_text, refutation_line, edge_line, cycle_line, counted_text, text_of, IsShort, IsTree, IsEdgeEntry, AreFew, IsCycleEntry, IsSpeakable}
+use Rattle.ipg_proof.specs.Texts.{heading, between, number_text, refutation_line, edge_line, cycle_line, counted_text, text_of, IsShort, IsTree}
+use Rattle.ipg_proof.specs.Texts.{IsEdgeEntry, AreFew, IsCycleEntry, IsSpeakable}
 use Rattle.ipg_proof.specs.Reads.{Reads, AreAlone, AreSo, AreCounted, IsFrom, any, always}
 use Rattle.ipg_proof.proofs.Readers.{Joins, made_of, read_first, read_second, alone_both, pair_joins, word_joins, alone_word, counted_joins, alone_list}
 use Rattle.ipg_proof.proofs.Digits.{alone_short, short_same, one_short, alone_number, number_same}
@@ -26,12 +27,15 @@ edge_joins = pair_joins IsShort (number_text 32) IsTree refutation_line IsEdgeEn
     (λ e. refl) (λ n r. refl) (λ n r h k. (h, k)) (λ e is. is) leaf leaf_tree
 
 pub edge_first : (bytes left : List ℕ) (why : Halt) → Reads IsShort (number_text 32) bytes left (Err why) → Reads IsEdgeEntry edge_line bytes left (Err why)
-edge_first bytes left why r = read_first IsShort (number_text 32) (λ n. IsTree) (λ n. refutation_line) IsEdgeEntry edge_line (λ n q. (n, q)) edge_joins bytes left why r
+edge_first bytes left why r = read_first IsShort (number_text 32) (λ n. IsTree) (λ n. refutation_line) IsEdgeEntry edge_line
+    (λ n q. (n, q)) edge_joins bytes left why r
 
-pub edge_second : (bytes mid left : List ℕ) (n : ℕ) (r : Result Refutation Halt) → Reads IsShort (number_text 32) bytes mid (Ok n) → Reads IsTree refutation_line mid left r
+pub edge_second : (bytes mid left : List ℕ) (n : ℕ) (r : Result Refutation Halt) → Reads IsShort (number_text 32) bytes mid (Ok n)
+    → Reads IsTree refutation_line mid left r
     → Reads IsEdgeEntry edge_line bytes left (made_of (λ q. (n, q)) r)
 edge_second bytes mid left n r one two =
-    read_second IsShort (number_text 32) (λ k. IsTree) (λ k. refutation_line) IsEdgeEntry edge_line (λ k q. (k, q)) edge_joins (alone_short 32 low) bytes mid left n r one two
+    read_second IsShort (number_text 32) (λ k. IsTree) (λ k. refutation_line) IsEdgeEntry edge_line (λ k q. (k, q)) edge_joins (alone_short 32 low)
+    bytes mid left n r one two
 
 -- ---- K, then K times an EDGE
 
@@ -48,12 +52,15 @@ cycle_joins : Joins (IsFrom 1) (number_text 32) (AreSo IsShort) (λ n. flat_map 
 cycle_joins = counted_joins IsShort (number_text 32) (alone_short 32 low) 1 one_short (IsFrom 1) (number_text 32)
 
 pub cycle_first : (bytes left : List ℕ) (why : Halt) → Reads (IsFrom 1) (number_text 32) bytes left (Err why) → Reads IsCycle cycle_text bytes left (Err why)
-cycle_first bytes left why r = read_first (IsFrom 1) (number_text 32) (AreSo IsShort) (λ n. flat_map (number_text 32)) IsCycle cycle_text (λ n es. es) cycle_joins bytes left why r
+cycle_first bytes left why r = read_first (IsFrom 1) (number_text 32) (AreSo IsShort) (λ n. flat_map (number_text 32)) IsCycle cycle_text
+    (λ n es. es) cycle_joins bytes left why r
 
-pub cycle_second : (bytes mid left : List ℕ) (n : ℕ) (r : Result (List ℕ) Halt) → Reads (IsFrom 1) (number_text 32) bytes mid (Ok n) → Reads (AreSo IsShort n) (flat_map (number_text 32)) mid left r
+pub cycle_second : (bytes mid left : List ℕ) (n : ℕ) (r : Result (List ℕ) Halt) → Reads (IsFrom 1) (number_text 32) bytes mid (Ok n)
+    → Reads (AreSo IsShort n) (flat_map (number_text 32)) mid left r
     → Reads IsCycle cycle_text bytes left r
 cycle_second bytes mid left n r one two = subst (Reads IsCycle cycle_text bytes left) (made_itself r)
-    (read_second (IsFrom 1) (number_text 32) (AreSo IsShort) (λ k. flat_map (number_text 32)) IsCycle cycle_text (λ k es. es) cycle_joins alone_count bytes mid left n r one two)
+    (read_second (IsFrom 1) (number_text 32) (AreSo IsShort) (λ k. flat_map (number_text 32)) IsCycle cycle_text (λ k es. es) cycle_joins alone_count
+    bytes mid left n r one two)
 
 wide : (n : ℕ) → n < 2 ^ 32 → n < 2 ^ 64
 wide n h = omega (arith, h)
@@ -70,12 +77,15 @@ line_joins = pair_joins IsCycle cycle_text IsTree refutation_line IsCycleEntry c
     (λ e. refl) (λ es r. refl) (λ es r h k. (h.0.0, (h.0.1, h.1), k)) (λ e is. (((is.0, is.1.0), is.1.1), is.2)) leaf leaf_tree
 
 pub line_first : (bytes left : List ℕ) (why : Halt) → Reads IsCycle cycle_text bytes left (Err why) → Reads IsCycleEntry cycle_line bytes left (Err why)
-line_first bytes left why r = read_first IsCycle cycle_text (λ es. IsTree) (λ es. refutation_line) IsCycleEntry cycle_line (λ es q. (es, q)) line_joins bytes left why r
+line_first bytes left why r = read_first IsCycle cycle_text (λ es. IsTree) (λ es. refutation_line) IsCycleEntry cycle_line (λ es q. (es, q))
+    line_joins bytes left why r
 
-pub line_second : (bytes mid left : List ℕ) (es : List ℕ) (r : Result Refutation Halt) → Reads IsCycle cycle_text bytes mid (Ok es) → Reads IsTree refutation_line mid left r
+pub line_second : (bytes mid left : List ℕ) (es : List ℕ) (r : Result Refutation Halt) → Reads IsCycle cycle_text bytes mid (Ok es)
+    → Reads IsTree refutation_line mid left r
     → Reads IsCycleEntry cycle_line bytes left (made_of (λ q. (es, q)) r)
 line_second bytes mid left es r one two =
-    read_second IsCycle cycle_text (λ k. IsTree) (λ k. refutation_line) IsCycleEntry cycle_line (λ k q. (k, q)) line_joins alone_cycle bytes mid left es r one two
+    read_second IsCycle cycle_text (λ k. IsTree) (λ k. refutation_line) IsCycleEntry cycle_line (λ k q. (k, q)) line_joins alone_cycle bytes mid left
+    es r one two
 
 pub one_edge : ℕ × Refutation
 one_edge = (1, leaf)
@@ -106,22 +116,27 @@ module _ {A : Type 0} (word : List ℕ) (Is : A → Type 0) (spell : A → List 
   heading_joins : Joins any (always word) (λ it. AreFew Is) (λ it. counted_text 10 spell) (AreFew Is) section_text (λ it xs. xs)
   heading_joins = word_joins word (AreFew Is) (counted_text 10 spell) [] none_are
 
-  behind_word : (bytes mid left : List ℕ) (r : Result (List A) Halt) → Reads any (always word) bytes mid (Ok tt) → Reads (AreFew Is) (counted_text 10 spell) mid left r → Reads (AreFew Is) section_text bytes left r
+  behind_word : (bytes mid left : List ℕ) (r : Result (List A) Halt) → Reads any (always word) bytes mid (Ok tt)
+      → Reads (AreFew Is) (counted_text 10 spell) mid left r → Reads (AreFew Is) section_text bytes left r
   behind_word bytes mid left r h k = subst (Reads (AreFew Is) section_text bytes left) (made_itself r)
-      (read_second any (always word) (λ it. AreFew Is) (λ it. counted_text 10 spell) (AreFew Is) section_text (λ it xs. xs) heading_joins (alone_word word) bytes mid left tt r h k)
+      (read_second any (always word) (λ it. AreFew Is) (λ it. counted_text 10 spell) (AreFew Is) section_text (λ it xs. xs) heading_joins
+      (alone_word word) bytes mid left tt r h k)
 
   pub section_word : (bytes left : List ℕ) (why : Halt) → Reads any (always word) bytes left (Err why) → Reads (AreFew Is) section_text bytes left (Err why)
   section_word bytes left why r =
       read_first any (always word) (λ it. AreFew Is) (λ it. counted_text 10 spell) (AreFew Is) section_text (λ it xs. xs) heading_joins bytes left why r
 
-  pub section_count : (bytes mid left : List ℕ) (why : Halt) → Reads any (always word) bytes mid (Ok tt) → Reads IsShort (number_text 10) mid left (Err why) → Reads (AreFew Is) section_text bytes left (Err why)
+  pub section_count : (bytes mid left : List ℕ) (why : Halt) → Reads any (always word) bytes mid (Ok tt)
+      → Reads IsShort (number_text 10) mid left (Err why) → Reads (AreFew Is) section_text bytes left (Err why)
   section_count bytes mid left why h k = behind_word bytes mid left (Err why) h
       (read_first IsShort (number_text 10) (AreSo Is) (λ n. flat_map spell) (AreFew Is) (counted_text 10 spell) (λ n xs. xs) number_joins mid left why k)
 
-  pub section_lines : (bytes mid behind left : List ℕ) (n : ℕ) (r : Result (List A) Halt) → Reads any (always word) bytes mid (Ok tt) → Reads IsShort (number_text 10) mid behind (Ok n)
+  pub section_lines : (bytes mid behind left : List ℕ) (n : ℕ) (r : Result (List A) Halt) → Reads any (always word) bytes mid (Ok tt)
+      → Reads IsShort (number_text 10) mid behind (Ok n)
       → Reads (AreSo Is n) (flat_map spell) behind left r → Reads (AreFew Is) section_text bytes left r
   section_lines bytes mid behind left n r h k l = behind_word bytes mid left r h (subst (Reads (AreFew Is) (counted_text 10 spell) mid left) (made_itself r)
-      (read_second IsShort (number_text 10) (AreSo Is) (λ m. flat_map spell) (AreFew Is) (counted_text 10 spell) (λ m xs. xs) number_joins (alone_short 10 low_feed) mid behind left n r k l))
+      (read_second IsShort (number_text 10) (AreSo Is) (λ m. flat_map spell) (AreFew Is) (counted_text 10 spell) (λ m xs. xs) number_joins
+      (alone_short 10 low_feed) mid behind left n r k l))
 
   alone_counted : AreAlone (AreFew Is) (counted_text 10 spell)
   alone_counted = alone_both IsShort (number_text 10) (AreSo Is) (λ n. flat_map spell) (AreFew Is) (counted_text 10 spell) (λ n xs. xs) number_joins
@@ -143,7 +158,8 @@ no_cycles : AreFew IsCycleEntry []
 no_cycles = ((let s : 0 < 2 ^ 32 = omega arith in s), tt)
 
 both_joins : Joins (AreFew IsEdgeEntry) dead_text (λ d. AreFew IsCycleEntry) (λ d. cycles_text) IsSpeakable text_of (λ d c. record { dead = d; cycles = c })
-both_joins = pair_joins (AreFew IsEdgeEntry) dead_text (AreFew IsCycleEntry) cycles_text IsSpeakable text_of (λ d c. record { dead = d; cycles = c }) (λ c. c.dead) (λ c. c.cycles)
+both_joins = pair_joins (AreFew IsEdgeEntry) dead_text (AreFew IsCycleEntry) cycles_text IsSpeakable text_of (λ d c. record { dead = d; cycles = c })
+    (λ c. c.dead) (λ c. c.cycles)
     (λ c. refl) (λ d c. refl) (λ d c h k. (h, k)) (λ c is. is) [] no_cycles
 
 alone_dead : AreAlone (AreFew IsEdgeEntry) dead_text
@@ -151,9 +167,12 @@ alone_dead = alone_section heading IsEdgeEntry edge_line alone_edge_line one_edg
 
 pub both_first : (bytes left : List ℕ) (why : Halt) → Reads (AreFew IsEdgeEntry) dead_text bytes left (Err why) → Reads IsSpeakable text_of bytes left (Err why)
 both_first bytes left why r =
-    read_first (AreFew IsEdgeEntry) dead_text (λ d. AreFew IsCycleEntry) (λ d. cycles_text) IsSpeakable text_of (λ d c. record { dead = d; cycles = c }) both_joins bytes left why r
+    read_first (AreFew IsEdgeEntry) dead_text (λ d. AreFew IsCycleEntry) (λ d. cycles_text) IsSpeakable text_of
+    (λ d c. record { dead = d; cycles = c }) both_joins bytes left why r
 
-pub both_second : (bytes mid left : List ℕ) (dead : List (ℕ × Refutation)) (r : Result (List (List ℕ × Refutation)) Halt) → Reads (AreFew IsEdgeEntry) dead_text bytes mid (Ok dead)
+pub both_second : (bytes mid left : List ℕ) (dead : List (ℕ × Refutation)) (r : Result (List (List ℕ × Refutation)) Halt)
+    → Reads (AreFew IsEdgeEntry) dead_text bytes mid (Ok dead)
     → Reads (AreFew IsCycleEntry) cycles_text mid left r → Reads IsSpeakable text_of bytes left (made_of (λ c. record { dead = dead; cycles = c }) r)
 both_second bytes mid left dead r one two =
-    read_second (AreFew IsEdgeEntry) dead_text (λ d. AreFew IsCycleEntry) (λ d. cycles_text) IsSpeakable text_of (λ d c. record { dead = d; cycles = c }) both_joins alone_dead bytes mid left dead r one two
+    read_second (AreFew IsEdgeEntry) dead_text (λ d. AreFew IsCycleEntry) (λ d. cycles_text) IsSpeakable text_of
+    (λ d c. record { dead = d; cycles = c }) both_joins alone_dead bytes mid left dead r one two

@@ -42,7 +42,8 @@ fn is_due(cycles: &mut Cycles, cycle: &[u32]) -> bool
 /// The first cycle that isn't the one due at its place, or where one is missing; the first one is entry number `from`.
 fn other(cycles: &mut Cycles, from: u64, listed: &[(List<u32>, Refutation)]) -> Option<u64>
     requires { from + length listed.now < 2 ^ 64 }
-    ensures { MatchOption result (IsRun cycles.old.graph cycles.old.at (map (λ entry. entry.0) listed.now)) (λ at. IsFirstOther cycles.old.graph cycles.old.at from (map (λ entry. entry.0) listed.now) at) }
+    ensures { MatchOption result (IsRun cycles.old.graph cycles.old.at (map (λ entry. entry.0) listed.now))
+        (λ at. IsFirstOther cycles.old.graph cycles.old.at from (map (λ entry. entry.0) listed.now) at) }
 {
     for (at, entry) in listed.iter().enumerate() {
         if !is_due(cycles, entry.0.as_slice()) {
@@ -63,7 +64,8 @@ fn misplaced_cycle(
     c: &Certificate,
 ) -> Result<Option<u64>, AllocError>
     requires { edges.now ≡ edges_of g.now }
-    ensures { IfOk result (λ at. MatchOption at (IsRun (live_graph g.now (dead_edges c.now)) Start (cycles_of c.now)) (λ at. IsFirstOther (live_graph g.now (dead_edges c.now)) Start (length c.now.dead) (cycles_of c.now) at)) }
+    ensures { IfOk result (λ at. MatchOption at (IsRun (live_graph g.now (dead_edges c.now)) Start (cycles_of c.now))
+        (λ at. IsFirstOther (live_graph g.now (dead_edges c.now)) Start (length c.now.dead) (cycles_of c.now) at)) }
 {
     let dead = c.dead.as_slice();
     let mut cycles = live_cycles(alloc, g, edges, dead)?;

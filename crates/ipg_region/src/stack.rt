@@ -71,6 +71,7 @@ impl<T: Copy, A: Allocator + Clone + Drop> Stack<T, A> {
         self.before + self.top.len()
     }
 
+    /// Whether there are no items.
     pub fn is_empty(&self) -> bool
         ensures { result ≡ nat_eq (length self.now.items) 0 }
     {

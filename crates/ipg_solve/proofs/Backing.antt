@@ -11,7 +11,8 @@ pub reverse_push : {X : Type 0} (xs : List X) (x : X) → reverse (xs ++ x ∷ [
 reverse_push xs x = reverse-append xs (x ∷ [])
 
 -- what the last cut did is undone
-undone : (first : ℕ) (start : List Span) (cut : Cut) (cuts : List Cut) → AreCuts first start (cut ∷ cuts) → set (spans_after first start (cut ∷ cuts)) cut.var cut.old ≡ spans_after first start cuts
+undone : (first : ℕ) (start : List Span) (cut : Cut) (cuts : List Cut) → AreCuts first start (cut ∷ cuts)
+    → set (spans_after first start (cut ∷ cuts)) cut.var cut.old ≡ spans_after first start cuts
 undone first start cut cuts are =
     let below = spans_after first start cuts in
     set-set below cut.var (side_of (first + length cuts) cut) cut.old ∙ ap (set below cut.var) (sym are.1) ∙ set-get_or below cut.var no_span
@@ -23,18 +24,23 @@ pub record Backing (first : ℕ) (start spans : List Span) (entry cuts : List Cu
   pub waits : (root : List Fact) → waiting root (reverse entry) ≡ waiting root (reverse cuts)
   pub work_is : work_waiting first start (reverse entry) ≡ work_waiting first start (reverse cuts)
 
-pub taken_off : (first : ℕ) (start spans new : List Span) (entry cuts rest : List Cut) (cut : Cut) → Backing first start spans entry cuts → cuts ≡ rest ++ cut ∷ [] → cut.below ≡ false → new ≡ set spans cut.var cut.old → Backing first start new entry rest
+pub taken_off : (first : ℕ) (start spans new : List Span) (entry cuts rest : List Cut) (cut : Cut) → Backing first start spans entry cuts
+    → cuts ≡ rest ++ cut ∷ [] → cut.below ≡ false → new ≡ set spans cut.var cut.old → Backing first start new entry rest
 taken_off first start spans new entry cuts rest cut b e upper is =
     let turned : reverse cuts ≡ cut ∷ reverse rest = ap reverse e ∙ reverse_push rest cut in
     let are : AreCuts first start (cut ∷ reverse rest) = subst (AreCuts first start) turned b.cuts_are in
     record {
       spans_are = is ∙ ap (λ ss. set ss cut.var cut.old) (b.spans_are ∙ ap (spans_after first start) turned) ∙ undone first start cut (reverse rest) are;
       cuts_are = are.4;
-      waits = λ root. b.waits root ∙ ap (waiting root) turned ∙ ap (λ c. cond c (facts_after root (above cut ∷ reverse rest) ∷ waiting root (reverse rest)) (waiting root (reverse rest))) upper;
-      work_is = b.work_is ∙ ap (work_waiting first start) turned ∙ ap (λ c. cond c (work_in (spans_after first start (above cut ∷ reverse rest))) 0 + work_waiting first start (reverse rest)) upper ∙ zero-add (work_waiting first start (reverse rest));
+      waits = λ root. b.waits root ∙ ap (waiting root) turned
+          ∙ ap (λ c. cond c (facts_after root (above cut ∷ reverse rest) ∷ waiting root (reverse rest)) (waiting root (reverse rest))) upper;
+      work_is = b.work_is ∙ ap (work_waiting first start) turned
+          ∙ ap (λ c. cond c (work_in (spans_after first start (above cut ∷ reverse rest))) 0 + work_waiting first start (reverse rest)) upper
+          ∙ zero-add (work_waiting first start (reverse rest));
     }
 
-pub turned_over : (first : ℕ) (start spans new : List Span) (entry cuts rest last : List Cut) (cut : Cut) → Backing first start spans entry cuts → cuts ≡ rest ++ cut ∷ [] → cut.below ≡ true → last ≡ rest ++ above cut ∷ []
+pub turned_over : (first : ℕ) (start spans new : List Span) (entry cuts rest last : List Cut) (cut : Cut) → Backing first start spans entry cuts
+    → cuts ≡ rest ++ cut ∷ [] → cut.below ≡ true → last ≡ rest ++ above cut ∷ []
     → new ≡ set spans cut.var (side_of (first + length rest) (above cut)) → Backs first start new (reverse entry) (reverse last) true
 turned_over first start spans new entry cuts rest last cut b e lower ends is =
     let turned : reverse cuts ≡ cut ∷ reverse rest = ap reverse e ∙ reverse_push rest cut in
@@ -47,7 +53,9 @@ turned_over first start spans new entry cuts rest last cut b e lower ends is =
           ∙ set-set below cut.var (side_of (first + length (reverse rest)) cut) (side_of (first + length rest) (above cut))
           ∙ ap (λ n. set below cut.var (side_of (first + n) (above cut))) (sym (length-reverse rest)),
       (are.0, are.1, are.2, are.3, are.4),
-      λ root. b.waits root ∙ ap (waiting root) turned ∙ ap (λ c. cond c (facts_after root (above cut ∷ reverse rest) ∷ waiting root (reverse rest)) (waiting root (reverse rest))) lower,
-      b.work_is ∙ ap (work_waiting first start) turned ∙ ap (λ c. cond c (work_in (spans_after first start (above cut ∷ reverse rest))) 0 + work_waiting first start (reverse rest)) lower
+      λ root. b.waits root ∙ ap (waiting root) turned
+          ∙ ap (λ c. cond c (facts_after root (above cut ∷ reverse rest) ∷ waiting root (reverse rest)) (waiting root (reverse rest))) lower,
+      b.work_is ∙ ap (work_waiting first start) turned
+          ∙ ap (λ c. cond c (work_in (spans_after first start (above cut ∷ reverse rest))) 0 + work_waiting first start (reverse rest)) lower
           ∙ ap (λ n. work_in (spans_after first start (above cut ∷ reverse rest)) + n) (sym (zero-add (work_waiting first start (reverse rest)))),
     )

@@ -35,7 +35,8 @@ added_terms y form sum =
       product_is (pos 1) (coefficient y form.terms),
     ))
 
-summed : (vars : ℕ) (facts : List Fact) → AllByRecursion (IsNarrow vars) facts → AllByRecursion IsSized facts → (node start : ℕ) (numbers : List ℕ) (sum : Form) → LeadBack (edges_in facts) node numbers start → Summed facts node start numbers sum
+summed : (vars : ℕ) (facts : List Fact) → AllByRecursion (IsNarrow vars) facts → AllByRecursion IsSized facts
+    → (node start : ℕ) (numbers : List ℕ) (sum : Form) → LeadBack (edges_in facts) node numbers start → Summed facts node start numbers sum
 summed vars facts narrow sized node start [] sum back =
     record { whole = sum; leads = refl; terms = λ y. ap (λ k. coefficient y sum.terms +ℤ unit y k) (sym back); constant = same_in _ _ (omega (arith, ints)) }
 summed vars facts narrow sized node start (n ∷ numbers) sum back =
@@ -66,12 +67,14 @@ some_edge : (facts : List Fact) (numbers : List ℕ) → pos 0 <ℤ fall_of (edg
 some_edge facts [] h = absurd (omega (arith, ints))
 some_edge facts (n ∷ numbers) h = omega arith
 
-pub circle_combines : (vars : ℕ) (facts : List Fact) (circle : List ℕ) → AllByRecursion (IsNarrow vars) facts → AllByRecursion IsSized facts → IsCircle (edges_in facts) circle → length circle ≤ 2 ^ 21 → combines (entries_of circle) facts ≡ true
+pub circle_combines : (vars : ℕ) (facts : List Fact) (circle : List ℕ) → AllByRecursion (IsNarrow vars) facts → AllByRecursion IsSized facts
+    → IsCircle (edges_in facts) circle → length circle ≤ 2 ^ 21 → combines (entries_of circle) facts ≡ true
 circle_combines vars facts circle narrow sized falls few =
     let entries : List (ℕ × ℕ) = entries_of circle in
     let sum = summed vars facts narrow sized falls.0 falls.0 circle zero_form falls.1 in
     let count : length entries ≡ length circle = length-map circle (λ (n : ℕ). (1, n)) in
-    ap (λ b. b && (nat_le (length entries) (2 ^ 21) && is_absurd (weighted_sum facts entries))) (le-leb 1 (length entries) (omega (arith, count, some_edge facts circle falls.2)))
+    ap (λ b. b && (nat_le (length entries) (2 ^ 21) && is_absurd (weighted_sum facts entries)))
+    (le-leb 1 (length entries) (omega (arith, count, some_edge facts circle falls.2)))
     ∙ ap (λ b. b && is_absurd (weighted_sum facts entries)) (le-leb (length entries) (2 ^ 21) (omega (arith, count)))
     ∙ ap is_absurd sum.leads
     ∙ ap (λ b. b && int_lt (pos 0) sum.whole.constant) (in_zero sum.whole.terms sum.whole.terms (λ y. same_in _ _ (omega (arith, ints, sum.terms y))))

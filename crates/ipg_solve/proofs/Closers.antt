@@ -1,5 +1,6 @@
 -- Steps that refute the facts at hand, by what the formula is that the spans rule out.
-use Rattle.std.proofs.Common.{◌≡◌, ℕ, zero, suc, ◌+◌, ◌<◌, ◌≤◌, true, ◌&&◌, pos, List, [], ◌∷◌, ◌++◌, map, take, drop, get_or, length, refl, sym, ◌∙◌, ap, subst, length-append, append_assoc, take-append-drop, eq-eqb}
+use Rattle.std.proofs.Common.{◌≡◌, ℕ, zero, suc, ◌+◌, ◌<◌, ◌≤◌, true, ◌&&◌, pos, List, [], ◌∷◌, ◌++◌, map, take, drop, get_or, length, refl, sym, ◌∙◌}
+use Rattle.std.proofs.Common.{ap, subst, length-append, append_assoc, take-append-drop, eq-eqb}
 use Rattle.std.specs.Prelude.{Some, slice_get, int_lt}
 use Rattle.std.specs.List.{flat_map}
 use Rattle.std.proofs.lemmas.List.{drop-drop, drop_at, drop_more, append-nil}
@@ -37,28 +38,34 @@ pub spans_stay : (facts more : List Fact) (spans : List Span) → AreSpans facts
 spans_stay facts more spans are x within = (get_append facts more _ _ (are x within).0, get_append facts more _ _ (are x within).1)
 
 -- one step that closes the goal
-pub closes_atom : (spans : List Span) (number next : ℕ) (form : Form) (old new : List Step) (step : Step) → terms_width form.terms ≤ length spans → in_rule form.terms ≡ true → int_lt (pos 0) (least_of spans form) ≡ true
+pub closes_atom : (spans : List Span) (number next : ℕ) (form : Form) (old new : List Step) (step : Step) → terms_width form.terms ≤ length spans
+    → in_rule form.terms ≡ true → int_lt (pos 0) (least_of spans form) ≡ true
     → step ≡ Combine ((1, number) ∷ map (entry_of spans) form.terms) → new ≡ old ++ step ∷ [] → ClosesFacts spans number next (AtMost form ∷ []) old new
 closes_atom spans number next form old new step within rule above is e = (
   step ∷ [],
   e,
   λ vars facts are stand _ more goals.
       let at : slice_get facts number ≡ Some (AtMost form) = get_from_drop number facts stand.0 (AtMost form) stand.1 in
-      ap (λ s. refutes vars (s ∷ more) (facts ∷ goals)) is ∙ ap (λ b. b && refutes vars more goals) (atom_combines facts spans number form are within rule at above),
+      ap (λ s. refutes vars (s ∷ more) (facts ∷ goals)) is ∙ ap (λ b. b && refutes vars more goals)
+      (atom_combines facts spans number form are within rule at above),
 )
 
-flat_front : (front back : List Formula) (member : Formula) → flat_map facts_of (front ++ member ∷ back) ≡ flat_map facts_of front ++ (facts_of member ++ flat_map facts_of back)
+flat_front : (front back : List Formula) (member : Formula)
+    → flat_map facts_of (front ++ member ∷ back) ≡ flat_map facts_of front ++ (facts_of member ++ flat_map facts_of back)
 flat_front [] back member = refl
-flat_front (f ∷ front) back member = ap (λ fs. facts_of f ++ fs) (flat_front front back member) ∙ sym (append_assoc (facts_of f) (flat_map facts_of front) (facts_of member ++ flat_map facts_of back))
+flat_front (f ∷ front) back member = ap (λ fs. facts_of f ++ fs) (flat_front front back member)
+    ∙ sym (append_assoc (facts_of f) (flat_map facts_of front) (facts_of member ++ flat_map facts_of back))
 
-regroup : (front back : List Formula) (member : Formula) (more : List Fact) → flat_map facts_of (front ++ member ∷ back) ++ more ≡ flat_map facts_of front ++ (facts_of member ++ (flat_map facts_of back ++ more))
+regroup : (front back : List Formula) (member : Formula) (more : List Fact)
+    → flat_map facts_of (front ++ member ∷ back) ++ more ≡ flat_map facts_of front ++ (facts_of member ++ (flat_map facts_of back ++ more))
 regroup front back member more =
     ap (λ fs. fs ++ more) (flat_front front back member)
     ∙ append_assoc (flat_map facts_of front) (facts_of member ++ flat_map facts_of back) more
     ∙ ap (λ fs. flat_map facts_of front ++ fs) (append_assoc (facts_of member) (flat_map facts_of back) more)
 
 -- the facts of one of the members stand behind those of the members before it
-member_stands : (number : ℕ) (front back : List Formula) (member : Formula) (facts : List Fact) → StandAt number (flat_map facts_of (front ++ member ∷ back)) facts → StandAt (number + length (flat_map facts_of front)) (facts_of member) facts
+member_stands : (number : ℕ) (front back : List Formula) (member : Formula) (facts : List Fact)
+    → StandAt number (flat_map facts_of (front ++ member ∷ back)) facts → StandAt (number + length (flat_map facts_of front)) (facts_of member) facts
 member_stands number front back member facts stand =
     let rest : List Fact = flat_map facts_of back ++ stand.0 in (
       rest,
@@ -68,7 +75,8 @@ member_stands number front back member facts stand =
     )
 
 -- the facts of an All by those of one of its members
-pub closes_members : (spans : List Span) (number next first : ℕ) (members front back : List Formula) (member : Formula) (old new : List Step) → members ≡ front ++ member ∷ back → first ≡ number + length (flat_map facts_of front)
+pub closes_members : (spans : List Span) (number next first : ℕ) (members front back : List Formula) (member : Formula) (old new : List Step)
+    → members ≡ front ++ member ∷ back → first ≡ number + length (flat_map facts_of front)
     → ClosesFacts spans first next (facts_of member) old new → ClosesFacts spans number next (flat_map facts_of members) old new
 closes_members spans number next first members front back member old new is e closes = (
   closes.0,
@@ -79,7 +87,8 @@ closes_members spans number next first members front back member old new is e cl
 )
 
 -- an Any by the cases of its members
-pub closes_choice : (spans : List Span) (number next : ℕ) (members : List Formula) (old mid new : List Step) → mid ≡ old ++ Either number (length members) ∷ [] → ClosesCases spans next members mid new
+pub closes_choice : (spans : List Span) (number next : ℕ) (members : List Formula) (old mid new : List Step)
+    → mid ≡ old ++ Either number (length members) ∷ [] → ClosesCases spans next members mid new
     → ClosesFacts spans number next (Choice members ∷ []) old new
 closes_choice spans number next members old mid new e closes = (
   Either number (length members) ∷ closes.0,
@@ -95,7 +104,8 @@ pub none_closed : (spans : List Span) (next : ℕ) (members : List Formula) (old
 none_closed spans next members old = ([], sym (append-nil old), λ vars facts are n more goals. refl)
 
 -- the case of one member more
-pub one_closed : (spans : List Span) (next behind : ℕ) (members left rest : List Formula) (member : Formula) (old mid new : List Step) → left ≡ member ∷ rest → behind ≡ next + length (facts_of member) → ClosesSome spans next members left old mid
+pub one_closed : (spans : List Span) (next behind : ℕ) (members left rest : List Formula) (member : Formula) (old mid new : List Step)
+    → left ≡ member ∷ rest → behind ≡ next + length (facts_of member) → ClosesSome spans next members left old mid
     → ClosesFacts spans next behind (facts_of member) mid new → ClosesSome spans next members rest old new
 one_closed spans next behind members left rest member old mid new is e so_far closes = (
   so_far.0 ++ closes.0,
@@ -106,10 +116,12 @@ one_closed spans next behind members left rest member old mid new is e so_far cl
       ap (λ s. refutes vars s (cases_of facts members ++ goals)) (append_assoc so_far.0 closes.0 more)
       ∙ so_far.2 vars facts are n (closes.0 ++ more) goals
       ∙ ap (λ ms. refutes vars (closes.0 ++ more) (cases_of facts ms ++ goals)) is
-      ∙ closes.2 vars own (spans_stay facts (facts_of member) spans are) stand (length-append facts (facts_of member) ∙ ap (λ k. k + length (facts_of member)) n ∙ sym e) more (cases_of facts rest ++ goals),
+      ∙ closes.2 vars own (spans_stay facts (facts_of member) spans are) stand (length-append facts (facts_of member)
+      ∙ ap (λ k. k + length (facts_of member)) n ∙ sym e) more (cases_of facts rest ++ goals),
 )
 
-pub all_closed : (spans : List Span) (next : ℕ) (members left : List Formula) (old new : List Step) → left ≡ [] → ClosesSome spans next members left old new → ClosesCases spans next members old new
+pub all_closed : (spans : List Span) (next : ℕ) (members left : List Formula) (old new : List Step) → left ≡ []
+    → ClosesSome spans next members left old new → ClosesCases spans next members old new
 all_closed spans next members left old new none so_far = (
   so_far.0,
   so_far.1,

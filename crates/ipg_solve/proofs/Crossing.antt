@@ -1,5 +1,6 @@
 -- The box with a variable that can have no value.
-use Rattle.std.proofs.Common.{◌≡◌, ℕ, ◌+◌, ◌<◌, max, true, false, ◌&&◌, ℤ, pos, negsuc, ◌+ℤ◌, ◌*ℤ◌, List, [], ◌∷◌, length, get_or, refl, sym, ◌∙◌, ap, subst, arith}
+use Rattle.std.proofs.Common.{◌≡◌, ℕ, ◌+◌, ◌<◌, max, true, false, ◌&&◌, ℤ, pos, negsuc, ◌+ℤ◌, ◌*ℤ◌, List, [], ◌∷◌, length, get_or, refl, sym, ◌∙◌, ap}
+use Rattle.std.proofs.Common.{subst, arith}
 use Rattle.std.specs.Prelude.{Some, int_lt, ◌≤ℤ◌, ◌<ℤ◌}
 use Rattle.std.proofs.lemmas.Int.{ints}
 use Rattle.std.proofs.lemmas.Option.{slice_get-get_or, slice_get_within}
@@ -28,7 +29,8 @@ use Rattle.ipg_solve.proofs.Parts.{start_length, start_at, start_span, start_hol
 abbrev pub no_bounds : ℤ × ℤ
 no_bounds = (pos 0, pos 0)
 
-pub full_start : (bounds : List (ℤ × ℤ)) → ((k : ℕ) → k < length bounds → int_lt (get_or bounds k no_bounds).1 (get_or bounds k no_bounds).0 ≡ false) → AreFull (start_spans 0 bounds)
+pub full_start : (bounds : List (ℤ × ℤ)) → ((k : ℕ) → k < length bounds → int_lt (get_or bounds k no_bounds).1 (get_or bounds k no_bounds).0 ≡ false)
+    → AreFull (start_spans 0 bounds)
 full_start bounds none x within =
     let inside : x < length bounds = omega (arith, start_length 0 bounds) in
     let b = get_or bounds x no_bounds in
@@ -36,13 +38,16 @@ full_start bounds none x within =
     let low : b.0 ≤ℤ b.1 = omega (arith, ints) in
     subst (λ (s : Span). s.low ≤ℤ s.high) (sym (start_at 0 bounds x b (slice_get-get_or bounds x no_bounds inside))) low
 
-pub cross_here : (bounds : List (ℤ × ℤ)) (x : ℕ) → x < length bounds → int_lt (get_or bounds x no_bounds).1 (get_or bounds x no_bounds).0 ≡ true → IsCrossed bounds x
+pub cross_here : (bounds : List (ℤ × ℤ)) (x : ℕ) → x < length bounds → int_lt (get_or bounds x no_bounds).1 (get_or bounds x no_bounds).0 ≡ true
+    → IsCrossed bounds x
 cross_here bounds x within h = let b = get_or bounds x no_bounds in (b.0, b.1, slice_get-get_or bounds x no_bounds within, omega (arith, ints, h))
 
-is_above_zero : (spans : List Span) (x : ℕ) (low high : ℤ) → (span_at spans x).high ≡ high → high <ℤ low → int_lt (pos 0) (least_of spans (record { terms = (x, negsuc 0) ∷ []; constant = low })) ≡ true
+is_above_zero : (spans : List Span) (x : ℕ) (low high : ℤ) → (span_at spans x).high ≡ high → high <ℤ low
+    → int_lt (pos 0) (least_of spans (record { terms = (x, negsuc 0) ∷ []; constant = low })) ≡ true
 is_above_zero spans x low high e h =
     let z = ((negsuc 0 *ℤ (span_at spans x).high) +ℤ pos 0) +ℤ low in
-    elim (int_lt (pos 0) z) as (λ r. int_lt (pos 0) z ≡ r → r ≡ true) [ true ↦ λ f. refl | false ↦ λ f. absurd (omega (arith, ints, product_is (negsuc 0) (span_at spans x).high)) ] refl
+    elim (int_lt (pos 0) z) as (λ r. int_lt (pos 0) z ≡ r
+    → r ≡ true) [ true ↦ λ f. refl | false ↦ λ f. absurd (omega (arith, ints, product_is (negsuc 0) (span_at spans x).high)) ] refl
 
 crossed_combines : (f : Formula) (box : Boxed) (x : ℕ) → IsCrossed box.bounds x → combines ((1, x + x) ∷ (1, x + x + 1) ∷ []) (root_facts f box) ≡ true
 crossed_combines f box x c =
@@ -52,13 +57,16 @@ crossed_combines f box x c =
     let held : Stands (root_facts f box) x (span_at spans x) = start_holds f box x within in
     let form : Form = record { terms = (x, negsuc 0) ∷ []; constant = c.0 } in
     let rule : in_rule form.terms ≡ true = ap (λ b. (b && true) && true) (le-leb 0 x (omega arith)) in
-    let e : (x + x ≡ (span_at spans x).low_at) × (x + x + 1 ≡ (span_at spans x).high_at) = (omega (arith, ap (λ (s : Span). s.low_at) is), omega (arith, ap (λ (s : Span). s.high_at) is)) in
+    let e : (x + x ≡ (span_at spans x).low_at) × (x + x + 1 ≡ (span_at spans x).high_at) =
+    (omega (arith, ap (λ (s : Span). s.low_at) is), omega (arith, ap (λ (s : Span). s.high_at) is)) in
     ap (λ n. combines ((1, n) ∷ (1, x + x + 1) ∷ []) (root_facts f box)) e.0
     ∙ ap (λ n. combines ((1, (span_at spans x).low_at) ∷ (1, n) ∷ []) (root_facts f box)) e.1
-    ∙ atom_combines (root_facts f box) spans (span_at spans x).low_at form (start_holds f box) (omega arith) rule (held.0 ∙ ap (λ (s : Span). Some (at_least x s.low)) is)
+    ∙ atom_combines (root_facts f box) spans (span_at spans x).low_at form (start_holds f box) (omega arith) rule
+    (held.0 ∙ ap (λ (s : Span). Some (at_least x s.low)) is)
     (is_above_zero spans x c.0 c.1 (ap (λ (s : Span). s.high) is) c.3)
 
-pub crossed_checks : (f : Formula) (box : Boxed) (x : ℕ) (r : Refutation) → IsCrossed box.bounds x → r ≡ record { steps = Combine ((1, x + x) ∷ (1, x + x + 1) ∷ []) ∷ [] } → checks f box r ≡ true
+pub crossed_checks : (f : Formula) (box : Boxed) (x : ℕ) (r : Refutation) → IsCrossed box.bounds x
+    → r ≡ record { steps = Combine ((1, x + x) ∷ (1, x + x + 1) ∷ []) ∷ [] } → checks f box r ≡ true
 crossed_checks f box x r c is = ap (checks f box) is ∙ ap (λ b. b && true) (crossed_combines f box x c)
 
 pub crossed_short : (vars x : ℕ) (r : Refutation) → r ≡ record { steps = Combine ((1, x + x) ∷ (1, x + x + 1) ∷ []) ∷ [] } → IsShort (max 1 vars) (Refuted r)

@@ -1,5 +1,6 @@
 -- What the levels or the circle of the graph say of the formula.
-use Rattle.std.proofs.Common.{◌≡◌, ℕ, suc, ◌+◌, ◌^◌, ◌<◌, ◌≤◌, inl, inr, true, ◌&&◌, ℤ, pos, negsuc, neg_ℤ, ◌+ℤ◌, ◌-ℤ◌, List, [], ◌∷◌, ◌++◌, length, get_or, refl, sym, ◌∙◌, ap, subst, arith}
+use Rattle.std.proofs.Common.{◌≡◌, ℕ, suc, ◌+◌, ◌^◌, ◌<◌, ◌≤◌, inl, inr, true, ◌&&◌, ℤ, pos, negsuc, neg_ℤ, ◌+ℤ◌, ◌-ℤ◌, List, [], ◌∷◌, ◌++◌, length}
+use Rattle.std.proofs.Common.{get_or, refl, sym, ◌∙◌, ap, subst, arith}
 use Rattle.std.specs.Prelude.{Some, slice_get, int_le, ◌≤ℤ◌}
 use Rattle.std.specs.List.{AllByRecursion}
 use Rattle.std.proofs.lemmas.Int.{ints}
@@ -31,30 +32,38 @@ use Rattle.ipg_solve.proofs.Graph.{edge_is}
 use Rattle.ipg_solve.proofs.Circling.{circle_combines}
 
 -- along the edge of a fact among the facts the levels fall
-fall_at : (vars : ℕ) (levels : List ℤ) (facts : List Fact) (n : ℕ) (form : Form) → AllByRecursion (IsNarrow vars) facts → AllFall levels (edges_in facts) → slice_get facts n ≡ Some (AtMost form) → Falls levels (edge_of form)
+fall_at : (vars : ℕ) (levels : List ℤ) (facts : List Fact) (n : ℕ) (form : Form) → AllByRecursion (IsNarrow vars) facts
+    → AllFall levels (edges_in facts) → slice_get facts n ≡ Some (AtMost form) → Falls levels (edge_of form)
 fall_at vars levels facts n form narrow falls at = let is = edge_is vars facts n form narrow at in subst (Falls levels) is.1 (falls n is.0)
 
-pub between : (f : Formula) (box : Boxed) (levels : List ℤ) → AllByRecursion (IsNarrow (length box.bounds)) (root_facts f box) → AllFall levels (edges_in (root_facts f box)) → AreBetween levels box.bounds
+pub between : (f : Formula) (box : Boxed) (levels : List ℤ) → AllByRecursion (IsNarrow (length box.bounds)) (root_facts f box)
+    → AllFall levels (edges_in (root_facts f box)) → AreBetween levels box.bounds
 between f box levels narrow falls x within =
     let facts = root_facts f box in
     let b = get_or box.bounds x no_bounds in
     let is : span_at (start_spans 0 box.bounds) x ≡ start_span (0 + x) b = start_at 0 box.bounds x b (slice_get-get_or box.bounds x no_bounds within) in
     let stands : Stands facts x (start_span (0 + x) b) = subst (Stands facts x) is (start_holds f box x (omega (arith, start_length 0 box.bounds))) in
-    let low : (level_at levels 0 +ℤ b.0) ≤ℤ level_at levels (x + 1) = fall_at (length box.bounds) levels facts _ (record { terms = (x, negsuc 0) ∷ []; constant = b.0 }) narrow falls stands.0 in
-    let high : (level_at levels (x + 1) +ℤ neg_ℤ b.1) ≤ℤ level_at levels 0 = fall_at (length box.bounds) levels facts _ (record { terms = (x, pos 1) ∷ []; constant = neg_ℤ b.1 }) narrow falls stands.1 in
+    let low : (level_at levels 0 +ℤ b.0) ≤ℤ level_at levels (x + 1) = fall_at (length box.bounds) levels facts _
+    (record { terms = (x, negsuc 0) ∷ []; constant = b.0 }) narrow falls stands.0 in
+    let high : (level_at levels (x + 1) +ℤ neg_ℤ b.1) ≤ℤ level_at levels 0 = fall_at (length box.bounds) levels facts _
+    (record { terms = (x, pos 1) ∷ []; constant = neg_ℤ b.1 }) narrow falls stands.1 in
     (omega (arith, ints, low), omega (arith, ints, high))
 
-form_holds : (vars : ℕ) (levels : List ℤ) (values : Assignment) (form : Form) → AreLevels vars levels values → IsNarrow vars (AtMost form) → Falls levels (edge_of form) → int_le (value_at values form) (pos 0) ≡ true
-form_holds vars levels values form are narrow falls = le_test (value_at values form) (pos 0) (omega (arith, ints, falls, valued vars levels values are form.terms narrow.0 narrow.1))
+form_holds : (vars : ℕ) (levels : List ℤ) (values : Assignment) (form : Form) → AreLevels vars levels values → IsNarrow vars (AtMost form)
+    → Falls levels (edge_of form) → int_le (value_at values form) (pos 0) ≡ true
+form_holds vars levels values form are narrow falls =
+    le_test (value_at values form) (pos 0) (omega (arith, ints, falls, valued vars levels values are form.terms narrow.0 narrow.1))
 
-facts_hold : (vars : ℕ) (levels : List ℤ) (values : Assignment) (facts : List Fact) → AreLevels vars levels values → AllByRecursion (IsNarrow vars) facts → AllFall levels (edges_in facts) → all_hold values facts ≡ true
+facts_hold : (vars : ℕ) (levels : List ℤ) (values : Assignment) (facts : List Fact) → AreLevels vars levels values
+    → AllByRecursion (IsNarrow vars) facts → AllFall levels (edges_in facts) → all_hold values facts ≡ true
 facts_hold vars levels values [] are narrow falls = refl
 facts_hold vars levels values (AtMost form ∷ facts) are narrow falls =
     ap (λ b. b && all_hold values facts) (form_holds vars levels values form are narrow.0 (falls 0 (omega arith)))
     ∙ facts_hold vars levels values facts are narrow.1 (λ n within. falls (suc n) (omega arith))
 facts_hold vars levels values (Choice members ∷ facts) are narrow falls = absurd narrow.0
 
-pub levels_solve : (f : Formula) (box : Boxed) (levels values : List ℤ) → are_differences f ≡ true → AllByRecursion (IsNarrow (length box.bounds)) (root_facts f box) → AllFall levels (edges_in (root_facts f box))
+pub levels_solve : (f : Formula) (box : Boxed) (levels values : List ℤ) → are_differences f ≡ true
+    → AllByRecursion (IsNarrow (length box.bounds)) (root_facts f box) → AllFall levels (edges_in (root_facts f box))
     → AreHeights (length box.bounds) levels values → Solves f box values
 levels_solve f box levels values difference narrow falls heights =
     let are : AreLevels (length box.bounds) levels (assigned values) = λ x within. unwrap_or-slice_get values x (pos 0) ∙ heights.1 x within in
@@ -69,7 +78,8 @@ levels_solve f box levels values difference narrow falls heights =
       (sure f difference).1 (assigned values) (all_hold-split (assigned values) (bound_facts 0 box.bounds) (facts_of f) hold).1,
     )
 
-pub height_more : (vars : ℕ) (levels old new : List ℤ) (value : ℤ) → AreHeights vars levels old → new ≡ old ++ value ∷ [] → value ≡ level_at levels (vars + 1) -ℤ level_at levels 0 → AreHeights (vars + 1) levels new
+pub height_more : (vars : ℕ) (levels old new : List ℤ) (value : ℤ) → AreHeights vars levels old → new ≡ old ++ value ∷ []
+    → value ≡ level_at levels (vars + 1) -ℤ level_at levels 0 → AreHeights (vars + 1) levels new
 height_more vars levels old new value heights is here = (
   ap length is ∙ length_push old value ∙ ap (λ k. k + 1) heights.0,
   λ x within.
@@ -82,13 +92,19 @@ height_more vars levels old new value heights is here = (
       ],
 )
 
-pub levels_fall : (nodes : ℕ) (facts : List Fact) (edges lent : List Edge) (settled : Settled) (levels seen : List ℤ) → Settles nodes lent settled → settled ≡ Levels levels → lent ≡ edges → edges ≡ edges_in facts → seen ≡ levels
+pub levels_fall : (nodes : ℕ) (facts : List Fact) (edges lent : List Edge) (settled : Settled) (levels seen : List ℤ) → Settles nodes lent settled
+    → settled ≡ Levels levels → lent ≡ edges → edges ≡ edges_in facts → seen ≡ levels
     → (length seen ≡ nodes) × AllFall seen (edges_in facts)
 levels_fall nodes facts edges lent settled levels seen settles is lent_is edges_are seen_are =
-    subst (λ ls. (length ls ≡ nodes) × AllFall ls (edges_in facts)) (sym seen_are) (subst (λ es. Settles nodes es (Levels levels)) (lent_is ∙ edges_are) (subst (Settles nodes lent) is settles))
+    subst (λ ls. (length ls ≡ nodes) × AllFall ls (edges_in facts)) (sym seen_are)
+    (subst (λ es. Settles nodes es (Levels levels)) (lent_is ∙ edges_are) (subst (Settles nodes lent) is settles))
 
-pub circle_refutes : (f : Formula) (box : Boxed) (edges lent : List Edge) (settled : Settled) (circle : List ℕ) → AllByRecursion (IsNarrow (length box.bounds)) (root_facts f box) → AllByRecursion IsSized (root_facts f box) → length box.bounds < 2 ^ 21
-    → Settles (length box.bounds + 1) lent settled → settled ≡ Circle circle → lent ≡ edges → edges ≡ edges_in (root_facts f box) → (combines (entries_of circle) (root_facts f box) ≡ true) × (length circle ≤ length box.bounds + 1)
+pub circle_refutes : (f : Formula) (box : Boxed) (edges lent : List Edge) (settled : Settled) (circle : List ℕ)
+    → AllByRecursion (IsNarrow (length box.bounds)) (root_facts f box) → AllByRecursion IsSized (root_facts f box) → length box.bounds < 2 ^ 21
+    → Settles (length box.bounds + 1) lent settled → settled ≡ Circle circle → lent ≡ edges → edges ≡ edges_in (root_facts f box)
+    → (combines (entries_of circle) (root_facts f box) ≡ true) × (length circle ≤ length box.bounds + 1)
 circle_refutes f box edges lent settled circle narrow sized few settles is lent_is edges_are =
-    let here : Settles (length box.bounds + 1) (edges_in (root_facts f box)) (Circle circle) = subst (λ es. Settles (length box.bounds + 1) es (Circle circle)) (lent_is ∙ edges_are) (subst (Settles (length box.bounds + 1) lent) is settles) in
+    let here : Settles (length box.bounds + 1) (edges_in (root_facts f box)) (Circle circle) =
+    subst (λ es. Settles (length box.bounds + 1) es (Circle circle)) (lent_is ∙ edges_are) (subst (Settles (length box.bounds + 1) lent) is settles)
+    in
     (circle_combines (length box.bounds) (root_facts f box) circle narrow sized here.0 (omega (arith, here.1)), here.1)

@@ -33,15 +33,18 @@ bounds_narrow vars x (b ∷ bounds) h = ((refl, omega arith), ((refl, omega arit
 
 abbrev IsSure : Formula → Type 0
 IsSure f =
-    are_differences f ≡ true → ((vars : ℕ) → width f ≤ vars → AllByRecursion (IsNarrow vars) (facts_of f)) × ((v : Assignment) → all_hold v (facts_of f) ≡ true → holds_at v f ≡ true)
+    are_differences f ≡ true → ((vars : ℕ) → width f ≤ vars → AllByRecursion (IsNarrow vars) (facts_of f)) × ((v : Assignment)
+    → all_hold v (facts_of f) ≡ true → holds_at v f ≡ true)
 
-narrow_each : (fs : List Formula) → AllByRecursion IsSure fs → every (map are_differences fs) ≡ true → (vars : ℕ) → greatest (map width fs) ≤ vars → AllByRecursion (IsNarrow vars) (flat_map facts_of fs)
+narrow_each : (fs : List Formula) → AllByRecursion IsSure fs → every (map are_differences fs) ≡ true → (vars : ℕ) → greatest (map width fs) ≤ vars
+    → AllByRecursion (IsNarrow vars) (flat_map facts_of fs)
 narrow_each [] each h vars w = tt
 narrow_each (f ∷ fs) each h vars w =
     let b = both_true (are_differences f) (every (map are_differences fs)) h in
     all_append (IsNarrow vars) (facts_of f) (flat_map facts_of fs) ((each.0 b.0).0 vars (omega arith)) (narrow_each fs each.1 b.1 vars (omega arith))
 
-hold_each : (fs : List Formula) → AllByRecursion IsSure fs → every (map are_differences fs) ≡ true → (v : Assignment) → all_hold v (flat_map facts_of fs) ≡ true → every (map (holds_at v) fs) ≡ true
+hold_each : (fs : List Formula) → AllByRecursion IsSure fs → every (map are_differences fs) ≡ true → (v : Assignment)
+    → all_hold v (flat_map facts_of fs) ≡ true → every (map (holds_at v) fs) ≡ true
 hold_each [] each h v k = refl
 hold_each (f ∷ fs) each h v k =
     let b = both_true (are_differences f) (every (map are_differences fs)) h in

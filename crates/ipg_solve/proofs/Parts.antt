@@ -1,5 +1,6 @@
 -- The parts of a box: their facts, their spans and their points.
-use Rattle.std.proofs.Common.{◌≡◌, ℕ, zero, suc, ◌+◌, ◌*◌, ◌<◌, ◌≤◌, inl, inr, true, false, cond, ℤ, pos, ◌+ℤ◌, ◌-ℤ◌, List, [], ◌∷◌, ◌++◌, length, set, drop, refl, sym, ◌∙◌, ap, subst, arith, length-append, append_assoc}
+use Rattle.std.proofs.Common.{◌≡◌, ℕ, zero, suc, ◌+◌, ◌*◌, ◌<◌, ◌≤◌, inl, inr, true, false, cond, ℤ, pos, ◌+ℤ◌, ◌-ℤ◌, List, [], ◌∷◌, ◌++◌, length}
+use Rattle.std.proofs.Common.{set, drop, refl, sym, ◌∙◌, ap, subst, arith, length-append, append_assoc}
 use Rattle.std.specs.Prelude.{Some, slice_get, ◌≤ℤ◌, ◌<ℤ◌}
 use Rattle.std.specs.Int.RustNames.{unsigned_abs}
 use Rattle.std.proofs.lemmas.Int.{ints}
@@ -17,11 +18,13 @@ use Rattle.ipg_solve.specs.Cuts.{start_spans, fact_of_cut, side_of, above, lower
 use Rattle.ipg_solve.proofs.Closers.{get_append, get_behind}
 
 -- what holds of each span, and of the one that is put in, holds of each afterwards
-set_each : (P : ℕ → Span → Type 0) (spans : List Span) (var : ℕ) (side : Span) → ((x : ℕ) → x < length spans → P x (span_at spans x)) → P var side → (x : ℕ) → x < length (set spans var side) → P x (span_at (set spans var side) x)
+set_each : (P : ℕ → Span → Type 0) (spans : List Span) (var : ℕ) (side : Span) → ((x : ℕ) → x < length spans → P x (span_at spans x)) → P var side
+    → (x : ℕ) → x < length (set spans var side) → P x (span_at (set spans var side) x)
 set_each P spans var side each here x within =
     let n = length-set spans var side in
     elim (cases_eq x var) [
-      | inl same ↦ subst (λ k. P k (span_at (set spans var side) k)) (sym same) (subst (P var) (sym (get_or-set_same spans var side no_span (omega (arith, n)))) here)
+      | inl same ↦ subst (λ k. P k (span_at (set spans var side) k)) (sym same)
+          (subst (P var) (sym (get_or-set_same spans var side no_span (omega (arith, n)))) here)
       | inr other ↦ subst (P x) (sym (get_or-set_other spans var x side no_span other)) (each x (omega (arith, n)))
     ]
 
@@ -44,14 +47,26 @@ root_stays root (cut ∷ cuts) =
 abbrev pub Stands : List Fact → ℕ → Span → Type 0
 Stands facts x span = (slice_get facts span.low_at ≡ Some (at_least x span.low)) × (slice_get facts span.high_at ≡ Some (at_most x span.high))
 
-side_stands : (facts : List Fact) (n : ℕ) (cut : Cut) → n ≡ length facts → Stands facts cut.var cut.old → Stands (facts ++ fact_of_cut cut ∷ []) cut.var (side_of n cut)
+side_stands : (facts : List Fact) (n : ℕ) (cut : Cut) → n ≡ length facts → Stands facts cut.var cut.old
+    → Stands (facts ++ fact_of_cut cut ∷ []) cut.var (side_of n cut)
 side_stands facts n cut e old =
-    elim cut.below as (λ b. Stands (facts ++ cond b (at_most cut.var cut.at) (at_least cut.var (cut.at +ℤ pos 1)) ∷ []) cut.var (cond b (record { low = cut.old.low; low_at = cut.old.low_at; high = cut.at; high_at = n }) (record { low = cut.at +ℤ pos 1; low_at = n; high = cut.old.high; high_at = cut.old.high_at }))) [
-      | true ↦ (get_append facts _ _ _ old.0, subst (λ k. slice_get (facts ++ at_most cut.var cut.at ∷ []) k ≡ Some (at_most cut.var cut.at)) (sym e) (get_behind facts [] (at_most cut.var cut.at)))
-      | false ↦ (subst (λ k. slice_get (facts ++ at_least cut.var (cut.at +ℤ pos 1) ∷ []) k ≡ Some (at_least cut.var (cut.at +ℤ pos 1))) (sym e) (get_behind facts [] (at_least cut.var (cut.at +ℤ pos 1))), get_append facts _ _ _ old.1)
+    elim cut.below as (λ b. Stands (facts ++ cond b (at_most cut.var cut.at) (at_least cut.var (cut.at +ℤ pos 1)) ∷ []) cut.var
+    (cond b (record { low = cut.old.low; low_at = cut.old.low_at; high = cut.at; high_at = n })
+    (record { low = cut.at +ℤ pos 1; low_at = n; high = cut.old.high; high_at = cut.old.high_at }))) [
+      | true ↦ (
+        get_append facts _ _ _ old.0,
+        subst (λ k. slice_get (facts ++ at_most cut.var cut.at ∷ []) k ≡ Some (at_most cut.var cut.at)) (sym e)
+            (get_behind facts [] (at_most cut.var cut.at)),
+      )
+      | false ↦ (
+        subst (λ k. slice_get (facts ++ at_least cut.var (cut.at +ℤ pos 1) ∷ []) k ≡ Some (at_least cut.var (cut.at +ℤ pos 1))) (sym e)
+            (get_behind facts [] (at_least cut.var (cut.at +ℤ pos 1))),
+        get_append facts _ _ _ old.1,
+      )
     ]
 
-pub spans_hold : (first : ℕ) (root : List Fact) (start : List Span) (cuts : List Cut) → first ≡ length root → AreSpans root start → AreCuts first start cuts → AreSpans (facts_after root cuts) (spans_after first start cuts)
+pub spans_hold : (first : ℕ) (root : List Fact) (start : List Span) (cuts : List Cut) → first ≡ length root → AreSpans root start
+    → AreCuts first start cuts → AreSpans (facts_after root cuts) (spans_after first start cuts)
 spans_hold first root start [] e are cut = are
 spans_hold first root start (cut ∷ cuts) e are h =
     let facts = facts_after root cuts in
@@ -59,14 +74,16 @@ spans_hold first root start (cut ∷ cuts) e are h =
     let held : AreSpans facts spans = spans_hold first root start cuts e are h.4 in
     set_each (Stands (facts ++ fact_of_cut cut ∷ [])) spans cut.var (side_of (first + length cuts) cut)
     (λ x within. (get_append facts _ _ _ (held x within).0, get_append facts _ _ _ (held x within).1))
-    (side_stands facts (first + length cuts) cut (omega (arith, facts_length root cuts)) (subst (Stands facts cut.var) h.1 (held cut.var (omega (arith, length_after first start cuts)))))
+    (side_stands facts (first + length cuts) cut (omega (arith, facts_length root cuts))
+    (subst (Stands facts cut.var) h.1 (held cut.var (omega (arith, length_after first start cuts)))))
 
 abbrev IsFull : ℕ → Span → Type 0
 IsFull x span = span.low ≤ℤ span.high
 
 side_full : (n : ℕ) (cut : Cut) → cut.old.low ≤ℤ cut.at → cut.at <ℤ cut.old.high → IsFull cut.var (side_of n cut)
 side_full n cut low high =
-    elim cut.below as (λ b. IsFull cut.var (cond b (record { low = cut.old.low; low_at = cut.old.low_at; high = cut.at; high_at = n }) (record { low = cut.at +ℤ pos 1; low_at = n; high = cut.old.high; high_at = cut.old.high_at }))) [
+    elim cut.below as (λ b. IsFull cut.var (cond b (record { low = cut.old.low; low_at = cut.old.low_at; high = cut.at; high_at = n })
+    (record { low = cut.at +ℤ pos 1; low_at = n; high = cut.old.high; high_at = cut.old.high_at }))) [
       | true ↦ low
       | false ↦ omega (arith, ints)
     ]
@@ -74,20 +91,24 @@ side_full n cut low high =
 pub full_after : (first : ℕ) (start : List Span) (cuts : List Cut) → AreFull start → AreCuts first start cuts → AreFull (spans_after first start cuts)
 full_after first start [] full h = full
 full_after first start (cut ∷ cuts) full h =
-    set_each IsFull (spans_after first start cuts) cut.var (side_of (first + length cuts) cut) (full_after first start cuts full h.4) (side_full (first + length cuts) cut h.2 h.3)
+    set_each IsFull (spans_after first start cuts) cut.var (side_of (first + length cuts) cut) (full_after first start cuts full h.4)
+    (side_full (first + length cuts) cut h.2 h.3)
 
 -- the span lies in the one that it began as
 abbrev pub LiesWithin : List Span → ℕ → Span → Type 0
 LiesWithin start x span = ((span_at start x).low ≤ℤ span.low) × (span.high ≤ℤ (span_at start x).high)
 
-side_within : (start : List Span) (n : ℕ) (cut : Cut) → cut.old.low ≤ℤ cut.at → cut.at <ℤ cut.old.high → LiesWithin start cut.var cut.old → LiesWithin start cut.var (side_of n cut)
+side_within : (start : List Span) (n : ℕ) (cut : Cut) → cut.old.low ≤ℤ cut.at → cut.at <ℤ cut.old.high → LiesWithin start cut.var cut.old
+    → LiesWithin start cut.var (side_of n cut)
 side_within start n cut low high old =
-    elim cut.below as (λ b. LiesWithin start cut.var (cond b (record { low = cut.old.low; low_at = cut.old.low_at; high = cut.at; high_at = n }) (record { low = cut.at +ℤ pos 1; low_at = n; high = cut.old.high; high_at = cut.old.high_at }))) [
+    elim cut.below as (λ b. LiesWithin start cut.var (cond b (record { low = cut.old.low; low_at = cut.old.low_at; high = cut.at; high_at = n })
+    (record { low = cut.at +ℤ pos 1; low_at = n; high = cut.old.high; high_at = cut.old.high_at }))) [
       | true ↦ (old.0, omega (arith, ints, old.1))
       | false ↦ (omega (arith, ints, old.0), old.1)
     ]
 
-pub within_after : (first : ℕ) (start : List Span) (cuts : List Cut) → AreCuts first start cuts → (x : ℕ) → x < length (spans_after first start cuts) → LiesWithin start x (span_at (spans_after first start cuts) x)
+pub within_after : (first : ℕ) (start : List Span) (cuts : List Cut) → AreCuts first start cuts → (x : ℕ) → x < length (spans_after first start cuts)
+    → LiesWithin start x (span_at (spans_after first start cuts) x)
 within_after first start [] h = λ x within. (omega (arith, ints), omega (arith, ints))
 within_after first start (cut ∷ cuts) h =
     let spans = spans_after first start cuts in
@@ -100,15 +121,18 @@ pub points_some : (spans : List Span) → 1 ≤ points spans
 points_some [] = omega arith
 points_some (span ∷ spans) = omega (arith, points_some spans)
 
-points_set : (spans : List Span) (x : ℕ) (a b : Span) → x < length spans → (width_of a + 1) + (width_of b + 1) ≡ width_of (span_at spans x) + 1 → points (set spans x a) + points (set spans x b) ≡ points spans
+points_set : (spans : List Span) (x : ℕ) (a b : Span) → x < length spans → (width_of a + 1) + (width_of b + 1) ≡ width_of (span_at spans x) + 1
+    → points (set spans x a) + points (set spans x b) ≡ points spans
 points_set [] x a b within e = absurd (omega arith)
 points_set (span ∷ spans) zero a b within e = omega (arith, ap (λ n. n * points spans) e)
 points_set (span ∷ spans) (suc x) a b within e = omega (arith, ap (λ n. (width_of span + 1) * n) (points_set spans x a b (omega arith) e))
 
-halves_width : (low high at : ℤ) → low ≤ℤ at → at <ℤ high → (unsigned_abs (at -ℤ low) + 1) + (unsigned_abs (high -ℤ (at +ℤ pos 1)) + 1) ≡ unsigned_abs (high -ℤ low) + 1
+halves_width : (low high at : ℤ) → low ≤ℤ at → at <ℤ high
+    → (unsigned_abs (at -ℤ low) + 1) + (unsigned_abs (high -ℤ (at +ℤ pos 1)) + 1) ≡ unsigned_abs (high -ℤ low) + 1
 halves_width low high at a b = omega (arith, ints)
 
-pub cut_falls : (first : ℕ) (start : List Span) (cuts : List Cut) (x : ℕ) (at : ℤ) → x < length start → (span_at (spans_after first start cuts) x).low ≤ℤ at → at <ℤ (span_at (spans_after first start cuts) x).high
+pub cut_falls : (first : ℕ) (start : List Span) (cuts : List Cut) (x : ℕ) (at : ℤ) → x < length start
+    → (span_at (spans_after first start cuts) x).low ≤ℤ at → at <ℤ (span_at (spans_after first start cuts) x).high
     → work first start (lower x at (span_at (spans_after first start cuts) x) ∷ cuts) < work first start cuts
 cut_falls first start cuts x at within low high =
     let spans = spans_after first start cuts in
@@ -172,17 +196,21 @@ start_holds f box x within =
     let is = start_at 0 box.bounds x b.0 b.1 in
     let stand = bounds_at 0 box.bounds x b.0 b.1 in
     let zero_x : 0 + x ≡ x = omega arith in
-    let low : slice_get (root_facts f box) (x + x) ≡ Some (at_least x b.0.0) = get_append (bound_facts 0 box.bounds) (facts_of f) _ _ (stand.0 ∙ ap (λ n. Some (at_least n b.0.0)) zero_x) in
-    let high : slice_get (root_facts f box) (suc (x + x)) ≡ Some (at_most x b.0.1) = get_append (bound_facts 0 box.bounds) (facts_of f) _ _ (stand.1 ∙ ap (λ n. Some (at_most n b.0.1)) zero_x) in
+    let low : slice_get (root_facts f box) (x + x) ≡ Some (at_least x b.0.0) = get_append (bound_facts 0 box.bounds) (facts_of f) _ _
+    (stand.0 ∙ ap (λ n. Some (at_least n b.0.0)) zero_x) in
+    let high : slice_get (root_facts f box) (suc (x + x)) ≡ Some (at_most x b.0.1) = get_append (bound_facts 0 box.bounds) (facts_of f) _ _
+    (stand.1 ∙ ap (λ n. Some (at_most n b.0.1)) zero_x) in
     subst (Stands (root_facts f box) x) (sym is) (
       ap (slice_get (root_facts f box)) (omega arith) ∙ low,
       ap (slice_get (root_facts f box)) (omega arith) ∙ high,
     )
 
 -- the formula's facts stand behind the bounds
-pub formula_stands : (f : Formula) (box : Boxed) (cuts : List Cut) (n : ℕ) → n ≡ length box.bounds + length box.bounds → StandAt n (facts_of f) (facts_after (root_facts f box) cuts)
+pub formula_stands : (f : Formula) (box : Boxed) (cuts : List Cut) (n : ℕ) → n ≡ length box.bounds + length box.bounds
+    → StandAt n (facts_of f) (facts_after (root_facts f box) cuts)
 formula_stands f box cuts n e =
     let rest = root_stays (root_facts f box) cuts in (
       rest.0,
-      ap (drop n) (rest.1 ∙ append_assoc (bound_facts 0 box.bounds) (facts_of f) rest.0) ∙ drop_at (bound_facts 0 box.bounds) (facts_of f ++ rest.0) n (bounds_length 0 box.bounds ∙ sym e),
+      ap (drop n) (rest.1 ∙ append_assoc (bound_facts 0 box.bounds) (facts_of f) rest.0) ∙ drop_at (bound_facts 0 box.bounds) (facts_of f ++ rest.0) n
+          (bounds_length 0 box.bounds ∙ sym e),
     )

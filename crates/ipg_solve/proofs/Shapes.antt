@@ -1,5 +1,6 @@
 -- A difference by its shape: how often it takes each variable, and what it comes to.
-use Rattle.std.proofs.Common.{◌≡◌, ℕ, ◌+◌, ◌<◌, ◌≤◌, max, inl, inr, true, false, ◌&&◌, cond, nat_eq, ℤ, pos, negsuc, ◌+ℤ◌, ◌-ℤ◌, List, [], ◌∷◌, refl, sym, ◌∙◌, ap, subst, arith}
+use Rattle.std.proofs.Common.{◌≡◌, ℕ, ◌+◌, ◌<◌, ◌≤◌, max, inl, inr, true, false, ◌&&◌, cond, nat_eq, ℤ, pos, negsuc, ◌+ℤ◌, ◌-ℤ◌, List, [], ◌∷◌, refl}
+use Rattle.std.proofs.Common.{sym, ◌∙◌, ap, subst, arith}
 use Rattle.std.specs.Ordering.{int_eq}
 use Rattle.std.proofs.lemmas.Int.{ints}
 use Rattle.std.proofs.lemmas.Bool.{or_cases}
@@ -37,10 +38,12 @@ by_shape P s (t ∷ u ∷ []) h =
     elim (or_cases (is_one t.1 && is_minus_one u.1) (is_minus_one t.1 && is_one u.1) h) [
       | inl a ↦
           let b = both_true (is_one t.1) (is_minus_one u.1) a in
-          subst (λ z. P ((t.0, z) ∷ u ∷ [])) (sym (one_is t.1 b.0)) (subst (λ z. P ((t.0, pos 1) ∷ (u.0, z) ∷ [])) (sym (minus_one_is u.1 b.1)) (s.plus_minus t.0 u.0))
+          subst (λ z. P ((t.0, z) ∷ u ∷ [])) (sym (one_is t.1 b.0)) (subst (λ z. P ((t.0, pos 1) ∷ (u.0, z) ∷ [])) (sym (minus_one_is u.1 b.1))
+          (s.plus_minus t.0 u.0))
       | inr a ↦
           let b = both_true (is_minus_one t.1) (is_one u.1) a in
-          subst (λ z. P ((t.0, z) ∷ u ∷ [])) (sym (minus_one_is t.1 b.0)) (subst (λ z. P ((t.0, negsuc 0) ∷ (u.0, z) ∷ [])) (sym (one_is u.1 b.1)) (s.minus_plus t.0 u.0))
+          subst (λ z. P ((t.0, z) ∷ u ∷ [])) (sym (minus_one_is t.1 b.0)) (subst (λ z. P ((t.0, negsuc 0) ∷ (u.0, z) ∷ [])) (sym (one_is u.1 b.1))
+          (s.minus_plus t.0 u.0))
     ]
 by_shape P s (t ∷ u ∷ v ∷ terms) h = absurd (cc)
 
@@ -81,20 +84,28 @@ abbrev pub AreLevels : ℕ → List ℤ → Assignment → Type 0
 AreLevels vars levels values = (x : ℕ) → x < vars → values x ≡ level_at levels (x + 1) -ℤ level_at levels 0
 
 abbrev IsValued : ℕ → List ℤ → Assignment → List (ℕ × ℤ) → Type 0
-IsValued vars levels values terms = terms_width terms ≤ vars → sum_at values terms +ℤ level_at levels (node_of (negsuc 0) terms) ≡ level_at levels (node_of (pos 1) terms)
+IsValued vars levels values terms = terms_width terms ≤ vars
+    → sum_at values terms +ℤ level_at levels (node_of (negsuc 0) terms) ≡ level_at levels (node_of (pos 1) terms)
 
 -- a difference comes to the difference of the levels
-pub valued : (vars : ℕ) (levels : List ℤ) (values : Assignment) → AreLevels vars levels values → (terms : List (ℕ × ℤ)) → is_difference terms ≡ true → IsValued vars levels values terms
+pub valued : (vars : ℕ) (levels : List ℤ) (values : Assignment) → AreLevels vars levels values → (terms : List (ℕ × ℤ)) → is_difference terms ≡ true
+    → IsValued vars levels values terms
 valued vars levels values are =
     by_shape (IsValued vars levels values) (record {
       none = λ h. same_in _ _ (omega (arith, ints));
       plus = λ x h. same_in _ _ (omega (arith, ints, are x (omega arith), product_is (pos 1) (values x)));
       minus = λ x h. same_in _ _ (omega (arith, ints, are x (omega arith), product_is (negsuc 0) (values x)));
-      plus_minus = λ x y h. same_in _ _ (omega (arith, ints, are x (omega arith), are y (omega arith), product_is (pos 1) (values x), product_is (negsuc 0) (values y)));
-      minus_plus = λ x y h. same_in _ _ (omega (arith, ints, are x (omega arith), are y (omega arith), product_is (negsuc 0) (values x), product_is (pos 1) (values y)));
+      plus_minus = λ x y h. same_in _ _
+          (omega (arith, ints, are x (omega arith), are y (omega arith), product_is (pos 1) (values x), product_is (negsuc 0) (values y)));
+      minus_plus = λ x y h. same_in _ _
+          (omega (arith, ints, are x (omega arith), are y (omega arith), product_is (negsuc 0) (values x), product_is (pos 1) (values y)));
     })
 
 pub node_below : (often : ℤ) (terms : List (ℕ × ℤ)) → node_of often terms ≤ terms_width terms
 node_below often [] = omega arith
 node_below often (t ∷ terms) =
-    elim (int_eq t.1 often) as (λ b. cond b (t.0 + 1) (node_of often terms) ≤ max (t.0 + 1) (terms_width terms)) [ true ↦ omega arith | false ↦ omega (arith, node_below often terms) ]
+    elim (int_eq t.1 often) as (λ b. cond b (t.0 + 1) (node_of often terms) ≤ max (t.0 + 1) (terms_width terms)) [
+      | true ↦ omega arith
+      | false ↦
+          omega (arith, node_below often terms)
+    ]

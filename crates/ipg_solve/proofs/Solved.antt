@@ -1,5 +1,6 @@
 -- A point that the spans don't rule out solves the formula.
-use Rattle.std.proofs.Common.{◌≡◌, ℕ, zero, suc, ◌+◌, ◌<◌, ◌≤◌, Bool, true, false, ◌&&◌, ◌||◌, not, ℤ, pos, negsuc, ◌+ℤ◌, ◌*ℤ◌, List, [], ◌∷◌, map, length, refl, sym, ◌∙◌, ap, subst, arith}
+use Rattle.std.proofs.Common.{◌≡◌, ℕ, zero, suc, ◌+◌, ◌<◌, ◌≤◌, Bool, true, false, ◌&&◌, ◌||◌, not, ℤ, pos, negsuc, ◌+ℤ◌, ◌*ℤ◌, List, [], ◌∷◌, map}
+use Rattle.std.proofs.Common.{length, refl, sym, ◌∙◌, ap, subst, arith}
 use Rattle.std.specs.Prelude.{int_le, int_lt, ◌≤ℤ◌}
 use Rattle.std.proofs.lemmas.Int.{ints}
 use Rattle.std.proofs.lemmas.List.{length-map}
@@ -32,7 +33,8 @@ point_end : (span : Span) (c : ℤ) → span.low ≡ span.high → end_of span c
 point_end span (pos c) e = refl
 point_end span (negsuc c) e = sym e
 
-point_least : (spans : List Span) (terms : List (ℕ × ℤ)) → ArePoints spans → terms_width terms ≤ length spans → least spans terms ≡ sum_at (assigned (lows spans)) terms
+point_least : (spans : List Span) (terms : List (ℕ × ℤ)) → ArePoints spans → terms_width terms ≤ length spans
+    → least spans terms ≡ sum_at (assigned (lows spans)) terms
 point_least spans [] points h = refl
 point_least spans (t ∷ terms) points h =
     let within : t.0 < length spans = omega arith in
@@ -50,7 +52,8 @@ not_above z =
 abbrev IsJudged : List Span → Formula → Type 0
 IsJudged spans f = width f ≤ length spans → rules_out spans f ≡ not (holds_at (assigned (lows spans)) f)
 
-judged_some : (spans : List Span) (fs : List Formula) → AllByRecursion (IsJudged spans) fs → greatest (map width fs) ≤ length spans → some (map (rules_out spans) fs) ≡ not (every (map (holds_at (assigned (lows spans))) fs))
+judged_some : (spans : List Span) (fs : List Formula) → AllByRecursion (IsJudged spans) fs → greatest (map width fs) ≤ length spans
+    → some (map (rules_out spans) fs) ≡ not (every (map (holds_at (assigned (lows spans))) fs))
 judged_some spans [] each h = refl
 judged_some spans (f ∷ fs) each h =
     let v = assigned (lows spans) in
@@ -58,7 +61,8 @@ judged_some spans (f ∷ fs) each h =
     ∙ ap (λ b. not (holds_at v f) || b) (judged_some spans fs each.1 (omega arith))
     ∙ elim (holds_at v f) as (λ b. (not b || not (every (map (holds_at v) fs))) ≡ not (b && every (map (holds_at v) fs))) [ true ↦ refl | false ↦ refl ]
 
-judged_every : (spans : List Span) (fs : List Formula) → AllByRecursion (IsJudged spans) fs → greatest (map width fs) ≤ length spans → every (map (rules_out spans) fs) ≡ not (some (map (holds_at (assigned (lows spans))) fs))
+judged_every : (spans : List Span) (fs : List Formula) → AllByRecursion (IsJudged spans) fs → greatest (map width fs) ≤ length spans
+    → every (map (rules_out spans) fs) ≡ not (some (map (holds_at (assigned (lows spans))) fs))
 judged_every spans [] each h = refl
 judged_every spans (f ∷ fs) each h =
     let v = assigned (lows spans) in
@@ -92,26 +96,31 @@ not_false : (a b : Bool) → a ≡ not b → a ≡ false → b ≡ true
 not_false a true e h = refl
 not_false a false e h = absurd (cc)
 
-pub halved_length : (f : Formula) (box : Boxed) (first : ℕ) (spans : List Span) (cuts : List Cut) (steps : List Step) → Halved f box first spans cuts steps → length spans ≡ length box.bounds
+pub halved_length : (f : Formula) (box : Boxed) (first : ℕ) (spans : List Span) (cuts : List Cut) (steps : List Step)
+    → Halved f box first spans cuts steps → length spans ≡ length box.bounds
 halved_length f box first spans cuts steps h = ap length h.spans_are ∙ length_after first (start_spans 0 box.bounds) cuts ∙ start_length 0 box.bounds
 
-pub halved_full : (f : Formula) (box : Boxed) (first : ℕ) (spans : List Span) (cuts : List Cut) (steps : List Step) → Halved f box first spans cuts steps → AreFull (start_spans 0 box.bounds) → AreFull spans
+pub halved_full : (f : Formula) (box : Boxed) (first : ℕ) (spans : List Span) (cuts : List Cut) (steps : List Step)
+    → Halved f box first spans cuts steps → AreFull (start_spans 0 box.bounds) → AreFull spans
 halved_full f box first spans cuts steps h full = subst AreFull (sym h.spans_are) (full_after first (start_spans 0 box.bounds) cuts full h.cuts_are)
 
-lies_in : (f : Formula) (box : Boxed) (first : ℕ) (spans : List Span) (cuts : List Cut) (steps : List Step) → Halved f box first spans cuts steps → ArePoints spans → LiesIn (assigned (lows spans)) box
+lies_in : (f : Formula) (box : Boxed) (first : ℕ) (spans : List Span) (cuts : List Cut) (steps : List Step) → Halved f box first spans cuts steps
+    → ArePoints spans → LiesIn (assigned (lows spans)) box
 lies_in f box first spans cuts steps h points x low high at =
     let n = halved_length f box first spans cuts steps h in
     let inside : x < length spans = omega (arith, n, slice_get_within box.bounds x (low, high) at) in
     let start = start_spans 0 box.bounds in
     let within : LiesWithin start x (span_at spans x) =
-    subst (λ ss. LiesWithin start x (span_at ss x)) (sym h.spans_are) (within_after first start cuts h.cuts_are x (omega (arith, length_after first start cuts, start_length 0 box.bounds))) in
+    subst (λ ss. LiesWithin start x (span_at ss x)) (sym h.spans_are)
+    (within_after first start cuts h.cuts_are x (omega (arith, length_after first start cuts, start_length 0 box.bounds))) in
     let is : span_at start x ≡ start_span (0 + x) (low, high) = start_at 0 box.bounds x (low, high) at in
     let value = assigned_low spans x inside in (
       subst (λ z. low ≤ℤ z) (sym value) (subst (λ s. s.low ≤ℤ (span_at spans x).low) is within.0),
       subst (λ z. z ≤ℤ high) (sym (value ∙ points x inside)) (subst (λ s. (span_at spans x).high ≤ℤ s.high) is within.1),
     )
 
-pub point_solves : (f : Formula) (box : Boxed) (first : ℕ) (spans : List Span) (cuts : List Cut) (steps : List Step) → Halved f box first spans cuts steps → ArePoints spans → width f ≤ length box.bounds → rules_out spans f ≡ false
+pub point_solves : (f : Formula) (box : Boxed) (first : ℕ) (spans : List Span) (cuts : List Cut) (steps : List Step)
+    → Halved f box first spans cuts steps → ArePoints spans → width f ≤ length box.bounds → rules_out spans f ≡ false
     → Solves f box (lows spans)
 point_solves f box first spans cuts steps h points valued left =
     let n = halved_length f box first spans cuts steps h in (

@@ -18,19 +18,24 @@ use Rattle.ipg_solve.proofs.Backing.{reverse_push}
 use Rattle.ipg_solve.proofs.Parts.{spans_hold, start_holds, formula_stands, facts_length, length_after, start_length, cut_falls, work_some}
 
 -- before the first turn
-pub begun : (f : Formula) (box : Boxed) (first : ℕ) (spans : List Span) (cuts : List Cut) (steps : List Step) → first ≡ length (root_facts f box) → spans ≡ start_spans 0 box.bounds → cuts ≡ [] → steps ≡ [] → Halved f box first spans (reverse cuts) steps
+pub begun : (f : Formula) (box : Boxed) (first : ℕ) (spans : List Span) (cuts : List Cut) (steps : List Step) → first ≡ length (root_facts f box)
+    → spans ≡ start_spans 0 box.bounds → cuts ≡ [] → steps ≡ [] → Halved f box first spans (reverse cuts) steps
 begun f box first spans cuts steps e is none empty =
     subst (λ cs. Halved f box first spans (reverse cs) steps) (sym none)
     (record { first_is = e; spans_are = is; cuts_are = tt; leads = λ more. ap (λ s. refutes (length box.bounds) (s ++ more) (root_facts f box ∷ [])) empty })
 
 -- the part at hand is refuted, and those that wait are left
-closed_leads : (f : Formula) (box : Boxed) (first n : ℕ) (spans : List Span) (cuts : List Cut) (old new : List Step) → Halved f box first spans cuts old → n ≡ length cuts
-    → ClosesFormula spans (length box.bounds + length box.bounds) (first + n) f old new → Leads (length box.bounds) (root_facts f box) new (waiting (root_facts f box) cuts)
+closed_leads : (f : Formula) (box : Boxed) (first n : ℕ) (spans : List Span) (cuts : List Cut) (old new : List Step)
+    → Halved f box first spans cuts old → n ≡ length cuts
+    → ClosesFormula spans (length box.bounds + length box.bounds) (first + n) f old new
+    → Leads (length box.bounds) (root_facts f box) new (waiting (root_facts f box) cuts)
 closed_leads f box first n spans cuts old new h e closes more =
     let vars = length box.bounds in
     let root = root_facts f box in
     let hold : CloseAll vars closes.0 (facts_after root cuts ∷ []) =
-    closes.2 vars (facts_after root cuts) (subst (AreSpans (facts_after root cuts)) (sym h.spans_are) (spans_hold first root (start_spans 0 box.bounds) cuts h.first_is (start_holds f box) h.cuts_are))
+    closes.2 vars (facts_after root cuts)
+    (subst (AreSpans (facts_after root cuts)) (sym h.spans_are)
+    (spans_hold first root (start_spans 0 box.bounds) cuts h.first_is (start_holds f box) h.cuts_are))
     (formula_stands f box cuts (vars + vars) refl) (omega (arith, facts_length root cuts, h.first_is)) in
     ap (λ s. refutes vars (s ++ more) (root ∷ [])) closes.1
     ∙ ap (λ s. refutes vars s (root ∷ [])) (append_assoc old closes.0 more)
@@ -38,18 +43,28 @@ closed_leads f box first n spans cuts old new h e closes more =
     ∙ hold more (waiting root cuts)
 
 -- the part at hand was refuted, and the next one is taken
-pub back_turns : (f : Formula) (box : Boxed) (first n : ℕ) (spans next : List Span) (cuts rest : List Cut) (old new : List Step) → Halved f box first spans (reverse cuts) old → n ≡ length cuts
-    → ClosesFormula spans (length box.bounds + length box.bounds) (first + n) f old new → Backs first (start_spans 0 box.bounds) next (reverse cuts) (reverse rest) true → Turns f box first next cuts rest new More
+pub back_turns : (f : Formula) (box : Boxed) (first n : ℕ) (spans next : List Span) (cuts rest : List Cut) (old new : List Step)
+    → Halved f box first spans (reverse cuts) old → n ≡ length cuts
+    → ClosesFormula spans (length box.bounds + length box.bounds) (first + n) f old new
+    → Backs first (start_spans 0 box.bounds) next (reverse cuts) (reverse rest) true → Turns f box first next cuts rest new More
 back_turns f box first n spans next cuts rest old new h e closes backs =
     let root = root_facts f box in
     let leads = closed_leads f box first n spans (reverse cuts) old new h (e ∙ sym (length-reverse cuts)) closes in (
-      record { first_is = h.first_is; spans_are = backs.0; cuts_are = backs.1; leads = λ more. leads more ∙ ap (refutes (length box.bounds) more) (backs.2 root) },
+      record {
+        first_is = h.first_is;
+        spans_are = backs.0;
+        cuts_are = backs.1;
+        leads = λ more. leads more ∙ ap (refutes (length box.bounds) more)
+            (backs.2 root);
+      },
       omega (arith, backs.3, work_some (spans_after first (start_spans 0 box.bounds) (reverse cuts))),
     )
 
 -- every part was refuted
-pub refuted_turns : (f : Formula) (box : Boxed) (first n : ℕ) (spans next : List Span) (cuts rest : List Cut) (old new : List Step) → Halved f box first spans (reverse cuts) old → n ≡ length cuts
-    → ClosesFormula spans (length box.bounds + length box.bounds) (first + n) f old new → Backs first (start_spans 0 box.bounds) next (reverse cuts) (reverse rest) false → Turns f box first next cuts rest new Refuted
+pub refuted_turns : (f : Formula) (box : Boxed) (first n : ℕ) (spans next : List Span) (cuts rest : List Cut) (old new : List Step)
+    → Halved f box first spans (reverse cuts) old → n ≡ length cuts
+    → ClosesFormula spans (length box.bounds + length box.bounds) (first + n) f old new
+    → Backs first (start_spans 0 box.bounds) next (reverse cuts) (reverse rest) false → Turns f box first next cuts rest new Refuted
 refuted_turns f box first n spans next cuts rest old new h e closes backs =
     let root = root_facts f box in
     let vars = length box.bounds in
@@ -58,7 +73,8 @@ refuted_turns f box first n spans next cuts rest old new h e closes backs =
     ∙ ap (refutes vars []) (backs root)
 
 -- the part at hand was cut
-pub cut_turns : (f : Formula) (box : Boxed) (first x : ℕ) (spans next : List Span) (cuts more : List Cut) (old new : List Step) → Halved f box first spans (reverse cuts) old → x < length spans → IsCut first x spans next cuts more old new
+pub cut_turns : (f : Formula) (box : Boxed) (first x : ℕ) (spans next : List Span) (cuts more : List Cut) (old new : List Step)
+    → Halved f box first spans (reverse cuts) old → x < length spans → IsCut first x spans next cuts more old new
     → Turns f box first next cuts more new More
 cut_turns f box first x spans next cuts more old new h within cut =
     let root = root_facts f box in
@@ -75,7 +91,8 @@ cut_turns f box first x spans next cuts more old new h within cut =
     subst (λ cs. Halved f box first next cs new × (work first start cs < work first start (reverse cuts))) (sym turned) (
       record {
         first_is = h.first_is;
-        spans_are = cut.4 ∙ ap (λ n. set spans x (side_of (first + n) low)) (sym (length-reverse cuts)) ∙ ap (λ ss. set ss x (side_of (first + length (reverse cuts)) low)) h.spans_are;
+        spans_are = cut.4 ∙ ap (λ n. set spans x (side_of (first + n) low)) (sym (length-reverse cuts))
+            ∙ ap (λ ss. set ss x (side_of (first + length (reverse cuts)) low)) h.spans_are;
         cuts_are = (inside, same, cut.1, cut.2, h.cuts_are);
         leads = λ steps.
             ap (λ s. refutes vars (s ++ steps) (root ∷ [])) cut.5

@@ -1,5 +1,7 @@
 -- What decides a formula in the box of its own variables decides it in the box with more of them.
-use Rattle.std.proofs.Common.{◌≡◌, ℕ, zero, suc, ◌+◌, ◌-◌, ◌^◌, ◌<◌, ◌≤◌, max, Bool, true, false, cond, ◌&&◌, ◌||◌, nat_le, nat_lt, inl, inr, ℤ, pos, ◌+ℤ◌, ◌*ℤ◌, List, [], ◌∷◌, ◌++◌, map, length, take, drop, refl, sym, ◌∙◌, ap, subst, arith, length-append, length-drop, append_assoc, take-append-drop}
+use Rattle.std.proofs.Common.{◌≡◌, ℕ, zero, suc, ◌+◌, ◌-◌, ◌^◌, ◌<◌, ◌≤◌, max, Bool, true, false, cond, ◌&&◌, ◌||◌, nat_le, nat_lt, inl, inr, ℤ, pos}
+use Rattle.std.proofs.Common.{◌+ℤ◌, ◌*ℤ◌, List, [], ◌∷◌, ◌++◌, map, length, take, drop, refl, sym, ◌∙◌, ap, subst, arith, length-append, length-drop}
+use Rattle.std.proofs.Common.{append_assoc, take-append-drop}
 use Rattle.std.specs.Prelude.{Option, None, Some, slice_get, option_and_then, int_le, ◌≤ℤ◌}
 use Rattle.std.specs.List.{AllByRecursion}
 use Rattle.std.specs.Option.{option_map}
@@ -40,15 +42,20 @@ IsSame f = (n : ℕ) (u v : Assignment) → width f ≤ n → Agree n u v → ho
 
 sums_same : (n : ℕ) (u v : Assignment) (terms : List (ℕ × ℤ)) → terms_width terms ≤ n → Agree n u v → sum_at u terms ≡ sum_at v terms
 sums_same n u v [] w agree = refl
-sums_same n u v (t ∷ terms) w agree = ap (λ z. (t.1 *ℤ z) +ℤ sum_at u terms) (agree t.0 (omega arith)) ∙ ap (λ z. (t.1 *ℤ v t.0) +ℤ z) (sums_same n u v terms (omega arith) agree)
+sums_same n u v (t ∷ terms) w agree = ap (λ z. (t.1 *ℤ z) +ℤ sum_at u terms) (agree t.0 (omega arith))
+    ∙ ap (λ z. (t.1 *ℤ v t.0) +ℤ z) (sums_same n u v terms (omega arith) agree)
 
-every_same : (fs : List Formula) → AllByRecursion IsSame fs → (n : ℕ) (u v : Assignment) → greatest (map width fs) ≤ n → Agree n u v → every (map (holds_at u) fs) ≡ every (map (holds_at v) fs)
+every_same : (fs : List Formula) → AllByRecursion IsSame fs → (n : ℕ) (u v : Assignment) → greatest (map width fs) ≤ n → Agree n u v
+    → every (map (holds_at u) fs) ≡ every (map (holds_at v) fs)
 every_same [] each n u v w agree = refl
-every_same (f ∷ fs) each n u v w agree = ap (λ b. b && every (map (holds_at u) fs)) (each.0 n u v (omega arith) agree) ∙ ap (λ b. holds_at v f && b) (every_same fs each.1 n u v (omega arith) agree)
+every_same (f ∷ fs) each n u v w agree = ap (λ b. b && every (map (holds_at u) fs)) (each.0 n u v (omega arith) agree)
+    ∙ ap (λ b. holds_at v f && b) (every_same fs each.1 n u v (omega arith) agree)
 
-some_same : (fs : List Formula) → AllByRecursion IsSame fs → (n : ℕ) (u v : Assignment) → greatest (map width fs) ≤ n → Agree n u v → some (map (holds_at u) fs) ≡ some (map (holds_at v) fs)
+some_same : (fs : List Formula) → AllByRecursion IsSame fs → (n : ℕ) (u v : Assignment) → greatest (map width fs) ≤ n → Agree n u v
+    → some (map (holds_at u) fs) ≡ some (map (holds_at v) fs)
 some_same [] each n u v w agree = refl
-some_same (f ∷ fs) each n u v w agree = ap (λ b. b || some (map (holds_at u) fs)) (each.0 n u v (omega arith) agree) ∙ ap (λ b. holds_at v f || b) (some_same fs each.1 n u v (omega arith) agree)
+some_same (f ∷ fs) each n u v w agree = ap (λ b. b || some (map (holds_at u) fs)) (each.0 n u v (omega arith) agree)
+    ∙ ap (λ b. holds_at v f || b) (some_same fs each.1 n u v (omega arith) agree)
 
 on_atom : (form : Form) → IsSame (formula.Atom form)
 on_atom form n u v w agree =
@@ -57,10 +64,12 @@ on_atom form n u v w agree =
     ∙ sym (folds-Atom Bool (holds_step v) form)
 
 on_all : (fs : List Formula) → AllByRecursion IsSame fs → IsSame (formula.All fs)
-on_all fs each n u v w agree = folds-All Bool (holds_step u) fs ∙ every_same fs each n u v (subst (λ k. k ≤ n) (folds-All ℕ width_step fs) w) agree ∙ sym (folds-All Bool (holds_step v) fs)
+on_all fs each n u v w agree = folds-All Bool (holds_step u) fs ∙ every_same fs each n u v (subst (λ k. k ≤ n) (folds-All ℕ width_step fs) w) agree
+    ∙ sym (folds-All Bool (holds_step v) fs)
 
 on_any : (fs : List Formula) → AllByRecursion IsSame fs → IsSame (formula.Any fs)
-on_any fs each n u v w agree = folds-Any Bool (holds_step u) fs ∙ some_same fs each n u v (subst (λ k. k ≤ n) (folds-Any ℕ width_step fs) w) agree ∙ sym (folds-Any Bool (holds_step v) fs)
+on_any fs each n u v w agree = folds-Any Bool (holds_step u) fs ∙ some_same fs each n u v (subst (λ k. k ≤ n) (folds-Any ℕ width_step fs) w) agree
+    ∙ sym (folds-Any Bool (holds_step v) fs)
 
 pub holds_same : (f : Formula) → IsSame f
 holds_same = by_members IsSame on_atom on_all on_any
@@ -78,7 +87,8 @@ get_front [] back more n h = absurd (omega arith)
 get_front (x ∷ front) back more zero h = refl
 get_front (x ∷ front) back more (suc n) h = get_front front back more n (omega arith)
 
-get_back : {X : Type 0} (front back more : List X) (n m : ℕ) → length front ≤ n → m ≡ n + length more → slice_get (front ++ (more ++ back)) m ≡ slice_get (front ++ back) n
+get_back : {X : Type 0} (front back more : List X) (n m : ℕ) → length front ≤ n → m ≡ n + length more
+    → slice_get (front ++ (more ++ back)) m ≡ slice_get (front ++ back) n
 get_back [] back [] n m h e = ap (slice_get back) (omega arith)
 get_back [] back (y ∷ more) n zero h e = absurd (omega arith)
 get_back [] back (y ∷ more) n (suc m) h e = get_back [] back more n m (omega arith) (omega arith)
@@ -92,19 +102,23 @@ next_same : (o : Option Form) (k l : Form → Option Form) → ((form : Form) �
 next_same None k l same = refl
 next_same (Some form) k l same = same form
 
-sum_moved : (fs gs : List Fact) (to : ℕ → ℕ) → ((n : ℕ) → slice_get fs (to n) ≡ slice_get gs n) → (sum : Form) (numbers : List ℕ) → sum_from fs sum (entries_of (map to numbers)) ≡ sum_from gs sum (entries_of numbers)
+sum_moved : (fs gs : List Fact) (to : ℕ → ℕ) → ((n : ℕ) → slice_get fs (to n) ≡ slice_get gs n) → (sum : Form) (numbers : List ℕ)
+    → sum_from fs sum (entries_of (map to numbers)) ≡ sum_from gs sum (entries_of numbers)
 sum_moved fs gs to same sum [] = refl
 sum_moved fs gs to same sum (n ∷ numbers) =
     ap (λ o. option_and_then (λ form. sum_from fs (plus_times 1 form sum) (entries_of (map to numbers))) (atom_in o)) (same n)
-    ∙ next_same (atom_in (slice_get gs n)) (λ form. sum_from fs (plus_times 1 form sum) (entries_of (map to numbers))) (λ form. sum_from gs (plus_times 1 form sum) (entries_of numbers))
+    ∙ next_same (atom_in (slice_get gs n)) (λ form. sum_from fs (plus_times 1 form sum) (entries_of (map to numbers)))
+    (λ form. sum_from gs (plus_times 1 form sum) (entries_of numbers))
     (λ form. sum_moved fs gs to same (plus_times 1 form sum) numbers)
 
-pub combines_moved : (fs gs : List Fact) (to : ℕ → ℕ) → ((n : ℕ) → slice_get fs (to n) ≡ slice_get gs n) → (numbers : List ℕ) → combines (entries_of (map to numbers)) fs ≡ combines (entries_of numbers) gs
+pub combines_moved : (fs gs : List Fact) (to : ℕ → ℕ) → ((n : ℕ) → slice_get fs (to n) ≡ slice_get gs n) → (numbers : List ℕ)
+    → combines (entries_of (map to numbers)) fs ≡ combines (entries_of numbers) gs
 combines_moved fs gs to same numbers =
     let count : length (entries_of (map to numbers)) ≡ length (entries_of numbers) =
     length-map (map to numbers) (λ (n : ℕ). (1, n)) ∙ length-map numbers to ∙ sym (length-map numbers (λ (n : ℕ). (1, n))) in
     ap (λ k. nat_le 1 k && (nat_le k (2 ^ 21) && is_absurd (weighted_sum fs (entries_of (map to numbers))))) count
-    ∙ ap (λ o. nat_le 1 (length (entries_of numbers)) && (nat_le (length (entries_of numbers)) (2 ^ 21) && is_absurd o)) (sum_moved fs gs to same zero_form numbers)
+    ∙ ap (λ o. nat_le 1 (length (entries_of numbers)) && (nat_le (length (entries_of numbers)) (2 ^ 21) && is_absurd o))
+    (sum_moved fs gs to same zero_form numbers)
 
 -- ---- the box with more variables
 
@@ -124,7 +138,8 @@ get_past [] ys k = ap (slice_get ys) (omega arith)
 get_past (x ∷ xs) ys k = let e : suc (length xs) + k ≡ suc (length xs + k) = omega arith in ap (slice_get (x ∷ (xs ++ ys))) e ∙ get_past xs ys k
 
 -- the value of a variable behind the others is its least one
-low_past : (values : List ℤ) (bounds : List (ℤ × ℤ)) (x : ℕ) (low high : ℤ) → length values ≤ x → slice_get bounds x ≡ Some (low, high) → assigned (with_lows bounds values) x ≡ low
+low_past : (values : List ℤ) (bounds : List (ℤ × ℤ)) (x : ℕ) (low high : ℤ) → length values ≤ x → slice_get bounds x ≡ Some (low, high)
+    → assigned (with_lows bounds values) x ≡ low
 low_past values bounds x low high past at =
     let k = x - length values in
     let e : length values + k ≡ x = omega arith in
@@ -136,12 +151,14 @@ low_past values bounds x low high past at =
 value_front : (values more : List ℤ) (x : ℕ) → x < length values → assigned values x ≡ assigned (values ++ more) x
 value_front values more x within = ap (λ o. unwrap_or o (pos 0)) (ap (λ vs. slice_get vs x) (sym (append-nil values)) ∙ get_front values [] more x within)
 
-pub widened_solves : (f : Formula) (box front : Boxed) (values : List ℤ) → front.bounds ≡ take (width f) box.bounds → width f ≤ length box.bounds → AreFull (start_spans 0 box.bounds) → Solves f front values → Solves f box (with_lows box.bounds values)
+pub widened_solves : (f : Formula) (box front : Boxed) (values : List ℤ) → front.bounds ≡ take (width f) box.bounds → width f ≤ length box.bounds
+    → AreFull (start_spans 0 box.bounds) → Solves f front values → Solves f box (with_lows box.bounds values)
 widened_solves f box front values is within full solves =
     let w = width f in
     let n : length values ≡ w = solves.0 ∙ ap length is ∙ length-take-le w box.bounds within in
     let more : List ℤ = map (λ (b : ℤ × ℤ). b.0) (drop (length values) box.bounds) in (
-      length-append values more ∙ ap (λ k. length values + k) (length-map (drop (length values) box.bounds) (λ (b : ℤ × ℤ). b.0) ∙ length-drop (length values) box.bounds) ∙ omega (arith, n),
+      length-append values more ∙ ap (λ k. length values + k) (length-map (drop (length values) box.bounds) (λ (b : ℤ × ℤ). b.0)
+          ∙ length-drop (length values) box.bounds) ∙ omega (arith, n),
       λ x low high at.
           elim (cases_lt x w) [
             | inl below ↦
@@ -157,7 +174,8 @@ widened_solves f box front values is within full solves =
       sym (holds_same f w (assigned values) (assigned (values ++ more)) (omega arith) (λ x below. value_front values more x (omega (arith, n)))) ∙ solves.2,
     )
 
-fact_moved : (f : Formula) (box front : Boxed) (w kept more : ℕ) → front.bounds ≡ take w box.bounds → w ≤ length box.bounds → kept ≡ w + w → more ≡ (length box.bounds - w) + (length box.bounds - w) → (n : ℕ)
+fact_moved : (f : Formula) (box front : Boxed) (w kept more : ℕ) → front.bounds ≡ take w box.bounds → w ≤ length box.bounds → kept ≡ w + w
+    → more ≡ (length box.bounds - w) + (length box.bounds - w) → (n : ℕ)
     → slice_get (root_facts f box) (moved kept more n) ≡ slice_get (root_facts f front) n
 fact_moved f box front w kept more is within kept_is more_is n =
     let first : List Fact = bound_facts 0 (take w box.bounds) in
@@ -166,7 +184,8 @@ fact_moved f box front w kept more is within kept_is more_is n =
     let k : length first ≡ kept = bounds_length 0 (take w box.bounds) ∙ omega (arith, size) in
     let m : length others ≡ more = bounds_length (0 + length (take w box.bounds)) (drop w box.bounds) ∙ omega (arith, length-drop w box.bounds) in
     let whole : root_facts f box ≡ first ++ (others ++ facts_of f) =
-    ap (λ bs. bound_facts 0 bs ++ facts_of f) (sym (take-append-drop w box.bounds)) ∙ ap (λ fs. fs ++ facts_of f) (bound_facts-append 0 (take w box.bounds) (drop w box.bounds)) ∙ append_assoc first others (facts_of f) in
+    ap (λ bs. bound_facts 0 bs ++ facts_of f) (sym (take-append-drop w box.bounds))
+    ∙ ap (λ fs. fs ++ facts_of f) (bound_facts-append 0 (take w box.bounds) (drop w box.bounds)) ∙ append_assoc first others (facts_of f) in
     let part : first ++ facts_of f ≡ root_facts f front = ap (λ bs. bound_facts 0 bs ++ facts_of f) (sym is) in
     ap (λ fs. slice_get fs (moved kept more n)) whole
     ∙ elim (nat_lt n kept) as (λ b. nat_lt n kept ≡ b → slice_get (first ++ (others ++ facts_of f)) (cond b n (n + more)) ≡ slice_get (first ++ facts_of f) n) [
@@ -175,13 +194,17 @@ fact_moved f box front w kept more is within kept_is more_is n =
     ] refl
     ∙ ap (λ fs. slice_get fs n) part
 
-pub widened_checks : (f : Formula) (box front : Boxed) (w kept more : ℕ) (facts : List ℕ) (r : Refutation) → front.bounds ≡ take w box.bounds → w ≤ length box.bounds → kept ≡ w + w → more ≡ (length box.bounds - w) + (length box.bounds - w)
-    → combines (entries_of facts) (root_facts f front) ≡ true → r ≡ record { steps = Combine (entries_of (map (moved kept more) facts)) ∷ [] } → checks f box r ≡ true
+pub widened_checks : (f : Formula) (box front : Boxed) (w kept more : ℕ) (facts : List ℕ) (r : Refutation) → front.bounds ≡ take w box.bounds
+    → w ≤ length box.bounds → kept ≡ w + w → more ≡ (length box.bounds - w) + (length box.bounds - w)
+    → combines (entries_of facts) (root_facts f front) ≡ true → r ≡ record { steps = Combine (entries_of (map (moved kept more) facts)) ∷ [] }
+    → checks f box r ≡ true
 widened_checks f box front w kept more facts r is within kept_is more_is holds made =
     ap (checks f box) made
-    ∙ ap (λ b. b && true) (combines_moved (root_facts f box) (root_facts f front) (moved kept more) (fact_moved f box front w kept more is within kept_is more_is) facts ∙ holds)
+    ∙ ap (λ b. b && true) (combines_moved (root_facts f box) (root_facts f front) (moved kept more)
+    (fact_moved f box front w kept more is within kept_is more_is) facts ∙ holds)
 
-pub widened_short : (w kept more : ℕ) (facts : List ℕ) (r : Refutation) → length facts ≤ w + 1 → r ≡ record { steps = Combine (entries_of (map (moved kept more) facts)) ∷ [] } → IsShort (max 1 w) (Refuted r)
+pub widened_short : (w kept more : ℕ) (facts : List ℕ) (r : Refutation) → length facts ≤ w + 1
+    → r ≡ record { steps = Combine (entries_of (map (moved kept more) facts)) ∷ [] } → IsShort (max 1 w) (Refuted r)
 widened_short w kept more facts r few made =
     let entries : List (ℕ × ℕ) = entries_of (map (moved kept more) facts) in
     let count : length entries ≡ length facts = length-map (map (moved kept more) facts) (λ (n : ℕ). (1, n)) ∙ length-map facts (moved kept more) in

@@ -17,7 +17,8 @@ entry_of spans term = (unsigned_abs term.1, fact_of_end (span_at spans term.0) t
 abbrev pub AreSpans : List Fact → List Span → Type 0
 AreSpans facts spans =
     (x : ℕ) → x < length spans
-    → (slice_get facts (span_at spans x).low_at ≡ Some (at_least x (span_at spans x).low)) × (slice_get facts (span_at spans x).high_at ≡ Some (at_most x (span_at spans x).high))
+    → (slice_get facts (span_at spans x).low_at ≡ Some (at_least x (span_at spans x).low)) ×
+    (slice_get facts (span_at spans x).high_at ≡ Some (at_most x (span_at spans x).high))
 
 abbrev pub CloseAll : ℕ → List Step → List (List Fact) → Type 0
 CloseAll vars steps cases = (more : List Step) (goals : List (List Fact)) → refutes vars (steps ++ more) (cases ++ goals) ≡ refutes vars more goals
@@ -52,4 +53,5 @@ abbrev pub ClosesSome : List Span → ℕ → List Formula → List Formula → 
 ClosesSome spans next members left old new =
     (steps : List Step) × (new ≡ old ++ steps)
     × ((vars : ℕ) (facts : List Fact) → AreSpans facts spans → length facts ≡ next
-    → (more : List Step) (goals : List (List Fact)) → refutes vars (steps ++ more) (cases_of facts members ++ goals) ≡ refutes vars more (cases_of facts left ++ goals))
+    → (more : List Step) (goals : List (List Fact))
+    → refutes vars (steps ++ more) (cases_of facts members ++ goals) ≡ refutes vars more (cases_of facts left ++ goals))

@@ -1,5 +1,6 @@
 -- Halving the box: the cuts that led to the part at hand, and what waits to be refuted.
-use Rattle.std.specs.Prelude.{◌≡◌, ℕ, ◌+◌, ◌-◌, ◌<◌, Bool, true, false, if◌then◌else◌, ℤ, pos, ◌+ℤ◌, ◌≤ℤ◌, ◌<ℤ◌, List, [], ◌∷◌, ◌++◌, map, length, reverse, slice_set}
+use Rattle.std.specs.Prelude.{◌≡◌, ℕ, ◌+◌, ◌-◌, ◌<◌, Bool, true, false, if◌then◌else◌, ℤ, pos, ◌+ℤ◌, ◌≤ℤ◌, ◌<ℤ◌, List, [], ◌∷◌, ◌++◌, map, length}
+use Rattle.std.specs.Prelude.{reverse, slice_set}
 use Rattle.ipg_cert.specs.Facts.{Fact, at_least, at_most}
 use Rattle.ipg_lin.specs.declared.formula.Formula.{Formula}
 use Rattle.ipg_lin.specs.declared.formula.Boxed.{Boxed}
@@ -24,7 +25,8 @@ fact_of_cut cut = if cut.below then at_most cut.var cut.at else at_least cut.var
 
 -- the span of the cut's variable on its side: n is the number of the cut's fact
 abbrev pub side_of : ℕ → Cut → Span
-side_of n cut = if cut.below then record { low = cut.old.low; low_at = cut.old.low_at; high = cut.at; high_at = n } else record { low = cut.at +ℤ pos 1; low_at = n; high = cut.old.high; high_at = cut.old.high_at }
+side_of n cut = if cut.below then record { low = cut.old.low; low_at = cut.old.low_at; high = cut.at; high_at = n }
+    else record { low = cut.at +ℤ pos 1; low_at = n; high = cut.old.high; high_at = cut.old.high_at }
 
 -- the cut's other side
 abbrev pub above : Cut → Cut
@@ -49,7 +51,8 @@ waiting root (cut ∷ cuts) = if cut.below then facts_after root (above cut ∷ 
 abbrev pub AreCuts : ℕ → List Span → List Cut → Type 0
 AreCuts first start [] = Unit {0}
 AreCuts first start (cut ∷ cuts) =
-    (cut.var < length start) × (span_at (spans_after first start cuts) cut.var ≡ cut.old) × (cut.old.low ≤ℤ cut.at) × (cut.at <ℤ cut.old.high) × AreCuts first start cuts
+    (cut.var < length start) × (span_at (spans_after first start cuts) cut.var ≡ cut.old) × (cut.old.low ≤ℤ cut.at) × (cut.at <ℤ cut.old.high)
+    × AreCuts first start cuts
 
 -- a part of so many points takes fewer than twice as many steps
 abbrev pub work_in : List Span → ℕ
@@ -87,7 +90,8 @@ IsCut first x old_spans new_spans old_cuts new_cuts old_steps new_steps =
 -- the part that waits next is at hand, or none waits
 abbrev pub Backs : ℕ → List Span → List Span → List Cut → List Cut → Bool → Type 0
 Backs first start spans old new true =
-    (spans ≡ spans_after first start new) × AreCuts first start new × ((root : List Fact) → waiting root old ≡ facts_after root new ∷ waiting root new) × (work_waiting first start old ≡ work first start new)
+    (spans ≡ spans_after first start new) × AreCuts first start new × ((root : List Fact)
+    → waiting root old ≡ facts_after root new ∷ waiting root new) × (work_waiting first start old ≡ work first start new)
 Backs first start spans old new false = (root : List Fact) → waiting root old ≡ []
 
 -- a turn: less is to do, or a point solves the formula, or the steps refute it

@@ -34,7 +34,8 @@ IsSized (Choice members) = Unit {0}
 abbrev pub AreBetween : List ℤ → List (ℤ × ℤ) → Type 0
 AreBetween levels bounds =
     (x : ℕ) → x < length bounds
-    → ((slice_index_or bounds x no_bounds).0 ≤ℤ (level_at levels (x + 1) -ℤ level_at levels 0)) × ((level_at levels (x + 1) -ℤ level_at levels 0) ≤ℤ (slice_index_or bounds x no_bounds).1)
+    → ((slice_index_or bounds x no_bounds).0 ≤ℤ (level_at levels (x + 1) -ℤ level_at levels 0)) ×
+    ((level_at levels (x + 1) -ℤ level_at levels 0) ≤ℤ (slice_index_or bounds x no_bounds).1)
 
 -- each value is its variable's level above the ground
 abbrev pub AreHeights : ℕ → List ℤ → List ℤ → Type 0

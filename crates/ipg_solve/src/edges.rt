@@ -69,7 +69,8 @@ fn put_members(edges: &mut Vec<Edge>, members: &[Formula]) -> Result<(), AllocEr
 /// Puts the edges between the ground and a variable.
 fn put_bound(edges: &mut Vec<Edge>, x: usize, bound: &(i64, i64)) -> Result<(), AllocError>
     requires { x < 2 ^ 21 }
-    ensures edges { OnOk result (edges.new.items ≡ edges.old.items ++ record { from = x + 1; to = 0; fall = bound.now.0 } ∷ record { from = 0; to = x + 1; fall = neg_ℤ bound.now.1 } ∷ []) }
+    ensures edges { OnOk result (edges.new.items ≡ edges.old.items ++ record { from = x + 1; to = 0; fall = bound.now.0 } ∷
+        record { from = 0; to = x + 1; fall = neg_ℤ bound.now.1 } ∷ []) }
     ensures low { unsigned_abs bound.now.0 ≤ 2 ^ 64 }
     ensures high { unsigned_abs (neg_ℤ bound.now.1) ≤ 2 ^ 64 }
 {

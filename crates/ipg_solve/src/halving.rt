@@ -177,7 +177,8 @@ fn close_part(
 ) -> Result<(), AllocError>
     requires width { width f.now ≤ length spans.now }
     requires ruled_out { IsTrue (rules_out spans.now f.now) }
-    ensures { OnOk result (ClosesFormula spans.now (length b.now.bounds + length b.now.bounds) (first + length cuts.now) f.now steps.old.items steps.new.items) }
+    ensures { OnOk result (ClosesFormula spans.now (length b.now.bounds + length b.now.bounds) (first + length cuts.now) f.now steps.old.items
+        steps.new.items) }
 {
     let vars = b.bounds.len() as u64;
     let number = counted(vars, vars)?;

@@ -1,5 +1,6 @@
 -- A term that asks on the whole part makes its call there.
-use Rattle.std.proofs.Common.{◌≡◌, ℕ, zero, suc, ◌+◌, ◌<◌, refl, sym, ap, subst, if◌then◌else◌, ◌∙◌, arith, Bool, true, false, List, [], ◌∷◌, ◌++◌, Option, Some, None, Result, Ok, Err, length, ℤ, pos, negsuc, ◌≤ℤ◌, ◌<ℤ◌, ◌+ℤ◌, ◌-ℤ◌}
+use Rattle.std.proofs.Common.{◌≡◌, ℕ, zero, suc, ◌+◌, ◌<◌, refl, sym, ap, subst, if◌then◌else◌, ◌∙◌, arith, Bool, true, false, List, [], ◌∷◌, ◌++◌}
+use Rattle.std.proofs.Common.{Option, Some, None, Result, Ok, Err, length, ℤ, pos, negsuc, ◌≤ℤ◌, ◌<ℤ◌, ◌+ℤ◌, ◌-ℤ◌}
 use Rattle.std.specs.Prelude.{Contains}
 use Rattle.std.specs.List.{AllByRecursion}
 use Rattle.std.proofs.lemmas.Bool.{ltb-true}
@@ -13,7 +14,8 @@ use Rattle.ipg_core.specs.Tree.{Kid, Array, kids_of}
 use Rattle.ipg_core.specs.Environment.{Values}
 use Rattle.ipg_core.specs.Eval.{eval, is_zero}
 use Rattle.ipg_core.specs.Run.{Stop, NoTree, OutOfRange, Deep, Asked, Run, finish, after}
-use Rattle.ipg_core.specs.Meaning.{kept, den, Call, Frame, State, Place, environment, value_in, ask, with_kid, token_on, number_on, primitive_on, symbol_on, slot_on, pick_on, item_end, item_on, many_on, repetition_on, times, items_on, term_on}
+use Rattle.ipg_core.specs.Meaning.{kept, den, Call, Frame, State, Place, environment, value_in, ask, with_kid, token_on, number_on, primitive_on}
+use Rattle.ipg_core.specs.Meaning.{symbol_on, slot_on, pick_on, item_end, item_on, many_on, repetition_on, times, items_on, term_on}
 use Rattle.ipg_core.specs.declared.grammar.Primitive.{Primitive}
 use Rattle.ipg_core.specs.declared.grammar.Primitive.TheVariants.{Bytes}
 use Rattle.ipg_sound.proofs.Asks.{Asks, all_append, asks_finish, asks_stop, asks_value, asks_some, asks_bind, asks_chosen}

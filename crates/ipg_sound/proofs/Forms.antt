@@ -1,5 +1,6 @@
 -- Forms that have a value, and the facts that they make.
-use Rattle.std.proofs.Common.{◌≡◌, ℕ, zero, suc, Bool, true, false, not, ◌&&◌, ◌||◌, List, [], ◌∷◌, ◌++◌, map, length, refl, sym, ap, subst, ◌∙◌, arith, ℤ, pos, negsuc, ◌+ℤ◌, ◌*ℤ◌, ◌-ℤ◌, if◌then◌else◌}
+use Rattle.std.proofs.Common.{◌≡◌, ℕ, zero, suc, Bool, true, false, not, ◌&&◌, ◌||◌, List, [], ◌∷◌, ◌++◌, map, length, refl, sym, ap, subst, ◌∙◌}
+use Rattle.std.proofs.Common.{arith, ℤ, pos, negsuc, ◌+ℤ◌, ◌*ℤ◌, ◌-ℤ◌, if◌then◌else◌}
 use Rattle.std.proofs.lemmas.Bool.Decides.{nat_tests}
 use Rattle.std.specs.Prelude.{nat_le, int_le, ◌≤ℤ◌, ◌<ℤ◌, bytes_eq, flat_map}
 use Rattle.std.specs.List.{filter}
@@ -13,7 +14,8 @@ use Rattle.ipg_facts.specs.declared.fact.Fact.{Fact, fold-roll-Fact}
 use Rattle.ipg_facts.specs.declared.fact.Fact.TheVariants as facts
 use Rattle.ipg_facts.specs.declared.fact.Fact.TheOpen.{Fact-F}
 use Rattle.ipg_facts.specs.Key.{Key}
-use Rattle.ipg_facts.specs.Form.{variable, number, add_part, add_parts, plus, minus, scaled, scaled_part, shifted, is_zero, counts, is_constant, mentioned, in_limits, facts_of, bare, at_most_zero, leq, less, both_at_most_zero, is_nothing, equal, choice, differ}
+use Rattle.ipg_facts.specs.Form.{variable, number, add_part, add_parts, plus, minus, scaled, scaled_part, shifted, is_zero, counts, is_constant}
+use Rattle.ipg_facts.specs.Form.{mentioned, in_limits, facts_of, bare, at_most_zero, leq, less, both_at_most_zero, is_nothing, equal, choice, differ}
 use Rattle.ipg_sound.specs.Valued.{Valuation, sum_of, so_step, is_so, are_so}
 use Rattle.ipg_sound.specs.Known.{AreSo, AreTrue, parts_sum, Stands}
 use Rattle.ipg_sound.proofs.Whole.{times_plus, scale, zero_times, one_times, times_minus_one}

@@ -1,5 +1,6 @@
 -- The terms of a holder that matter to a caller have run where it is called.
-use Rattle.std.proofs.Common.{◌≡◌, ℕ, zero, suc, refl, sym, ap, ◌∙◌, subst, arith, List, [], ◌∷◌, length, Option, Some, None, Bool, true, false, true≢false, ◌||◌, ◌⊎◌, inl, inr}
+use Rattle.std.proofs.Common.{◌≡◌, ℕ, zero, suc, refl, sym, ap, ◌∙◌, subst, arith, List, [], ◌∷◌, length, Option, Some, None, Bool, true, false}
+use Rattle.std.proofs.Common.{true≢false, ◌||◌, ◌⊎◌, inl, inr}
 use Rattle.std.specs.Prelude.{slice_get, Contains, nat_eq, option_map}
 use Rattle.std.specs.List.{AllByRecursion, list_any}
 use Rattle.std.proofs.lemmas.Bool.{and_parts}
@@ -20,7 +21,8 @@ use Rattle.ipg_core.specs.Order.{Sets, TermOf, Reads, itself, through, Passes, N
 use Rattle.ipg_core.specs.Grown.{LeadsTo}
 use Rattle.ipg_core.specs.Grown as grown
 use Rattle.ipg_facts.specs.declared.mention.Ask.TheVariants.{Outer, Needs}
-use Rattle.ipg_facts.specs.Holder.{is_set_to, answers, mentions_some, set_by, is_held, calls, calls_some, reads_term, reads_next, readers, readers_of, provides, is_wanted, matters, with_term, kept}
+use Rattle.ipg_facts.specs.Holder.{is_set_to, answers, mentions_some, set_by, is_held, calls, calls_some, reads_term, reads_next, readers, readers_of}
+use Rattle.ipg_facts.specs.Holder.{provides, is_wanted, matters, with_term, kept}
 use Rattle.ipg_sound.proofs.Ordered.{contains_first, contains_later, taken_or, same_of}
 
 record Found {X : Type 0} (p : X → Bool) (xs : List X) : Type 0 where

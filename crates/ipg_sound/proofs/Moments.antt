@@ -1,5 +1,6 @@
 -- The moment at which an edge's call is made: behind the terms before it, and the items before one of an array.
-use Rattle.std.proofs.Common.{◌≡◌, ℕ, ◌<◌, ◌^◌, refl, sym, ap, subst, arith, List, [], ◌++◌, length, Option, Some, None, Bool, true, false, if◌then◌else◌, nat_lt, ℤ, pos, negsuc}
+use Rattle.std.proofs.Common.{◌≡◌, ℕ, ◌<◌, ◌^◌, refl, sym, ap, subst, arith, List, [], ◌++◌, length, Option, Some, None, Bool, true, false}
+use Rattle.std.proofs.Common.{if◌then◌else◌, nat_lt, ℤ, pos, negsuc}
 use Rattle.std.specs.Prelude.{slice_get, ◌≤ℤ◌, ◌<ℤ◌}
 use Rattle.std.specs.List.{AllByRecursion}
 use Rattle.std.proofs.lemmas.Int.{ints}

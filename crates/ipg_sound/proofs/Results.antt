@@ -1,5 +1,6 @@
 -- What a slot, a switch, an array or a repetition came to: results of their symbols on valid intervals.
-use Rattle.std.proofs.Common.{◌≡◌, ℕ, zero, suc, ◌+◌, ◌-◌, ◌≤◌, refl, sym, ap, ◌∙◌, subst, arith, List, [], ◌∷◌, ◌++◌, length, take, drop, Option, Some, None, Result, Ok, Err, Bool, true, false, if◌then◌else◌, ℤ, pos, ◌+ℤ◌}
+use Rattle.std.proofs.Common.{◌≡◌, ℕ, zero, suc, ◌+◌, ◌-◌, ◌≤◌, refl, sym, ap, ◌∙◌, subst, arith, List, [], ◌∷◌, ◌++◌, length, take, drop, Option}
+use Rattle.std.proofs.Common.{Some, None, Result, Ok, Err, Bool, true, false, if◌then◌else◌, ℤ, pos, ◌+ℤ◌}
 use Rattle.std.specs.Prelude.{nat_eq, nat_lt, nat_le, bytes_eq}
 use Rattle.std.specs.List.{AllByRecursion}
 use Rattle.std.proofs.lemmas.List.{length-take, length-drop, length-append}
@@ -22,7 +23,8 @@ use Rattle.ipg_core.specs.Within.{TreeWithin, AreEnds}
 use Rattle.ipg_core.specs.Environment.{Environment, Values}
 use Rattle.ipg_core.specs.Eval.{eval, is_zero}
 use Rattle.ipg_core.specs.Run.{Stop, NoTree, OutOfRange, Deep, Run, finish, stop, after, some_of}
-use Rattle.ipg_core.specs.Meaning.{Call, Frame, State, Place, environment, value_in, outer_for, halves, ask, token_on, number_on, primitive_on, symbol_on, slot_on, items_on, with_kid, item_end, item_on, kept, many_on, turns, repetition_on, pick_on, den}
+use Rattle.ipg_core.specs.Meaning.{Call, Frame, State, Place, environment, value_in, outer_for, halves, ask, token_on, number_on, primitive_on}
+use Rattle.ipg_core.specs.Meaning.{symbol_on, slot_on, items_on, with_kid, item_end, item_on, kept, many_on, turns, repetition_on, pick_on, den}
 use Rattle.ipg_core.specs.Good.{Good}
 use Rattle.ipg_core.specs.Laws.{LiesWithin, TouchingTouches}
 use Rattle.ipg_facts.specs.Reading.{least_width}

@@ -1,5 +1,6 @@
 -- What a slot puts holds where it has a result.
-use Rattle.std.proofs.Common.{◌≡◌, ℕ, zero, suc, ◌+◌, ◌-◌, ◌<◌, ◌≤◌, ◌^◌, Bool, true, false, ◌&&◌, ◌||◌, List, [], ◌++◌, length, refl, sym, ap, subst, ◌∙◌, arith, ℤ, pos, negsuc, ◌+ℤ◌, Option, Some, None, if◌then◌else◌, nat_lt, nat_eq}
+use Rattle.std.proofs.Common.{◌≡◌, ℕ, zero, suc, ◌+◌, ◌-◌, ◌<◌, ◌≤◌, ◌^◌, Bool, true, false, ◌&&◌, ◌||◌, List, [], ◌++◌, length, refl, sym, ap, subst}
+use Rattle.std.proofs.Common.{◌∙◌, arith, ℤ, pos, negsuc, ◌+ℤ◌, Option, Some, None, if◌then◌else◌, nat_lt, nat_eq}
 use Rattle.std.specs.Prelude.{◌≤ℤ◌, bytes_eq, codes}
 use Rattle.std.proofs.lemmas.Int.{ints}
 use Rattle.std.proofs.lemmas.Bool.Decides.{nat_tests}
@@ -21,7 +22,8 @@ use Rattle.ipg_facts.specs.declared.fact.Form.{Form}
 use Rattle.ipg_facts.specs.Key.{start, end, named}
 use Rattle.ipg_facts.specs.Form.{variable, leq, less, equal, shifted}
 use Rattle.ipg_facts.specs.Reading.{Scope, length_of, nought, greatest, ranges, form}
-use Rattle.ipg_facts.specs.Members.{is_valid, start_of, end_of, touches_none, touches_some, touches_first, touches_all, attr_ranges, number_ranges, text_touches, number_touches, primitive_touches, rule_touches, touches, on_interval, slot_members}
+use Rattle.ipg_facts.specs.Members.{is_valid, start_of, end_of, touches_none, touches_some, touches_first, touches_all, attr_ranges, number_ranges}
+use Rattle.ipg_facts.specs.Members.{text_touches, number_touches, primitive_touches, rule_touches, touches, on_interval, slot_members}
 use Rattle.ipg_sound.specs.Valued.{Valuation}
 use Rattle.ipg_sound.specs.Known.{AreSo, Stands, Fits, IsRanged, AreRanged, IsTreeOf, IsResult}
 use Rattle.ipg_sound.specs.Ran.{SlotRan}

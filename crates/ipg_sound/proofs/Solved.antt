@@ -1,5 +1,6 @@
 -- Where an edge is reached, its conditions have a solution.
-use Rattle.std.proofs.Common.{◌≡◌, ℕ, ◌≤◌, ◌^◌, refl, sym, ap, ◌∙◌, subst, arith, List, [], ◌∷◌, ◌++◌, length, Option, Some, None, Bool, true, false, true≢false, if◌then◌else◌, ℤ, pos, negsuc, inr}
+use Rattle.std.proofs.Common.{◌≡◌, ℕ, ◌≤◌, ◌^◌, refl, sym, ap, ◌∙◌, subst, arith, List, [], ◌∷◌, ◌++◌, length, Option, Some, None, Bool, true, false}
+use Rattle.std.proofs.Common.{true≢false, if◌then◌else◌, ℤ, pos, negsuc, inr}
 use Rattle.std.specs.Prelude.{slice_get, nat_eq, ◌≤ℤ◌, Contains, ◌||◌}
 use Rattle.std.proofs.lemmas.Int.{ints}
 use Rattle.ipg_num.specs.Number.{limited}

@@ -1,5 +1,6 @@
 -- A term that runs leads to a state in which it has run, and in each later one.
-use Rattle.std.proofs.Common.{◌≡◌, ℕ, ◌<◌, refl, sym, ap, ◌∙◌, subst, arith, List, [], ◌∷◌, ◌++◌, length, Option, Some, None, Ok, Bool, true, false, if◌then◌else◌, ℤ, pos, ◌-ℤ◌}
+use Rattle.std.proofs.Common.{◌≡◌, ℕ, ◌<◌, refl, sym, ap, ◌∙◌, subst, arith, List, [], ◌∷◌, ◌++◌, length, Option, Some, None, Ok, Bool, true, false}
+use Rattle.std.proofs.Common.{if◌then◌else◌, ℤ, pos, ◌-ℤ◌}
 use Rattle.std.specs.Prelude.{slice_get, flat_map, nat_lt}
 use Rattle.std.specs.List.{AllByRecursion}
 use Rattle.std.proofs.lemmas.Option.{slice_get_within}
@@ -13,7 +14,8 @@ use Rattle.ipg_core.specs.Tree.{Kid, Array, Many as Repetition, kids_of, items_o
 use Rattle.ipg_core.specs.Environment.{Environment, Done, value_at, done_at, items_so_far}
 use Rattle.ipg_core.specs.Eval.{eval, is_zero, greatest_end}
 use Rattle.ipg_core.specs.Run.{NoTree, finish, stop}
-use Rattle.ipg_core.specs.Meaning.{Call, Frame, State, Place, environment, value_in, slot_on, pick_on, times, items_on, repetition_on, with_kid, with_value, term_on, terms_on}
+use Rattle.ipg_core.specs.Meaning.{Call, Frame, State, Place, environment, value_in, slot_on, pick_on, times, items_on, repetition_on, with_kid}
+use Rattle.ipg_core.specs.Meaning.{with_value, term_on, terms_on}
 use Rattle.ipg_core.specs.Mention.{Mention, mentions, slot_mentions, case_mentions, term_mentions}
 use Rattle.ipg_core.specs.Order.{Sets, is_taken}
 use Rattle.ipg_facts.specs.Reading.{Scope, least_width, item_of}
@@ -24,7 +26,8 @@ use Rattle.ipg_sound.proofs.Runs.{finish_is, stop_is, in_state, went}
 use Rattle.ipg_sound.proofs.Halves.{AreBytes}
 use Rattle.ipg_sound.proofs.Results.{AreGood, IsKid, KidNamed, IsItem, SlotCame, PickCame, slot_came, pick_came, items_came, repetition_came}
 use Rattle.ipg_sound.proofs.Items.{ItemsOf, items_of_list, no_items, between}
-use Rattle.ipg_sound.proofs.Came.{Later, later_later, onward, stays_same, taken_first, Stands, Next, skip_next, kid_there, kid_next, value_there, value_next, env_grows}
+use Rattle.ipg_sound.proofs.Came.{Later, later_later, onward, stays_same, taken_first, Stands, Next, skip_next, kid_there, kid_next, value_there}
+use Rattle.ipg_sound.proofs.Came.{value_next, env_grows}
 
 -- ---- what came at the moment of a term has come in an environment that has gone on
 

@@ -1,5 +1,6 @@
 -- Values for the variables of conditions: those of what they stand for, in the caller's environment and in its holder's.
-use Rattle.std.proofs.Common.{◌≡◌, ℕ, zero, suc, ◌+◌, ◌<◌, ◌≤◌, ◌^◌, refl, sym, ap, ◌∙◌, subst, arith, List, [], ◌∷◌, length, Option, Some, None, Bool, true, false, not, cond, true≢false, if◌then◌else◌, ℤ, pos, negsuc}
+use Rattle.std.proofs.Common.{◌≡◌, ℕ, zero, suc, ◌+◌, ◌<◌, ◌≤◌, ◌^◌, refl, sym, ap, ◌∙◌, subst, arith, List, [], ◌∷◌, length, Option, Some, None}
+use Rattle.std.proofs.Common.{Bool, true, false, not, cond, true≢false, if◌then◌else◌, ℤ, pos, negsuc}
 use Rattle.std.specs.Prelude.{slice_get, nat_eq, nat_lt, bytes_eq, ◌≤ℤ◌}
 use Rattle.std.specs.List.{IsDistinct, AllByRecursion, position_or_len}
 use Rattle.std.proofs.lemmas.Int.{ints}

@@ -1,7 +1,9 @@
 //! Laws of the conditions, each the contract of a function that does nothing.
 
 ghost use Rattle.ipg_sound.specs.Bounded.{JointIsPart};
-ghost use Rattle.ipg_sound.specs.Laws.{ConditionsAreParts, EdgesAreFew, EdgesAreInside, EdgesCall, FactsSolve, JointSolvesParts, MembersAreKnown, OwnMembersAreKnown, PartsSolveJoint, ReachedCyclesSolve, ReachedEdgesSolve, SpellingsDiffer, TermsAreKnown, ValuesAreKnown, ValuesStay};
+ghost use Rattle.ipg_sound.specs.Laws.{ConditionsAreParts, EdgesAreFew, EdgesAreInside, EdgesCall, FactsSolve, JointSolvesParts, MembersAreKnown};
+ghost use Rattle.ipg_sound.specs.Laws.{OwnMembersAreKnown, PartsSolveJoint, ReachedCyclesSolve, ReachedEdgesSolve, SpellingsDiffer, TermsAreKnown};
+ghost use Rattle.ipg_sound.specs.Laws.{ValuesAreKnown, ValuesStay};
 
 use ipg_core::laws::{lies_within, touching_touches};
 

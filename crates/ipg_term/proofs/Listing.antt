@@ -34,7 +34,8 @@ none_of old new None h never = h.1.none
 none_of old new (Some c) h never = absurd (never c refl)
 
 -- an error is handed on
-pub handed_on : {A : Type 0} (P : A → Type 0) (Q : TermWhy → Type 0) (why : TermWhy) (r : Result A TermWhy) → IsErrAnd r (λ e. e ≡ why) → Q why → MatchResult r P Q
+pub handed_on : {A : Type 0} (P : A → Type 0) (Q : TermWhy → Type 0) (why : TermWhy) (r : Result A TermWhy) → IsErrAnd r (λ e. e ≡ why) → Q why
+    → MatchResult r P Q
 handed_on P Q why (Ok a) h q = absurd h
 handed_on P Q why (Err e) h q = subst Q (sym h) q
 
@@ -82,7 +83,8 @@ pub advanced : ChecksRefute → (old new : Listing) (calls : Calls) (cycles : Li
 advanced refute old new calls cycles c entry are answer same on =
     let at : new.at ≡ At c = answer.1.1.at ∙ ap At answer.1.0 in
     let more = one_more old.graph calls refute old.at cycles c entry are (next_of old new c answer) same on in
-    subst (λ g. AreRefuted g calls new.at (cycles ++ entry ∷ [])) (sym answer.0) (subst (λ s. AreRefuted old.graph calls s (cycles ++ entry ∷ [])) (sym at) more)
+    subst (λ g. AreRefuted g calls new.at (cycles ++ entry ∷ [])) (sym answer.0)
+    (subst (λ s. AreRefuted old.graph calls s (cycles ++ entry ∷ [])) (sym at) more)
 
 pub ended : (old new : Listing) (graph : Graph) (calls : Calls) (cycles : List (List ℕ × Refutation)) (answer : Option (List ℕ)) → old.graph ≡ graph
     → AreRefuted old.graph calls old.at cycles → AnswersWith old new answer → ((c : List ℕ) → answer ≡ Some c → ⊥) → AreRefuted graph calls End cycles

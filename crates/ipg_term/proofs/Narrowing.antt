@@ -73,7 +73,8 @@ shorter low high at next a b c = omega (arith, ints)
 pub shorter_above : (low high at : ℤ) → low ≤ℤ at → at <ℤ high → unsigned_abs (high -ℤ (at +ℤ pos 1)) < unsigned_abs (high -ℤ low)
 shorter_above low high at a b = omega (arith, ints)
 
-module _ (f : Formula) (box : Boxed) (known : Known) (is : IsKnown f box known) (some : 0 < length box.bounds) (at : ℤ) (least : known.low ≤ℤ at) (most : at <ℤ known.high) where
+module _ (f : Formula) (box : Boxed) (known : Known) (is : IsKnown f box known) (some : 0 < length box.bounds) (at : ℤ) (least : known.low ≤ℤ at)
+    (most : at <ℤ known.high) where
   in_range : (b : ℤ × ℤ) → slice_get box.bounds 0 ≡ Some b → (b.0 ≤ℤ known.low) × (at ≤ℤ b.1)
   in_range b e =
       let lies = is.solves.1 0 b.0 b.1 e in

@@ -36,5 +36,6 @@ more_dead calls edges dead r are on = record {
   check = pushed (λ entry. IsTrue (edge_checks calls entry)) dead (edges, r) are.check on;
 }
 
-pub edge_on : (calls : Calls) (e : ℕ) (part : Formula × Boxed) (r : Refutation) → keep_of calls e ≡ Some part → is_checked r part ≡ true → edge_checks calls (e, r) ≡ true
+pub edge_on : (calls : Calls) (e : ℕ) (part : Formula × Boxed) (r : Refutation) → keep_of calls e ≡ Some part → is_checked r part ≡ true
+    → edge_checks calls (e, r) ≡ true
 edge_on calls e part r is on = ap (λ o. or_false (option_map (is_checked r) o)) is ∙ on

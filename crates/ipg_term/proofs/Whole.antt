@@ -1,5 +1,6 @@
 -- A grammar is accepted with a certificate, or has a first cycle that can loop.
-use Rattle.std.proofs.Common.{◌≡◌, ℕ, zero, suc, ◌<◌, ℤ, List, [], ◌∷◌, ◌++◌, map, length, Bool, refl, sym, ap, subst, inl, inr, arith, append-nil, Option, Some, None}
+use Rattle.std.proofs.Common.{◌≡◌, ℕ, zero, suc, ◌<◌, ℤ, List, [], ◌∷◌, ◌++◌, map, length, Bool, refl, sym, ap, subst, inl, inr, arith, append-nil}
+use Rattle.std.proofs.Common.{Option, Some, None}
 use Rattle.std.specs.Prelude.{IsTrue, slice_index_or, slice_get, option_map, option_to_list}
 use Rattle.std.specs.List.{AllByRecursion}
 use Rattle.std.proofs.lemmas.Int.{ints}
@@ -80,7 +81,8 @@ module _ (g : Grammar) (marks m : Marks) (edges : List Edge) (dead listed : List
     };
   }
 
-  pub is_reason : LiveCyclesAreCycles → LoopsAreLive → (why : TermWhy) → IsReasonIn (live listed) (record { grammar = g; marks = m; edges = edges }) why → IsReason g why
+  pub is_reason : LiveCyclesAreCycles → LoopsAreLive → (why : TermWhy)
+      → IsReasonIn (live listed) (record { grammar = g; marks = m; edges = edges }) why → IsReason g why
   is_reason whole loops why reason =
       reason_by whole loops why (named (λ l k es. IsReasonIn (live l) (record { grammar = g; marks = k; edges = es }) why) reason)
 
@@ -98,7 +100,8 @@ some_kept : {A : Type 0} (found : Option A) (rest : List A) (a : A) → found �
 some_kept None rest a e = absurd (cc)
 some_kept (Some b) rest a e = omega arith
 
-pub cycles_have_conditions : (g : Grammar) (marks : Marks) (dead cycle : List ℕ) → IsSimpleCycle (live_graph g dead) cycle → 0 < length (keeps (calls_of g marks) cycle)
+pub cycles_have_conditions : (g : Grammar) (marks : Marks) (dead cycle : List ℕ) → IsSimpleCycle (live_graph g dead) cycle
+    → 0 < length (keeps (calls_of g marks) cycle)
 cycles_have_conditions g marks dead [] simple = absurd simple.walk
 cycles_have_conditions g marks dead (e ∷ cycle) simple =
     let calls = calls_of g marks in

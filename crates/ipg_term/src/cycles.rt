@@ -50,7 +50,8 @@ pub fn refuted_cycles(
     dead: &[(u32, Refutation)],
 ) -> Result<List<(List<u32>, Refutation)>, TermWhy>
     requires { calls.edges.now ≡ edges_of calls.grammar.now }
-    ensures { let graph = live_graph calls.entry.grammar.now (map (λ entry. entry.0) dead.now) in MatchResult result (AreRefuted graph (seen calls.entry) End) (IsReasonIn graph (seen calls.entry)) }
+    ensures { let graph = live_graph calls.entry.grammar.now (map (λ entry. entry.0) dead.now)
+        in MatchResult result (AreRefuted graph (seen calls.entry) End) (IsReasonIn graph (seen calls.entry)) }
 {
     checks_refute();
     let mut cycles = live_cycles(alloc, calls.grammar, calls.edges, dead)?;

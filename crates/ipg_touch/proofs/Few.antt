@@ -15,5 +15,6 @@ at_each P (x ∷ xs) h = (h zero x refl, at_each P xs (λ i y e. h (suc i) y e))
 pub is_few : (g : Grammar) → Good g → (r : ℕ) (rule : CoreRule) → rule_at g r ≡ Some rule → IsFew rule.alts
 is_few g good r rule is = record {
   count = (good.well_formed.rules r rule is).limit;
-  each = at_each (λ (alt : CoreAlt). length alt.terms ≤ 256) rule.alts (λ a alt e. (good.well_formed.alts (r, a) rule alt (record { is_rule = is; is_alt = e })).limit);
+  each = at_each (λ (alt : CoreAlt). length alt.terms ≤ 256) rule.alts
+      (λ a alt e. (good.well_formed.alts (r, a) rule alt (record { is_rule = is; is_alt = e })).limit);
 }

@@ -1,5 +1,6 @@
 -- One rule more of a pass.
-use Rattle.std.proofs.Common.{◌≡◌, ℕ, zero, suc, ◌+◌, ◌<◌, ◌≤◌, refl, sym, ap, ◌∙◌, subst, arith, List, [], ◌∷◌, Option, Some, None, Bool, true, false, length, true≢false, replicate, ◌⊎◌, inl, inr}
+use Rattle.std.proofs.Common.{◌≡◌, ℕ, zero, suc, ◌+◌, ◌<◌, ◌≤◌, refl, sym, ap, ◌∙◌, subst, arith, List, [], ◌∷◌, Option, Some, None, Bool, true}
+use Rattle.std.proofs.Common.{false, length, true≢false, replicate, ◌⊎◌, inl, inr}
 use Rattle.std.specs.Prelude.{slice_get, slice_set, not, ◌||◌}
 use Rattle.std.proofs.lemmas.Option.{slice_get_within}
 use Rattle.ipg_core.specs.declared.grammar.CoreRule.{CoreRule}
@@ -39,9 +40,11 @@ fewer_unmarked (false ∷ marks) (suc r) lt h = let less = fewer_unmarked marks 
 -- nothing is marked so far, and the rules so far are closed; or something is
 pub Passing : Bool → List CoreRule → ℕ → Marks → Marks → Type 0
 Passing true rules i old marks = unmarked marks < unmarked old
-Passing false rules i old marks = (marks ≡ old) × ((r : ℕ) (rule : CoreRule) → r < i → slice_get rules r ≡ Some rule → all_marked marks rule.alts ≡ true → is_marked marks r ≡ true)
+Passing false rules i old marks = (marks ≡ old) × ((r : ℕ) (rule : CoreRule) → r < i → slice_get rules r ≡ Some rule
+    → all_marked marks rule.alts ≡ true → is_marked marks r ≡ true)
 
-pub sound_next : (g : Grammar) (new : Bool) (old marks : Marks) (r : ℕ) (rule : CoreRule) → slice_get g.rules r ≡ Some rule → Marking new old r rule.alts marks → AreSound g old → AreSound g marks
+pub sound_next : (g : Grammar) (new : Bool) (old marks : Marks) (r : ℕ) (rule : CoreRule) → slice_get g.rules r ≡ Some rule
+    → Marking new old r rule.alts marks → AreSound g old → AreSound g marks
 sound_next g true old marks r rule e m sound =
     let below : AreBelow old (round g (suc sound.rounds)) = λ s h. rise g sound.rounds s (sound.below s h) in
     record {
@@ -55,7 +58,8 @@ sound_next g true old marks r rule e m sound =
     one s (inr same) = subst (λ n. is_marked (round g (suc sound.rounds)) n ≡ true) same (next_marks g old sound.rounds r rule sound.below e m.2)
 sound_next g false old marks r rule e m sound = subst (AreSound g) (sym m.0) sound
 
-rest_closed : (rules : List CoreRule) (marks : Marks) (r : ℕ) (rule : CoreRule) → slice_get rules r ≡ Some rule → (all_marked marks rule.alts ≡ true → is_marked marks r ≡ true)
+rest_closed : (rules : List CoreRule) (marks : Marks) (r : ℕ) (rule : CoreRule) → slice_get rules r ≡ Some rule
+    → (all_marked marks rule.alts ≡ true → is_marked marks r ≡ true)
     → ((s : ℕ) (other : CoreRule) → s < r → slice_get rules s ≡ Some other → all_marked marks other.alts ≡ true → is_marked marks s ≡ true)
     → (s : ℕ) (other : CoreRule) → s < r + 1 → slice_get rules s ≡ Some other → all_marked marks other.alts ≡ true → is_marked marks s ≡ true
 rest_closed rules marks r rule e here so_far s other lt f h = by_order (below_or_same s r lt)
@@ -69,7 +73,8 @@ rest_closed rules marks r rule e here so_far s other lt f h = by_order (below_or
         let one : other ≡ rule = let g = sym f ∙ ap (slice_get rules) same ∙ e in cc in
         ap (is_marked marks) same ∙ here (ap (λ (x : CoreRule). all_marked marks x.alts) (sym one) ∙ h)
 
-pub passing_next : (rules : List CoreRule) (more new : Bool) (first old marks : Marks) (r : ℕ) (rule : CoreRule) → slice_get rules r ≡ Some rule → r < length old → Marking new old r rule.alts marks
+pub passing_next : (rules : List CoreRule) (more new : Bool) (first old marks : Marks) (r : ℕ) (rule : CoreRule) → slice_get rules r ≡ Some rule
+    → r < length old → Marking new old r rule.alts marks
     → Passing more rules r first old → Passing (more || new) rules (r + 1) first marks
 unfolding Passing
 passing_next rules true true first old marks r rule e lt m h =
@@ -83,16 +88,19 @@ passing_next rules false false first old marks r rule e lt m h = (
   m.0 ∙ h.0,
   rest_closed rules marks r rule e
       (subst (λ ms. all_marked ms rule.alts ≡ true → is_marked ms r ≡ true) (sym m.0) m.1)
-      (subst (λ ms. (s : ℕ) (other : CoreRule) → s < r → slice_get rules s ≡ Some other → all_marked ms other.alts ≡ true → is_marked ms s ≡ true) (sym m.0) h.1),
+      (subst (λ ms. (s : ℕ) (other : CoreRule) → s < r → slice_get rules s ≡ Some other → all_marked ms other.alts ≡ true
+      → is_marked ms s ≡ true) (sym m.0) h.1),
 )
 
 -- a pass that marked nothing leaves closed marks, and one that marked something fewer to mark
-pub passed_closed : (rules : List CoreRule) (more : Bool) (first marks : Marks) → more ≡ false → Passing more rules (length rules) first marks → AreClosed rules marks
+pub passed_closed : (rules : List CoreRule) (more : Bool) (first marks : Marks) → more ≡ false → Passing more rules (length rules) first marks
+    → AreClosed rules marks
 unfolding Passing
 passed_closed rules true first marks e h = absurd (true≢false e)
 passed_closed rules false first marks e h = λ r rule f. h.1 r rule (slice_get_within rules r rule f) f
 
-pub passed_fewer : (rules : List CoreRule) (more : Bool) (i : ℕ) (first marks : Marks) → more ≡ true → Passing more rules i first marks → unmarked marks < unmarked first
+pub passed_fewer : (rules : List CoreRule) (more : Bool) (i : ℕ) (first marks : Marks) → more ≡ true → Passing more rules i first marks
+    → unmarked marks < unmarked first
 unfolding Passing
 passed_fewer rules true i first marks e h = h
 passed_fewer rules false i first marks e h = absurd (true≢false (sym e))

@@ -1,5 +1,6 @@
 -- Rounds only mark more, and marks that a pass leaves alone are the limit.
-use Rattle.std.proofs.Common.{◌≡◌, ℕ, zero, suc, ◌+◌, ◌<◌, ◌≤◌, refl, sym, ap, ◌∙◌, subst, arith, List, [], ◌∷◌, Option, Some, None, Bool, true, false, length, map, true≢false, ◌⊎◌, inl, inr}
+use Rattle.std.proofs.Common.{◌≡◌, ℕ, zero, suc, ◌+◌, ◌<◌, ◌≤◌, refl, sym, ap, ◌∙◌, subst, arith, List, [], ◌∷◌, Option, Some, None, Bool, true}
+use Rattle.std.proofs.Common.{false, length, map, true≢false, ◌⊎◌, inl, inr}
 use Rattle.std.specs.Prelude.{slice_get, slice_set, option_map, not, ◌&&◌, ◌||◌, ◌↔◌}
 use Rattle.std.specs.List.{count_by}
 use Rattle.std.proofs.lemmas.Bool.{and_parts}
@@ -13,7 +14,8 @@ use Rattle.ipg_core.specs.declared.grammar.CoreTerm.TheVariants.{Slot, Set, Test
 use Rattle.ipg_core.specs.declared.grammar.CoreAlt.{CoreAlt}
 use Rattle.ipg_core.specs.declared.grammar.CoreRule.{CoreRule}
 use Rattle.ipg_core.specs.Grammar.{Grammar}
-use Rattle.ipg_core.specs.MustTouch.{Marks, or_false, is_marked, sym_marked, cases_marked, term_marked, some_marked, all_marked, next_round, round, MustTouch, AreLimit}
+use Rattle.ipg_core.specs.MustTouch.{Marks, or_false, is_marked, sym_marked, cases_marked, term_marked, some_marked, all_marked, next_round, round}
+use Rattle.ipg_core.specs.MustTouch.{MustTouch, AreLimit}
 use Rattle.ipg_touch.specs.Pass.{AreBelow, AreSound, AreClosed, Marking, unmarked}
 
 both : (a b : Bool) → a ≡ true → b ≡ true → (a && b) ≡ true
@@ -35,7 +37,8 @@ module _ (low high : Marks) (below : AreBelow low high) where
 
   cases_more : (cases : List (CoreExpr × CoreSlot)) → cases_marked low cases ≡ true → cases_marked high cases ≡ true
   cases_more [] h = refl
-  cases_more (c ∷ cases) h = let each = and_parts (sym_marked low c.1.sym) (cases_marked low cases) h in both _ _ (sym_more c.1.sym each.0) (cases_more cases each.1)
+  cases_more (c ∷ cases) h = let each = and_parts (sym_marked low c.1.sym) (cases_marked low cases) h in both _ _ (sym_more c.1.sym each.0)
+      (cases_more cases each.1)
 
   term_more : (term : CoreTerm) → term_marked low term ≡ true → term_marked high term ≡ true
   term_more (Slot slot) h = sym_more slot.sym h
@@ -43,7 +46,8 @@ module _ (low high : Marks) (below : AreBelow low high) where
   term_more (Test e) h = h
   term_more (Repeat first last item from to) h = h
   term_more (Many item from to) h = h
-  term_more (Pick cases other) h = let each = and_parts (cases_marked low cases) (sym_marked low other.sym) h in both _ _ (cases_more cases each.0) (sym_more other.sym each.1)
+  term_more (Pick cases other) h = let each = and_parts (cases_marked low cases) (sym_marked low other.sym) h in both _ _ (cases_more cases each.0)
+      (sym_more other.sym each.1)
 
   some_more : (terms : List CoreTerm) → some_marked low terms ≡ true → some_marked high terms ≡ true
   some_more [] h = h
@@ -51,7 +55,8 @@ module _ (low high : Marks) (below : AreBelow low high) where
 
   all_more : (alts : List CoreAlt) → all_marked low alts ≡ true → all_marked high alts ≡ true
   all_more [] h = refl
-  all_more (alt ∷ alts) h = let each = and_parts (some_marked low alt.terms) (all_marked low alts) h in both _ _ (some_more alt.terms each.0) (all_more alts each.1)
+  all_more (alt ∷ alts) h = let each = and_parts (some_marked low alt.terms) (all_marked low alts) h in both _ _ (some_more alt.terms each.0)
+      (all_more alts each.1)
 
 -- ---- rounds
 
@@ -79,13 +84,15 @@ rise g zero r h = absurd (none_in_first g r h)
 rise g (suc k) r h = next_marked g _ r ∙ alts_more _ _ (rise g k) (slice_get g.rules r) (sym (next_marked g _ r) ∙ h)
 
 -- a rule that touches by marks which a round bears out is marked by the next
-pub next_marks : (g : Grammar) (marks : Marks) (k r : ℕ) (rule : CoreRule) → AreBelow marks (round g k) → slice_get g.rules r ≡ Some rule → all_marked marks rule.alts ≡ true → is_marked (round g (suc k)) r ≡ true
+pub next_marks : (g : Grammar) (marks : Marks) (k r : ℕ) (rule : CoreRule) → AreBelow marks (round g k) → slice_get g.rules r ≡ Some rule
+    → all_marked marks rule.alts ≡ true → is_marked (round g (suc k)) r ≡ true
 unfolding round
 next_marks g marks k r rule below e h =
     next_marked g (round g k) r ∙ ap (alts_marked (round g k)) e ∙ all_more marks (round g k) below rule.alts h
 
 -- each round marks no more than marks that are closed
-closed_rule : (rules : List CoreRule) (marks : Marks) → AreClosed rules marks → (r : ℕ) (rule : Option CoreRule) → slice_get rules r ≡ rule → alts_marked marks rule ≡ true → is_marked marks r ≡ true
+closed_rule : (rules : List CoreRule) (marks : Marks) → AreClosed rules marks → (r : ℕ) (rule : Option CoreRule) → slice_get rules r ≡ rule
+    → alts_marked marks rule ≡ true → is_marked marks r ≡ true
 closed_rule rules marks closed r None e h = absurd (true≢false (sym h))
 closed_rule rules marks closed r (Some rule) e h = closed r rule e h
 
@@ -93,7 +100,8 @@ below_closed : (g : Grammar) (marks : Marks) → AreClosed g.rules marks → (k 
 unfolding round
 below_closed g marks closed zero r h = absurd (none_in_first g r h)
 below_closed g marks closed (suc k) r h =
-    closed_rule g.rules marks closed r (slice_get g.rules r) refl (alts_more (round g k) marks (below_closed g marks closed k) (slice_get g.rules r) (sym (next_marked g (round g k) r) ∙ h))
+    closed_rule g.rules marks closed r (slice_get g.rules r) refl (alts_more (round g k) marks (below_closed g marks closed k) (slice_get g.rules r)
+    (sym (next_marked g (round g k) r) ∙ h))
 
 pub is_limit : (g : Grammar) (marks : Marks) → AreSound g marks → AreClosed g.rules marks → AreLimit g marks
 is_limit g marks sound closed = record {

@@ -1,5 +1,6 @@
 -- What comes next of words and digits, and lines as words behind words.
-use Rattle.std.proofs.Common.{◌≡◌, ℕ, ◌+◌, ◌<◌, ◌/◌, ◌%◌, List, [], ◌∷◌, ◌++◌, length, get_or, drop, map, refl, sym, ap, ◌∙◌, add-one, append_assoc, suc, zero, ◌≤◌, ℤ, None, arith}
+use Rattle.std.proofs.Common.{◌≡◌, ℕ, ◌+◌, ◌<◌, ◌/◌, ◌%◌, List, [], ◌∷◌, ◌++◌, length, get_or, drop, map, refl, sym, ap, ◌∙◌, add-one, append_assoc}
+use Rattle.std.proofs.Common.{suc, zero, ◌≤◌, ℤ, None, arith}
 use Rattle.std.specs.Prelude.{decimal, codes, slice_get}
 use Rattle.std.proofs.Math.Seq.{drop-cons}
 use Rattle.ipg_core.specs.declared.grammar.CoreRule.{CoreRule}

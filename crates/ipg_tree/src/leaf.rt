@@ -27,7 +27,8 @@ pub(crate) fn put_leaf<'w, S: Sink>(
     kind: &'w [u8],
     shown: Word<'w>,
 ) -> Result<(), SinkFault>
-    ensures { Puts result (spec.line (decimal visit.depth ∷ kind.now ∷ decimal visit.from ∷ decimal visit.to ∷ word_text shown.entry ∷ [])) (S.output out.old) (S.faults out.old) (S.output out.new) (S.faults out.new) }
+    ensures { Puts result (spec.line (decimal visit.depth ∷ kind.now ∷ decimal visit.from ∷ decimal visit.to ∷ word_text shown.entry ∷ []))
+        (S.output out.old) (S.faults out.old) (S.output out.new) (S.faults out.new) }
 {
     let words = [
         Word::Text(kind),
@@ -46,7 +47,8 @@ fn put_halves<S: Sink>(
     high: u32,
     low: u32,
 ) -> Result<(), SinkFault>
-    ensures { Puts result (spec.line (decimal visit.depth ∷ kind.now ∷ decimal visit.from ∷ decimal visit.to ∷ spec.set_word (codes "hi") (decimal high) ∷ spec.set_word (codes "lo") (decimal low) ∷ [])) (S.output out.old) (S.faults out.old) (S.output out.new) (S.faults out.new) }
+    ensures { Puts result (spec.line (decimal visit.depth ∷ kind.now ∷ decimal visit.from ∷ decimal visit.to ∷ spec.set_word (codes "hi")
+        (decimal high) ∷ spec.set_word (codes "lo") (decimal low) ∷ [])) (S.output out.old) (S.faults out.old) (S.output out.new) (S.faults out.new) }
 {
     let words = [
         Word::Text(kind),
@@ -66,7 +68,8 @@ pub(crate) fn put_value<S: Sink>(
     high: u32,
     low: u32,
 ) -> Result<(), SinkFault>
-    ensures { Puts result (spec.line (decimal visit.depth ∷ spec.primitive_name prim ∷ decimal visit.from ∷ decimal visit.to ∷ spec.number_words prim high low)) (S.output out.old) (S.faults out.old) (S.output out.new) (S.faults out.new) }
+    ensures { Puts result (spec.line (decimal visit.depth ∷ spec.primitive_name prim ∷ decimal visit.from ∷ decimal visit.to ∷ spec.number_words prim
+        high low)) (S.output out.old) (S.faults out.old) (S.output out.new) (S.faults out.new) }
 {
     let kind = primitive_name(prim);
     match prim {
@@ -84,7 +87,10 @@ pub(crate) fn put_items<'p, A: Allocator + Clone + Drop, S: Sink>(
     sym: u32,
     list: RunId,
 ) -> Result<(), SinkFault>
-    ensures { (src : Source) (g : Grammar) (at : ℕ) (one : Sym) (rows : List Row) (items : Kids) → StandFor p.now.parse.tables g → slice_get p.now.parse.tables.syms sym ≡ Some one → slice_get p.now.parse.store.kids list.place ≡ Some rows → StandKids src p.now.parse.store at rows items → Puts result (spec.items_line g visit.depth kind.now one items) (S.output out.old) (S.faults out.old) (S.output out.new) (S.faults out.new) }
+    ensures { (src : Source) (g : Grammar) (at : ℕ) (one : Sym) (rows : List Row) (items : Kids) → StandFor p.now.parse.tables g
+        → slice_get p.now.parse.tables.syms sym ≡ Some one → slice_get p.now.parse.store.kids list.place ≡ Some rows
+        → StandKids src p.now.parse.store at rows items
+        → Puts result (spec.items_line g visit.depth kind.now one items) (S.output out.old) (S.faults out.old) (S.output out.new) (S.faults out.new) }
 {
     let words = [
         Word::Text(kind),

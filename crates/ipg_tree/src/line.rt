@@ -29,7 +29,8 @@ pub(crate) fn put_line<S: Sink>(out: &mut S, depth: u64, words: &[Word]) -> Resu
 
 /// Writes a space and an attribute with its value.
 fn put_next_attr<S: Sink>(out: &mut S, tables: &Tables, attr: (u32, i64)) -> Result<(), SinkFault>
-    ensures { (g : Grammar) → StandFor tables.now g → Puts result (32 ∷ spec.attr_word g attr) (S.output out.old) (S.faults out.old) (S.output out.new) (S.faults out.new) }
+    ensures { (g : Grammar) → StandFor tables.now g
+        → Puts result (32 ∷ spec.attr_word g attr) (S.output out.old) (S.faults out.old) (S.output out.new) (S.faults out.new) }
 {
     put(out, b" ")?;
     put_attr(out, tables.attr_name(attr.0), attr.1)
@@ -37,7 +38,8 @@ fn put_next_attr<S: Sink>(out: &mut S, tables: &Tables, attr: (u32, i64)) -> Res
 
 /// Writes attributes, each behind a space.
 fn put_attrs<S: Sink>(out: &mut S, tables: &Tables, attrs: &[(u32, i64)]) -> Result<(), SinkFault>
-    ensures { (g : Grammar) → StandFor tables.now g → Puts result (spaced (map (spec.attr_word g) attrs.now)) (S.output out.old) (S.faults out.old) (S.output out.new) (S.faults out.new) }
+    ensures { (g : Grammar) → StandFor tables.now g
+        → Puts result (spaced (map (spec.attr_word g) attrs.now)) (S.output out.old) (S.faults out.old) (S.output out.new) (S.faults out.new) }
 {
     for attr in attrs {
         put_next_attr(out, tables, *attr)?;
@@ -53,7 +55,9 @@ fn put_with_attrs<S: Sink>(
     words: &[Word],
     attrs: &[(u32, i64)],
 ) -> Result<(), SinkFault>
-    ensures { (g : Grammar) → StandFor tables.now g → Puts result (spec.line (decimal depth ∷ (map word_text words.now ++ map (spec.attr_word g) attrs.now))) (S.output out.old) (S.faults out.old) (S.output out.new) (S.faults out.new) }
+    ensures { (g : Grammar) → StandFor tables.now g
+        → Puts result (spec.line (decimal depth ∷ (map word_text words.now ++ map (spec.attr_word g) attrs.now))) (S.output out.old) (S.faults out.old)
+        (S.output out.new) (S.faults out.new) }
 {
     put_number(out, depth)?;
     put_words(out, words)?;
@@ -63,7 +67,8 @@ fn put_with_attrs<S: Sink>(
 
 /// The name of the rule of a node; empty where there is no node.
 fn node_name<'p, A: Allocator + Clone + Drop>(p: &'p Parsed<'_, A>, node: RunId) -> &'p [u8]
-    ensures { (src : Source) (g : Grammar) (at : ℕ) (one : Tree) → StandFor p.now.parse.tables g → StandsTree src p.now.parse.store at node one → result.now ≡ spec.rule_name g (rule_of one) }
+    ensures { (src : Source) (g : Grammar) (at : ℕ) (one : Tree) → StandFor p.now.parse.tables g → StandsTree src p.now.parse.store at node one
+        → result.now ≡ spec.rule_name g (rule_of one) }
 {
     match p.rule(node) {
         Some(rule) => rule_name(p.tables(), rule),
@@ -86,7 +91,8 @@ pub(crate) fn put_node<A: Allocator + Clone + Drop, S: Sink>(
     at: u64,
     node: RunId,
 ) -> Result<(), SinkFault>
-    ensures { (src : Source) (g : Grammar) (begin : ℕ) (one : Tree) → StandFor p.now.parse.tables g → StandsTree src p.now.parse.store begin node one → at + 2 ^ 32 ≤ 2 ^ 64 → Puts result (head_line g depth at one) (S.output out.old) (S.faults out.old) (S.output out.new) (S.faults out.new) }
+    ensures { (src : Source) (g : Grammar) (begin : ℕ) (one : Tree) → StandFor p.now.parse.tables g → StandsTree src p.now.parse.store begin node one
+        → at + 2 ^ 32 ≤ 2 ^ 64 → Puts result (head_line g depth at one) (S.output out.old) (S.faults out.old) (S.output out.new) (S.faults out.new) }
 {
     let ends = p.ends(node);
     let words = [

@@ -26,7 +26,8 @@ fn put_visit<A: Allocator + Clone + Drop, S: Sink>(
     p: &Parsed<'_, A>,
     visit: Visit,
 ) -> Result<(), SinkFault>
-    ensures { (src : Source) (g : Grammar) (one : Seen) → Shares p.now.parse src g → Shows src p.now.parse.store visit one → Puts result (line_of g one) (S.output out.old) (S.faults out.old) (S.output out.new) (S.faults out.new) }
+    ensures { (src : Source) (g : Grammar) (one : Seen) → Shares p.now.parse src g → Shows src p.now.parse.store visit one
+        → Puts result (line_of g one) (S.output out.old) (S.faults out.old) (S.output out.new) (S.faults out.new) }
 {
     match visit.kid {
         Kid::Node { id, .. } => put_node(out, p, visit.depth, visit.from, id),
@@ -55,7 +56,8 @@ pub fn print<A: Allocator + Clone + Drop, S: Sink>(
     out: &mut S,
 ) -> Result<(), SinkFault>
     ensures parse { p.new.parse ≡ p.old.parse }
-    ensures lines { (src : Source) (g : Grammar) (one : Tree) → IsTree p.old.parse src g one → Puts result (spec.lines g one 0) (S.output out.old) (S.faults out.old) (S.output out.new) (S.faults out.new) }
+    ensures lines { (src : Source) (g : Grammar) (one : Tree) → IsTree p.old.parse src g one
+        → Puts result (spec.lines g one 0) (S.output out.old) (S.faults out.old) (S.output out.new) (S.faults out.new) }
 {
     p.rewind();
     while let Some(visit) = p.next() {

@@ -117,7 +117,8 @@ fn first(bytes: &[u8], count: usize) -> &[u8]
 
 /// Writes the first 32 bytes in hexadecimal, and how many more there are.
 fn put_long<S: Sink>(out: &mut S, bytes: &[u8]) -> Result<(), SinkFault>
-    ensures { Puts result (spec.hex (take 32 bytes.now) ++ (43 ∷ decimal (length bytes.now - 32))) (S.output out.old) (S.faults out.old) (S.output out.new) (S.faults out.new) }
+    ensures { Puts result (spec.hex (take 32 bytes.now) ++ (43 ∷ decimal (length bytes.now - 32))) (S.output out.old) (S.faults out.old)
+        (S.output out.new) (S.faults out.new) }
 {
     put_bytes(out, first(bytes, 32))?;
     put_more(out, (bytes.len() as u64).saturating_sub(32))

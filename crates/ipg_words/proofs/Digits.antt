@@ -1,5 +1,6 @@
 -- What a number's text is, by the standard library's reading of it.
-use Rattle.std.proofs.Common.{◌≡◌, ℕ, ◌<◌, ◌^◌, Bool, true, false, not, ◌&&◌, ◌==◌, nat_lt, nat_le, List, [], ◌∷◌, length, drop, cond, slice_index, Some, None, Ok, refl, sym, ap, ◌∙◌, subst, arith, true≢false}
+use Rattle.std.proofs.Common.{◌≡◌, ℕ, ◌<◌, ◌^◌, Bool, true, false, not, ◌&&◌, ◌==◌, nat_lt, nat_le, List, [], ◌∷◌, length, drop, cond, slice_index}
+use Rattle.std.proofs.Common.{Some, None, Ok, refl, sym, ap, ◌∙◌, subst, arith, true≢false}
 use Rattle.std.proofs.lemmas.Bool.{and_parts}
 use Rattle.std.proofs.lemmas.Bool.Decides.{nat_tests}
 use Rattle.std.specs.List.{list_all}
@@ -56,7 +57,8 @@ read most text n plain h =
     ap (up_to most) value ∙ sym (ap (λ b. cond b (up_to most (digits_value 10 text)) None) positive)
 
 -- a text that isn't read as a number of 32 bits
-pub not_read : (most : ℕ) (text : List ℕ) → most < 2 ^ 32 → is_plain_first text ≡ true → ¬ (IsNumeral 10 (without_leading_plus text) × (digits_value 10 (without_leading_plus text) < 2 ^ 32))
+pub not_read : (most : ℕ) (text : List ℕ) → most < 2 ^ 32 → is_plain_first text ≡ true
+    → ¬ (IsNumeral 10 (without_leading_plus text) × (digits_value 10 (without_leading_plus text) < 2 ^ 32))
     → None ≡ number_in most text
 not_read most text below plain h = by (is_positive text) refl
   where

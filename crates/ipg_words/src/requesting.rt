@@ -67,7 +67,8 @@ fn grammar_request<'a>(
     task: Wanted<'a>,
     words: &'a [String],
 ) -> Result<Option<Asked<'a>>, AllocError>
-    ensures { IfOk result (λ asked. option_map seen asked ≡ spec.use_words (command.on_grammar name.now) (λ rows. Some (task_seen task.entry)) (map string_bytes words.now)) }
+    ensures { IfOk result (λ asked. option_map seen asked ≡ spec.use_words (command.on_grammar name.now) (λ rows. Some (task_seen task.entry))
+        (map string_bytes words.now)) }
 {
     match taken(on_grammar(alloc, name)?, words)? {
         Some(matches) => Ok(use_of(&matches, Some(task))),

@@ -1,13 +1,15 @@
 -- A text has no more tokens than bytes, and what it reads as no more tokens than it.
 use Rattle.std.specs.Prelude.{IfOk, MatchResult}
 use Rattle.std.specs.List.{AllByRecursion}
-use Rattle.std.proofs.Common.{◌≡◌, ℕ, zero, suc, ◌+◌, ◌-◌, ◌^◌, ◌<◌, ◌≤◌, Bool, true, false, List, [], ◌∷◌, length, Result, Ok, Err, refl, sym, ap, ◌∙◌, cond, nat_lt, arith}
+use Rattle.std.proofs.Common.{◌≡◌, ℕ, zero, suc, ◌+◌, ◌-◌, ◌^◌, ◌<◌, ◌≤◌, Bool, true, false, List, [], ◌∷◌, length, Result, Ok, Err, refl, sym, ap}
+use Rattle.std.proofs.Common.{◌∙◌, cond, nat_lt, arith}
 use Rattle.std.proofs.lemmas.Bool.Decides.{nat_tests}
 use Rattle.ipg_ast.specs.declared.grammar.Grammar.{Grammar}
 use Rattle.ipg_ast.specs.declared.grammar.Rule.{out-Rule}
 use Rattle.ipg_ast.specs.declared.grammar.Alt.{out-Alt}
 use Rattle.ipg_ast.specs.Spelling.{grammar_tokens}
-use Rattle.ipg_ast.specs.Shape.{IsFormed, IsFormedRule, IsFormedAlt, IsFormedLocal, IsFormedLocalAlt, IsFlat, IsFlatRule, IsFlatAlt, IsFlatLocal, IsFlatLocalAlt}
+use Rattle.ipg_ast.specs.Shape.{IsFormed, IsFormedRule, IsFormedAlt, IsFormedLocal, IsFormedLocalAlt, IsFlat, IsFlatRule, IsFlatAlt, IsFlatLocal}
+use Rattle.ipg_ast.specs.Shape.{IsFlatLocalAlt}
 use Rattle.ipg_tokens.specs.declared.token.Token.{Token}
 use Rattle.ipg_tokens.specs.declared.fault.ReadFault.{ReadFault}
 use Rattle.ipg_tokens.specs.declared.fault.ReadFault.TheVariants.{TooLong, Lex, Number, Syntax, Limit, Memory}
@@ -81,4 +83,5 @@ all_of_all P Q f (x ∷ xs) h = (f x h.0, all_of_all P Q f xs h.1)
 pub formed_flat : (g : Grammar) → IsFormed g → IsFlat g
 formed_flat g formed =
     all_of_all IsFormedRule IsFlatRule (λ rule h. all_of_all IsFormedAlt IsFlatAlt (λ alt m. all_of_all IsFormedLocal IsFlatLocal (λ local k.
-    all_of_all IsFormedLocalAlt IsFlatLocalAlt (λ b n. n.no_locals) (out-Rule local).alts k.each) (out-Alt alt).locals m.locals) (out-Rule rule).alts h.each) g.rules formed.each
+    all_of_all IsFormedLocalAlt IsFlatLocalAlt (λ b n. n.no_locals) (out-Rule local).alts k.each) (out-Alt alt).locals m.locals) (out-Rule rule).alts
+    h.each) g.rules formed.each

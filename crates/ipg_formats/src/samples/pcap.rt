@@ -1,7 +1,8 @@
 //! A capture of UDP packets over Ethernet, in pcap's own form with the low byte first.
 
 ghost use Rattle.std.specs.Prelude.{◌≡◌, ◌<◌, ◌≤◌, ◌++◌, OnOk};
-ghost use Rattle.ipg_formats.specs.Pcap.{pcap, file_header, record_header, ethernet_header, ip_header, udp_header, packet, packets, ethernet, record_for, frame_for, datagram_for, ports_for};
+ghost use Rattle.ipg_formats.specs.Pcap.{pcap, file_header, record_header, ethernet_header, ip_header, udp_header, packet, packets, ethernet};
+ghost use Rattle.ipg_formats.specs.Pcap.{record_for, frame_for, datagram_for, ports_for};
 
 use crate::samples::fields::{self, be16, be32, le16, le32};
 use std::alloc::AllocError;

@@ -16,7 +16,8 @@ refused exactly text fault (inr is) = inr ((exactly text fault).1 is)
 pub returns-clause-read : goal.returns-clause-read
 returns-clause-read c =
     let text = c.args.text.now in
-    by_words c.read.result (ReadsWithin text) (λ g. read_of text ≡ Ok g) (λ fault. (fault ≡ Memory) ⊎ Refused text fault) (λ fault. (fault ≡ Memory) ⊎ (read_of text ≡ Err fault))
+    by_words c.read.result (ReadsWithin text) (λ g. read_of text ≡ Ok g) (λ fault. (fault ≡ Memory) ⊎ Refused text fault)
+    (λ fault. (fault ≡ Memory) ⊎ (read_of text ≡ Err fault))
     (λ g reads. (c.reads_exactly.ensures text g).1 reads) (refused c.refused_exactly.ensures text) c.read.ensures
 
 pub returns-clause-readable : goal.returns-clause-readable
@@ -28,4 +29,5 @@ returns-clause-readable c =
 pub returns-clause-flat : goal.returns-clause-flat
 returns-clause-flat c =
     let text = c.args.text.now in
-    if_ok c.read.result (ReadsWithin text) IsFlat (λ fault. (fault ≡ Memory) ⊎ Refused text fault) c.read.ensures (λ g reads. formed_flat g (c.reads_formed.ensures text g reads))
+    if_ok c.read.result (ReadsWithin text) IsFlat (λ fault. (fault ≡ Memory) ⊎ Refused text fault) c.read.ensures
+    (λ g reads. formed_flat g (c.reads_formed.ensures text g reads))

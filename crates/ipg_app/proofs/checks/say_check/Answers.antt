@@ -12,7 +12,8 @@ returns-in-Ok c =
     let core = c.args.core in
     let same = c.in-Ok.field-0.0 in
     let checks : Checks core (Ok same) = rw c.in-Ok.is at c.in_ok-accepted.ensures.checks in
-    IfOk-weaker c.line.result (λ s. said_of s ≡ done_line (codes "accepted")) (λ s. Says (check core) (said_of s)) (λ s e told. (Ok same, checks, e)) c.line.ensures
+    IfOk-weaker c.line.result (λ s. said_of s ≡ done_line (codes "accepted")) (λ s. Says (check core) (said_of s)) (λ s e told. (Ok same, checks, e))
+    c.line.ensures
 
 pub returns : goal.returns
 returns c =

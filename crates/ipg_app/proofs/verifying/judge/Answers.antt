@@ -12,7 +12,8 @@ returns-in-Ok c =
     let core = c.args.core in
     let certificate = c.in-Ok.certificate in
     let reads : Reads text (Ok certificate) = rw c.in-Ok.is at c.in_ok-certificate.ensures in
-    IfOk-weaker c.judged.result (λ s. Judges core certificate (said_of s)) (λ s. Says (judge text core) (said_of s)) (λ s h told. (Ok certificate, reads, h)) c.judged.ensures
+    IfOk-weaker c.judged.result (λ s. Judges core certificate (said_of s)) (λ s. Says (judge text core) (said_of s))
+    (λ s h told. (Ok certificate, reads, h)) c.judged.ensures
 
 pub returns-in-Err : goal.returns-in-Err
 returns-in-Err c =

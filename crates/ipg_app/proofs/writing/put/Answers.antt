@@ -28,14 +28,17 @@ loop-line-init g c = record { so_far = begun _ _; counts = omega arith }
 
 pub returns-clause-written : goal.returns-clause-written
 returns-clause-written g c =
-    ended-written c.flush.result (g.S.Sink.output c.args.out.now) (g.S.Sink.output c.loop-line.out) (g.S.Sink.output c.flush.new.self) (text_of c.args.lines.now) (text_of (drop c.loop-line.line-index c.args.lines.now))
+    ended-written c.flush.result (g.S.Sink.output c.args.out.now) (g.S.Sink.output c.loop-line.out) (g.S.Sink.output c.flush.new.self)
+    (text_of c.args.lines.now) (text_of (drop c.loop-line.line-index c.args.lines.now))
     (none-left c.args.lines.now c.loop-line.line-index c.loop-line-test.false) c.loop-line.invariant.so_far c.flush.ensures.handed_on
 
 pub returns-clause-broken : goal.returns-clause-broken
 returns-clause-broken g c =
-    ended-broken c.flush.result (g.S.Sink.output c.args.out.now) (g.S.Sink.output c.loop-line.out) (g.S.Sink.output c.flush.new.self) (text_of c.args.lines.now) (text_of (drop c.loop-line.line-index c.args.lines.now))
+    ended-broken c.flush.result (g.S.Sink.output c.args.out.now) (g.S.Sink.output c.loop-line.out) (g.S.Sink.output c.flush.new.self)
+    (text_of c.args.lines.now) (text_of (drop c.loop-line.line-index c.args.lines.now))
     c.loop-line.invariant.so_far c.flush.ensures.broken
 
 pub returns-clause-failed : goal.returns-clause-failed
 returns-clause-failed g c =
-    ended-failed c.flush.result (g.S.Sink.faults c.args.out.now) (g.S.Sink.faults c.loop-line.out) (g.S.Sink.faults c.flush.new.self) c.loop-line.invariant.counts c.flush.ensures.failed
+    ended-failed c.flush.result (g.S.Sink.faults c.args.out.now) (g.S.Sink.faults c.loop-line.out) (g.S.Sink.faults c.flush.new.self)
+    c.loop-line.invariant.counts c.flush.ensures.failed

@@ -14,11 +14,13 @@ loop-pair-preserved c =
           let gone = c.in-Some.ensures.steps.1 in
           let short = ap length steps in
           omega arith,
-      c.in_ok-push.ensures.items ∙ map_turn (case_of c.args.left.now) at.yielded c.in-Some.pair at.made.items _ at.invariant.2 (ap (λ (slot : CoreSlot). (c.in-Some.pair.0, slot)) c.in_ok-slot.ensures),
+      c.in_ok-push.ensures.items ∙ map_turn (case_of c.args.left.now) at.yielded c.in-Some.pair at.made.items _ at.invariant.2
+          (ap (λ (slot : CoreSlot). (c.in-Some.pair.0, slot)) c.in_ok-slot.ensures),
     )
 
 pub returns : goal.returns
 returns c =
     let at = c.loop-pair in
     let all = at.invariant.0 ∙ c.into_iter-pair-iterator.ensures.into_iter_gives.0 ∙ c.into_vec-pair-items.ensures in
-    c.from_vec.ensures ∙ at.invariant.2 ∙ ap (map (case_of c.args.left.now)) (all_came at.yielded (into_iter_items at.pair-iterator) _ _ all at.invariant.1 c.in-None.ensures.steps.0)
+    c.from_vec.ensures ∙ at.invariant.2 ∙ ap (map (case_of c.args.left.now))
+    (all_came at.yielded (into_iter_items at.pair-iterator) _ _ all at.invariant.1 c.in-None.ensures.steps.0)

@@ -25,4 +25,5 @@ pub returns : goal.returns
 returns c =
     let at = c.loop-alt in
     let all = at.invariant.0 ∙ c.into_iter-alt-iterator.ensures.into_iter_gives.0 ∙ c.into_vec-alt-items.ensures in
-    c.from_vec.ensures ∙ at.invariant.2 ∙ ap (map alt_of) (all_came at.yielded (into_iter_items at.alt-iterator) _ _ all at.invariant.1 c.in-None.ensures.steps.0)
+    c.from_vec.ensures ∙ at.invariant.2
+    ∙ ap (map alt_of) (all_came at.yielded (into_iter_items at.alt-iterator) _ _ all at.invariant.1 c.in-None.ensures.steps.0)

@@ -18,11 +18,13 @@ loop-rule-preserved c =
           let gone = c.in-Some.ensures.steps.1 in
           let short = ap length steps in
           omega arith,
-      c.in_ok-push.ensures.items ∙ map_turn rule_of at.yielded c.in-Some.rule at.made.items _ at.invariant.2 (ap (rule_with c.in-Some.rule.name c.in-Some.rule.holder) c.in_ok-alts.ensures),
+      c.in_ok-push.ensures.items ∙ map_turn rule_of at.yielded c.in-Some.rule at.made.items _ at.invariant.2
+          (ap (rule_with c.in-Some.rule.name c.in-Some.rule.holder) c.in_ok-alts.ensures),
     )
 
 pub returns : goal.returns
 returns c =
     let at = c.loop-rule in
     let all = at.invariant.0 ∙ c.into_iter-rule-iterator.ensures.into_iter_gives.0 ∙ c.into_vec-rule-items.ensures in
-    c.from_vec.ensures ∙ at.invariant.2 ∙ ap (map rule_of) (all_came at.yielded (into_iter_items at.rule-iterator) _ _ all at.invariant.1 c.in-None.ensures.steps.0)
+    c.from_vec.ensures ∙ at.invariant.2
+    ∙ ap (map rule_of) (all_came at.yielded (into_iter_items at.rule-iterator) _ _ all at.invariant.1 c.in-None.ensures.steps.0)

@@ -3,7 +3,8 @@ use Rattle.std.specs.Prelude.{slice_set, replicate}
 use Rattle.std.proofs.lemmas.List.{length-replicate}
 use Rattle.ipg_core.specs.MustTouch.{is_marked}
 use Rattle.ipg_order.specs.Needs.{Listed, IsReady, IsFirstReady, IsFirstFree}
-use Rattle.ipg_order.proofs.Going.{Goes, Shows, taken_after, taken_more, goes_more, goes_whole, goes_stuck, shows_none, shows_more, is_next, is_end, fewer_unset, set_size, none_set}
+use Rattle.ipg_order.proofs.Going.{Goes, Shows, taken_after, taken_more, goes_more, goes_whole, goes_stuck, shows_none, shows_more, is_next, is_end}
+use Rattle.ipg_order.proofs.Going.{fewer_unset, set_size, none_set}
 use Rattle.ipg_order.proofs.arranging.arrange.Goals as goal
 
 pub loop-next-init : goal.loop-next-init
@@ -13,7 +14,8 @@ loop-next-init c =
     record {
       goes = subst (Goes (Listed c.args.needs.now) n []) (sym empty) tt;
       shows = subst (λ order. Shows c.in_ok-taken.taken.items (taken_after [] order)) (sym empty)
-          (shows_none c.in_ok-taken.taken.items (λ v h. none_set n v (ap (λ fs. is_marked fs v) (let e : c.in_ok-taken.taken.items ≡ replicate n false = search rules in sym e) ∙ h)));
+          (shows_none c.in_ok-taken.taken.items
+          (λ v h. none_set n v (ap (λ fs. is_marked fs v) (let e : c.in_ok-taken.taken.items ≡ replicate n false = search rules in sym e) ∙ h)));
       size = (let e : c.in_ok-taken.taken.items ≡ replicate n false = search rules in ap length e) ∙ length-replicate n false;
     }
 
@@ -33,7 +35,8 @@ loop-next-preserved c =
     let next = is_next needs flags (taken_after [] order) u c.loop-next.invariant.shows first in
     let room : u < length flags = let a = first.ready.below in let b = c.loop-next.invariant.size in omega arith in
     record {
-      goes = subst (Goes (Listed needs) (length needs) []) (sym c.in_ok-push.ensures.items) (goes_more (Listed needs) (length needs) [] order u c.loop-next.invariant.goes next);
+      goes = subst (Goes (Listed needs) (length needs) []) (sym c.in_ok-push.ensures.items)
+          (goes_more (Listed needs) (length needs) [] order u c.loop-next.invariant.goes next);
       shows = subst (λ items. Shows (slice_set flags u true) (taken_after [] items)) (sym c.in_ok-push.ensures.items)
           (subst (Shows (slice_set flags u true)) (sym (taken_more [] order u)) (shows_more flags (taken_after [] order) u room c.loop-next.invariant.shows));
       size = set_size flags u ∙ c.loop-next.invariant.size;

@@ -17,8 +17,10 @@ loop-column-preserved c =
     record {
       size = step_size c.step-more.result old from to new c.step-more.ensures ∙ c.loop-column.invariant.size;
       keeps = λ k h. step_keeps c.step-more.result old from to new c.step-more.ensures k (c.loop-column.invariant.keeps k h);
-      sound = λ keys hands m s. step_sound c.step-more.result old c.args.hand c.loop-column.column new below c.step-more.ensures keys hands m (c.loop-column.invariant.sound keys hands m s);
-      pass = passing_next c.loop-column.more c.step-more.result c.args.hand c.loop-column.column c.args.flags.now.items old new room c.step-more.ensures c.loop-column.invariant.pass;
+      sound = λ keys hands m s. step_sound c.step-more.result old c.args.hand c.loop-column.column new below c.step-more.ensures keys hands m
+          (c.loop-column.invariant.sound keys hands m s);
+      pass = passing_next c.loop-column.more c.step-more.result c.args.hand c.loop-column.column c.args.flags.now.items old new room
+          c.step-more.ensures c.loop-column.invariant.pass;
     }
 
 pub returns-clause-closed : goal.returns-clause-closed
@@ -28,4 +30,5 @@ returns-clause-closed c = λ e.
     (subst (λ n. Passing c.loop-column.more c.args.hand n c.args.flags.now.items c.loop-column.flags.items) end c.loop-column.invariant.pass)
 
 pub returns-clause-fewer : goal.returns-clause-fewer
-returns-clause-fewer c = λ e. passed_fewer c.loop-column.more c.args.hand c.loop-column.column c.args.flags.now.items c.loop-column.flags.items e c.loop-column.invariant.pass
+returns-clause-fewer c = λ e. passed_fewer c.loop-column.more c.args.hand c.loop-column.column c.args.flags.now.items c.loop-column.flags.items e
+    c.loop-column.invariant.pass

@@ -12,7 +12,8 @@ loop-key-preserved c =
     let i = c.loop-key.key-index in
     let old = c.loop-key.flags.items in
     let key = get_or keys i 0 in
-    let room : key < length old = let a = each_below (length c.args.flags.now.items) keys i 0 c.loop-key-test.true c.requires in let b = c.loop-key.invariant.size in omega arith in
+    let room : key < length old = let a = each_below (length c.args.flags.now.items) keys i 0 c.loop-key-test.true c.requires in let b =
+    c.loop-key.invariant.size in omega arith in
     record {
       size = set_size old key ∙ c.loop-key.invariant.size;
       keeps = λ k h. set_keeps old key k (c.loop-key.invariant.keeps k h);
@@ -20,14 +21,17 @@ loop-key-preserved c =
       only = λ k h. two k (was_set old key k h);
     }
   where
-    one : (k : ℕ) → Contains (take c.loop-key.key-index c.args.keys.now) k ⊎ (k ≡ get_or c.args.keys.now c.loop-key.key-index 0) → is_marked (slice_set c.loop-key.flags.items (get_or c.args.keys.now c.loop-key.key-index 0) true) k ≡ true
+    one : (k : ℕ) → Contains (take c.loop-key.key-index c.args.keys.now) k ⊎ (k ≡ get_or c.args.keys.now c.loop-key.key-index 0)
+        → is_marked (slice_set c.loop-key.flags.items (get_or c.args.keys.now c.loop-key.key-index 0) true) k ≡ true
     one k (inl m) = set_keeps c.loop-key.flags.items (get_or c.args.keys.now c.loop-key.key-index 0) k (c.loop-key.invariant.sets k m)
     one k (inr e) =
         let a = each_below (length c.args.flags.now.items) c.args.keys.now c.loop-key.key-index 0 c.loop-key-test.true c.requires in
         let b = c.loop-key.invariant.size in
-        subst (λ n. is_marked (slice_set c.loop-key.flags.items (get_or c.args.keys.now c.loop-key.key-index 0) true) n ≡ true) (sym e) (set_here c.loop-key.flags.items (get_or c.args.keys.now c.loop-key.key-index 0) (omega arith))
+        subst (λ n. is_marked (slice_set c.loop-key.flags.items (get_or c.args.keys.now c.loop-key.key-index 0) true) n ≡ true) (sym e)
+        (set_here c.loop-key.flags.items (get_or c.args.keys.now c.loop-key.key-index 0) (omega arith))
 
-    two : (k : ℕ) → (get_or c.args.keys.now c.loop-key.key-index 0 ≡ k) ⊎ (is_marked c.loop-key.flags.items k ≡ true) → (is_marked c.args.flags.now.items k ≡ true) ⊎ Contains c.args.keys.now k
+    two : (k : ℕ) → (get_or c.args.keys.now c.loop-key.key-index 0 ≡ k) ⊎ (is_marked c.loop-key.flags.items k ≡ true)
+        → (is_marked c.args.flags.now.items k ≡ true) ⊎ Contains c.args.keys.now k
     two k (inl e) = inr (subst (Contains c.args.keys.now) e (is_there c.args.keys.now c.loop-key.key-index 0 c.loop-key-test.true))
     two k (inr h) = c.loop-key.invariant.only k h
 

@@ -6,4 +6,5 @@ use Rattle.ipg_order.proofs.named.add_cases.Given as goal
 
 -- those so far and those of what is left are all
 abbrev pub invariant-loop-case : goal.invariant-loop-case
-invariant-loop-case l = l.out.items ++ flat_map named (flat_map case_mentions (drop l.case-index l.cases)) ≡ l.fn.out.items ++ flat_map named (flat_map case_mentions l.cases)
+invariant-loop-case l = l.out.items ++ flat_map named (flat_map case_mentions (drop l.case-index l.cases)) ≡ l.fn.out.items ++ flat_map named
+    (flat_map case_mentions l.cases)

@@ -9,7 +9,8 @@ use Rattle.ipg_order.proofs.ordering.ordered_alts.Goals as goal
 pub overflow_cast-number : goal.overflow_cast-number
 overflow_cast-number c =
     let at = c.loop-alt in
-    let all : at.yielded ++ into_iter_items at.alt-iterator ≡ c.args.alts = at.invariant.0 ∙ c.into_iter-alt-iterator.ensures.into_iter_gives.0 ∙ c.into_vec-alt-items.ensures in
+    let all : at.yielded ++ into_iter_items at.alt-iterator ≡ c.args.alts = at.invariant.0 ∙ c.into_iter-alt-iterator.ensures.into_iter_gives.0
+    ∙ c.into_vec-alt-items.ensures in
     let parts = sym (length-append at.yielded (into_iter_items at.alt-iterator)) ∙ ap length all in
     let many = as_many c.args.local.holders.now c.args.local.flags.now c.args.rule 0 at.yielded at.ordered.items at.invariant.2 in
     let count = c.requires.count in
@@ -40,7 +41,8 @@ returns-in-Err-Stuck-clause-err c =
     let at = c.loop-alt in
     let holders = c.args.local.holders.now in
     let flags = c.args.local.flags.now in
-    let all : at.yielded ++ into_iter_items at.alt-iterator ≡ c.args.alts = at.invariant.0 ∙ c.into_iter-alt-iterator.ensures.into_iter_gives.0 ∙ c.into_vec-alt-items.ensures in
+    let all : at.yielded ++ into_iter_items at.alt-iterator ≡ c.args.alts = at.invariant.0 ∙ c.into_iter-alt-iterator.ensures.into_iter_gives.0
+    ∙ c.into_vec-alt-items.ensures in
     let steps : into_iter_items at.alt-iterator ≡ c.in-Some.alt ∷ into_iter_items c.next.new.self = c.in-Some.ensures.steps.0 in
     let parts : at.yielded ++ c.in-Some.alt ∷ into_iter_items c.next.new.self ≡ c.args.alts = ap (λ xs. at.yielded ++ xs) (sym steps) ∙ all in
     let many = as_many holders flags c.args.rule 0 at.yielded at.ordered.items at.invariant.2 in

@@ -10,7 +10,8 @@ use Rattle.ipg_order.proofs.ordering.ordered_rules.Goals as goal
 pub overflow_cast-number : goal.overflow_cast-number
 overflow_cast-number c =
     let at = c.loop-rule in
-    let all : at.yielded ++ into_iter_items at.rule-iterator ≡ c.args.rules = at.invariant.0 ∙ c.into_iter-rule-iterator.ensures.into_iter_gives.0 ∙ c.into_vec-rule-items.ensures in
+    let all : at.yielded ++ into_iter_items at.rule-iterator ≡ c.args.rules = at.invariant.0 ∙ c.into_iter-rule-iterator.ensures.into_iter_gives.0
+    ∙ c.into_vec-rule-items.ensures in
     let parts = sym (length-append at.yielded (into_iter_items at.rule-iterator)) ∙ ap length all in
     let many = as_many_rules c.args.local.holders.now c.args.local.flags.now 0 at.yielded at.ordered.items at.invariant.2 in
     let count = c.requires.count in
@@ -46,7 +47,8 @@ returns-in-Err-Stuck-clause-err c =
     let at = c.loop-rule in
     let holders = c.args.local.holders.now in
     let flags = c.args.local.flags.now in
-    let all : at.yielded ++ into_iter_items at.rule-iterator ≡ c.args.rules = at.invariant.0 ∙ c.into_iter-rule-iterator.ensures.into_iter_gives.0 ∙ c.into_vec-rule-items.ensures in
+    let all : at.yielded ++ into_iter_items at.rule-iterator ≡ c.args.rules = at.invariant.0 ∙ c.into_iter-rule-iterator.ensures.into_iter_gives.0
+    ∙ c.into_vec-rule-items.ensures in
     let steps : into_iter_items at.rule-iterator ≡ c.in-Some.rule ∷ into_iter_items c.next.new.self = c.in-Some.ensures.steps.0 in
     let parts : at.yielded ++ c.in-Some.rule ∷ into_iter_items c.next.new.self ≡ c.args.rules = ap (λ xs. at.yielded ++ xs) (sym steps) ∙ all in
     let many = as_many_rules holders flags 0 at.yielded at.ordered.items at.invariant.2 in

@@ -6,4 +6,6 @@ use Rattle.ipg_order.proofs.providers.add_cases.Given as goal
 
 -- those so far and those of what is left are all
 abbrev pub invariant-loop-case : goal.invariant-loop-case
-invariant-loop-case l = l.needs.items ++ flat_map (spec.sym_needs l.local.holders.now l.local.flags.now l.of.at (length l.of.terms.now) l.of.number) (flat_map case_syms (drop l.case-index l.cases)) ≡ l.fn.needs.items ++ flat_map (spec.sym_needs l.local.holders.now l.local.flags.now l.of.at (length l.of.terms.now) l.of.number) (flat_map case_syms l.cases)
+invariant-loop-case l = l.needs.items ++ flat_map (spec.sym_needs l.local.holders.now l.local.flags.now l.of.at (length l.of.terms.now) l.of.number)
+    (flat_map case_syms (drop l.case-index l.cases)) ≡ l.fn.needs.items ++ flat_map
+    (spec.sym_needs l.local.holders.now l.local.flags.now l.of.at (length l.of.terms.now) l.of.number) (flat_map case_syms l.cases)

@@ -14,12 +14,14 @@ all_hands-requires c = subst IsFew (sym c.rules-rules.ensures.rules) (is_few c.a
 pub closure-requires-clause-keys : goal.closure-requires-clause-keys
 closure-requires-clause-keys c =
     subst (AllByRecursion (λ k. k < length c.rules-rules.result.now * 256)) (sym (c.as_slice.ensures.value ∙ c.in_ok-keys.ensures))
-    (subst (λ rules. AllByRecursion (λ k. k < length rules * 256) (all_keys rules)) (sym c.rules-rules.ensures.rules) (keys_below c.args.c.now c.rules-rules.ensures.well_formed))
+    (subst (λ rules. AllByRecursion (λ k. k < length rules * 256) (all_keys rules)) (sym c.rules-rules.ensures.rules)
+    (keys_below c.args.c.now c.rules-rules.ensures.well_formed))
 
 pub closure-requires-clause-hands : goal.closure-requires-clause-hands
 closure-requires-clause-hands c =
     subst (AllByRecursion (IsRow (length c.rules-rules.result.now))) (sym (c.as_slice-2.ensures.value ∙ c.in_ok-hands.ensures))
-    (subst (λ rules. AllByRecursion (IsRow (length rules)) (all_hands rules)) (sym c.rules-rules.ensures.rules) (hands_below c.args.c.now c.rules-rules.ensures.well_formed))
+    (subst (λ rules. AllByRecursion (IsRow (length rules)) (all_hands rules)) (sym c.rules-rules.ensures.rules)
+    (hands_below c.args.c.now c.rules-rules.ensures.well_formed))
 
 pub returns : goal.returns
 returns c =

@@ -8,7 +8,8 @@ use Rattle.ipg_proof.proofs.live.live_cycles.Goals as goal
 pub new-requires-clause-flags : goal.new-requires-clause-flags
 new-requires-clause-flags c =
     let none = replicate (length c.args.edges.now) false in
-    ap length (c.as_slice.ensures.value ∙ c.in_ok-flags.ensures) ∙ length_with_set (map (λ entry. entry.0) c.args.dead.now) none ∙ length-replicate (length c.args.edges.now) false
+    ap length (c.as_slice.ensures.value ∙ c.in_ok-flags.ensures) ∙ length_with_set (map (λ entry. entry.0) c.args.dead.now) none
+    ∙ length-replicate (length c.args.edges.now) false
 
 pub returns-clause-graph : goal.returns-clause-graph
 returns-clause-graph c =

@@ -9,4 +9,5 @@ returns c =
     let graph = c.in_ok-cycles.ensures.graph
     ∙ ap (λ entries. live_graph c.args.g.now (map (λ entry. entry.0) entries)) c.as_slice-dead.ensures in
     renamed c.in_ok-cycles.cycles.graph (live_graph c.args.g.now dead) c.in_ok-cycles.cycles.at (length c.as_slice-dead.result.now) (length c.args.c.now.dead)
-    c.as_slice.result.now c.args.c.now.cycles c.other.result graph c.in_ok-cycles.ensures.start (ap length c.as_slice-dead.ensures) c.as_slice.ensures c.other.ensures
+    c.as_slice.result.now c.args.c.now.cycles c.other.result graph c.in_ok-cycles.ensures.start (ap length c.as_slice-dead.ensures) c.as_slice.ensures
+    c.other.ensures

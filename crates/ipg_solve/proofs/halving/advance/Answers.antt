@@ -11,46 +11,69 @@ use Rattle.ipg_solve.proofs.Solved.{halved_length, halved_full, point_solves}
 use Rattle.ipg_solve.proofs.halving.advance.Goals as goal
 
 -- what was closed, as the spans and the box are called here
-same_closed : (f : Formula) (around box : Boxed) (spans lent : List Span) (n : ℕ) (old new : List Step) → around ≡ box → lent ≡ spans → ClosesFormula lent (length box.bounds + length box.bounds) n f old new
+same_closed : (f : Formula) (around box : Boxed) (spans lent : List Span) (n : ℕ) (old new : List Step) → around ≡ box → lent ≡ spans
+    → ClosesFormula lent (length box.bounds + length box.bounds) n f old new
     → ClosesFormula spans (length around.bounds + length around.bounds) n f old new
 same_closed f around box spans lent n old new e is closes =
-    subst (λ ss. ClosesFormula ss (length around.bounds + length around.bounds) n f old new) is (subst (λ b. ClosesFormula lent (length b.bounds + length b.bounds) n f old new) (sym e) closes)
+    subst (λ ss. ClosesFormula ss (length around.bounds + length around.bounds) n f old new) is
+    (subst (λ b. ClosesFormula lent (length b.bounds + length b.bounds) n f old new) (sym e) closes)
 
 pub rules_out-requires : goal.rules_out-requires
 rules_out-requires g c =
-    omega (arith, c.requires.1.0, ap length c.deref.ensures.value, halved_length c.args.f.now g.around c.args.first c.args.spans.now.items (reverse c.args.cuts.now.items) c.args.steps.now.items c.requires.1.1.1)
+    omega (
+      arith,
+      c.requires.1.0,
+      ap length c.deref.ensures.value,
+      halved_length c.args.f.now g.around c.args.first c.args.spans.now.items
+          (reverse c.args.cuts.now.items) c.args.steps.now.items c.requires.1.1.1,
+    )
 
 pub close_part-requires-clause-width : goal.close_part-requires-clause-width
 close_part-requires-clause-width g c =
-    omega (arith, c.requires.1.0, ap length c.deref-then-rules_out.ensures.value, halved_length c.args.f.now g.around c.args.first c.args.spans.now.items (reverse c.args.cuts.now.items) c.args.steps.now.items c.requires.1.1.1)
+    omega (
+      arith,
+      c.requires.1.0,
+      ap length c.deref-then-rules_out.ensures.value,
+      halved_length c.args.f.now g.around c.args.first c.args.spans.now.items (reverse c.args.cuts.now.items) c.args.steps.now.items c.requires.1.1.1,
+    )
 
 pub widest-requires : goal.widest-requires
 widest-requires g c =
-    subst AreFull (sym c.deref-else-rules_out.ensures.value) (halved_full c.args.f.now g.around c.args.first c.args.spans.now.items (reverse c.args.cuts.now.items) c.args.steps.now.items c.requires.1.1.1 c.requires.1.1.0)
+    subst AreFull (sym c.deref-else-rules_out.ensures.value)
+    (halved_full c.args.f.now g.around c.args.first c.args.spans.now.items (reverse c.args.cuts.now.items) c.args.steps.now.items c.requires.1.1.1
+    c.requires.1.1.0)
 
 pub returns-then-branch : goal.returns-then-branch
 returns-then-branch g c =
     let n : ℕ = length c.deref-then-rules_out-2.result.now in
     let backs : Backs c.args.first (start_spans 0 g.around.bounds) c.back.new.spans.items (reverse c.args.cuts.now.items) (reverse c.back.new.cuts.items) true =
-    subst (Backs c.args.first (start_spans 0 g.around.bounds) c.back.new.spans.items (reverse c.args.cuts.now.items) (reverse c.back.new.cuts.items)) c.if-branch.true c.in_ok-back.ensures in
-    back_turns c.args.f.now g.around c.args.first n c.args.spans.now.items c.back.new.spans.items c.args.cuts.now.items c.back.new.cuts.items c.args.steps.now.items c.close_part.new.steps.items c.requires.1.1.1
+    subst (Backs c.args.first (start_spans 0 g.around.bounds) c.back.new.spans.items (reverse c.args.cuts.now.items) (reverse c.back.new.cuts.items))
+    c.if-branch.true c.in_ok-back.ensures in
+    back_turns c.args.f.now g.around c.args.first n c.args.spans.now.items c.back.new.spans.items c.args.cuts.now.items c.back.new.cuts.items
+    c.args.steps.now.items c.close_part.new.steps.items c.requires.1.1.1
     (ap length c.deref-then-rules_out-2.ensures.value)
-    (same_closed c.args.f.now g.around c.args.b.now c.args.spans.now.items c.deref-then-rules_out.result.now (c.args.first + n) c.args.steps.now.items c.close_part.new.steps.items c.requires.0 c.deref-then-rules_out.ensures.value c.in_ok-close_part.ensures)
+    (same_closed c.args.f.now g.around c.args.b.now c.args.spans.now.items c.deref-then-rules_out.result.now (c.args.first + n) c.args.steps.now.items
+    c.close_part.new.steps.items c.requires.0 c.deref-then-rules_out.ensures.value c.in_ok-close_part.ensures)
     backs
 
 pub returns-else-branch : goal.returns-else-branch
 returns-else-branch g c =
     let n : ℕ = length c.deref-then-rules_out-2.result.now in
-    let backs : Backs c.args.first (start_spans 0 g.around.bounds) c.back.new.spans.items (reverse c.args.cuts.now.items) (reverse c.back.new.cuts.items) false =
-    subst (Backs c.args.first (start_spans 0 g.around.bounds) c.back.new.spans.items (reverse c.args.cuts.now.items) (reverse c.back.new.cuts.items)) c.if-branch.false c.in_ok-back.ensures in
-    refuted_turns c.args.f.now g.around c.args.first n c.args.spans.now.items c.back.new.spans.items c.args.cuts.now.items c.back.new.cuts.items c.args.steps.now.items c.close_part.new.steps.items c.requires.1.1.1
+    let backs : Backs c.args.first (start_spans 0 g.around.bounds) c.back.new.spans.items (reverse c.args.cuts.now.items)
+    (reverse c.back.new.cuts.items) false =
+    subst (Backs c.args.first (start_spans 0 g.around.bounds) c.back.new.spans.items (reverse c.args.cuts.now.items) (reverse c.back.new.cuts.items))
+    c.if-branch.false c.in_ok-back.ensures in
+    refuted_turns c.args.f.now g.around c.args.first n c.args.spans.now.items c.back.new.spans.items c.args.cuts.now.items c.back.new.cuts.items
+    c.args.steps.now.items c.close_part.new.steps.items c.requires.1.1.1
     (ap length c.deref-then-rules_out-2.ensures.value)
-    (same_closed c.args.f.now g.around c.args.b.now c.args.spans.now.items c.deref-then-rules_out.result.now (c.args.first + n) c.args.steps.now.items c.close_part.new.steps.items c.requires.0 c.deref-then-rules_out.ensures.value c.in_ok-close_part.ensures)
+    (same_closed c.args.f.now g.around c.args.b.now c.args.spans.now.items c.deref-then-rules_out.result.now (c.args.first + n) c.args.steps.now.items
+    c.close_part.new.steps.items c.requires.0 c.deref-then-rules_out.ensures.value c.in_ok-close_part.ensures)
     backs
 
 pub returns-in_ok-cut_at-in-Some : goal.returns-in_ok-cut_at-in-Some
 returns-in_ok-cut_at-in-Some g c =
-    cut_turns c.args.f.now g.around c.args.first c.in-Some.x c.args.spans.now.items c.cut_at.new.spans.items c.args.cuts.now.items c.cut_at.new.cuts.items c.args.steps.now.items c.cut_at.new.steps.items c.requires.1.1.1
+    cut_turns c.args.f.now g.around c.args.first c.in-Some.x c.args.spans.now.items c.cut_at.new.spans.items c.args.cuts.now.items
+    c.cut_at.new.cuts.items c.args.steps.now.items c.cut_at.new.steps.items c.requires.1.1.1
     (omega (arith, c.in-Some.ensures.0, ap length c.deref-else-rules_out.ensures.value)) c.in_ok-cut_at-in-Some.ensures
 
 pub returns-in-None : goal.returns-in-None

@@ -11,11 +11,23 @@ pub loop-steps-init : goal.loop-steps-init
 loop-steps-init c =
     let is = c.in_ok-spans.ensures ∙ ap (start_spans 0) c.as_slice.ensures in
     begun c.args.f.now c.args.b.now c.in_ok-first.first c.in_ok-spans.spans.items c.new-cuts.result.items c.new-steps.result.items
-    (omega (arith, c.in_ok-first.ensures, c.in_ok-counted.ensures, c.len-vars.ensures, c.in_ok-count.ensures, c.in_ok-spans.spans.ok.0, ap length is, start_length 0 c.args.b.now.bounds, root_length c.args.f.now c.args.b.now)) is
+    (omega (
+      arith,
+      c.in_ok-first.ensures,
+      c.in_ok-counted.ensures,
+      c.len-vars.ensures,
+      c.in_ok-count.ensures,
+      c.in_ok-spans.spans.ok.0,
+      ap length is,
+      start_length 0 c.args.b.now.bounds,
+      root_length c.args.f.now c.args.b.now,
+    )) is
     c.new-cuts.ensures.items c.new-steps.ensures.items
 
 pub returns-in-Solved : goal.returns-in-Solved
 returns-in-Solved c =
-    let solves : Turns c.args.f.now c.args.b.now c.in_ok-first.first c.advance.new.spans.items c.loop-steps.cuts.items c.advance.new.cuts.items c.advance.new.steps.items Solved =
-    subst (Turns c.args.f.now c.args.b.now c.in_ok-first.first c.advance.new.spans.items c.loop-steps.cuts.items c.advance.new.cuts.items c.advance.new.steps.items) c.in-Solved.is c.in_ok-advance.ensures in
+    let solves : Turns c.args.f.now c.args.b.now c.in_ok-first.first c.advance.new.spans.items c.loop-steps.cuts.items c.advance.new.cuts.items
+    c.advance.new.steps.items Solved =
+    subst (Turns c.args.f.now c.args.b.now c.in_ok-first.first c.advance.new.spans.items c.loop-steps.cuts.items c.advance.new.cuts.items
+    c.advance.new.steps.items) c.in-Solved.is c.in_ok-advance.ensures in
     subst (Solves c.args.f.now c.args.b.now) (sym (c.in_ok-point-in-Solved.ensures ∙ ap (map (λ (s : Span). s.low)) c.deref.ensures.value)) solves

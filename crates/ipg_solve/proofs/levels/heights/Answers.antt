@@ -8,4 +8,5 @@ use Rattle.ipg_solve.proofs.levels.heights.Goals as goal
 pub loop-x-preserved : goal.loop-x-preserved
 loop-x-preserved c =
     let same : to_z w64 (of_z w64 c.height.result) ≡ c.height.result = omega (arith, ints, c.height.type_inv) in
-    height_more c.loop-x.x c.args.levels.now c.loop-x.values c.push.new.self (to_z w64 (of_z w64 c.height.result)) c.loop-x.invariant c.in_ok-push.ensures.ok (same ∙ c.height.ensures)
+    height_more c.loop-x.x c.args.levels.now c.loop-x.values c.push.new.self (to_z w64 (of_z w64 c.height.result)) c.loop-x.invariant
+    c.in_ok-push.ensures.ok (same ∙ c.height.ensures)

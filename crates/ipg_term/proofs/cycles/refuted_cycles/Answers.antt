@@ -15,7 +15,8 @@ refuted_cycle-requires c =
     let dead = map (λ entry. entry.0) c.args.dead.now in
     let old = c.loop-refuted.cycles in
     let answer = subst (AnswersWith old c.next_cycle.new.cycles) c.in-Some.is c.in_ok-cycle.ensures in
-    let simple = subst (λ graph. IsSimpleCycle graph c.in-Some.cycle) c.loop-refuted.invariant.graph (next_of old c.next_cycle.new.cycles c.in-Some.cycle answer).cycle in
+    let simple = subst (λ graph. IsSimpleCycle graph c.in-Some.cycle) c.loop-refuted.invariant.graph
+    (next_of old c.next_cycle.new.cycles c.in-Some.cycle answer).cycle in
     subst (λ edges. 0 < length (keeps (record { grammar = calls.grammar.now; marks = calls.marks.now; edges = edges }) c.in-Some.cycle)) (sym c.requires)
     (cycles_have_conditions calls.grammar.now calls.marks.now dead c.in-Some.cycle simple)
 
@@ -28,7 +29,8 @@ returns-in_err-entry c =
     let answer = subst (AnswersWith old new) c.in-Some.is c.in_ok-cycle.ensures in
     let why = c.in_err-entry.field-0.0 in
     handed_on (AreRefuted graph calls End) (IsReasonIn graph calls) why c.from_residual-in_err-entry.result c.from_residual-in_err-entry.ensures.1
-    (looped old new graph calls c.loop-refuted.refuted c.in-Some.cycle why c.loop-refuted.invariant.graph c.loop-refuted.invariant.refuted answer c.in_err-entry.ensures)
+    (looped old new graph calls c.loop-refuted.refuted c.in-Some.cycle why c.loop-refuted.invariant.graph c.loop-refuted.invariant.refuted answer
+    c.in_err-entry.ensures)
 
 pub loop-refuted-preserved : goal.loop-refuted-preserved
 loop-refuted-preserved c =

@@ -20,7 +20,8 @@ loop-rule-preserved c =
     let room = ap length (sym c.rules-body-items.ensures.rules) ∙ refl in
     record {
       sound = sound_next g c.mark-more.result old c.mark-more.new.marks.items c.loop-rule.rule c.body-item.result there m c.loop-rule.invariant.sound;
-      pass = passing_next g.rules c.loop-rule.more c.mark-more.result c.args.marks.now.items old c.mark-more.new.marks.items c.loop-rule.rule c.body-item.result there
+      pass = passing_next g.rules c.loop-rule.more c.mark-more.result c.args.marks.now.items old c.mark-more.new.marks.items c.loop-rule.rule
+          c.body-item.result there
           (let a = c.loop-rule.invariant.sound.size in omega arith) m c.loop-rule.invariant.pass;
     }
 
@@ -31,4 +32,5 @@ returns-clause-closed c = λ e.
     (subst (λ i. Passing c.loop-rule.more c.args.g.now.rules i c.args.marks.now.items c.loop-rule.marks.items) end c.loop-rule.invariant.pass)
 
 pub returns-clause-fewer : goal.returns-clause-fewer
-returns-clause-fewer c = λ e. passed_fewer c.args.g.now.rules c.loop-rule.more c.loop-rule.rule c.args.marks.now.items c.loop-rule.marks.items e c.loop-rule.invariant.pass
+returns-clause-fewer c = λ e. passed_fewer c.args.g.now.rules c.loop-rule.more c.loop-rule.rule c.args.marks.now.items c.loop-rule.marks.items e
+    c.loop-rule.invariant.pass

@@ -6,5 +6,6 @@ use Rattle.ipg_complete.proofs.left.Left.behind_items.Goals as goal
 
 pub returns : goal.returns
 returns c =
-    ap (behind_items (base_expr c.self.inside.base)) c.in_ok-push.ensures.items ∙ behind_one_more (base_expr c.self.inside.base) c.self.inside.since.items c.args.number
+    ap (behind_items (base_expr c.self.inside.base)) c.in_ok-push.ensures.items
+    ∙ behind_one_more (base_expr c.self.inside.base) c.self.inside.since.items c.args.number
     ∙ ap (After c.args.number) c.self.view_is

@@ -22,4 +22,5 @@ returns-in_err-cycles c =
 
 pub returns : goal.returns
 returns c =
-    both_second c.args.self.now.left.now c.dead.new.self.left.now c.cycles.new.self.left.now c.in_ok-dead.dead (Ok c.in_ok-cycles.cycles) c.in_ok-dead.ensures c.in_ok-cycles.ensures
+    both_second c.args.self.now.left.now c.dead.new.self.left.now c.cycles.new.self.left.now c.in_ok-dead.dead (Ok c.in_ok-cycles.cycles)
+    c.in_ok-dead.ensures c.in_ok-cycles.ensures

@@ -11,4 +11,5 @@ returns-in_err-count c =
 
 pub returns : goal.returns
 returns c =
-    cycle_second c.args.self.now.left.now c.number_from.new.self.left.now c.numbers.new.self.left.now c.in_ok-count.count c.numbers.result c.in_ok-count.ensures c.numbers.ensures
+    cycle_second c.args.self.now.left.now c.number_from.new.self.left.now c.numbers.new.self.left.now c.in_ok-count.count c.numbers.result
+    c.in_ok-count.ensures c.numbers.ensures

@@ -7,4 +7,5 @@ use Rattle.ipg_proof.proofs.reader.Reader.cycle_lines.Given as goal
 
 -- what is left to read answers as the whole
 abbrev pub invariant-loop-at : goal.invariant-loop-at
-invariant-loop-at l = ListGoes IsCycleEntry cycle_line alone_cycle_line one_cycle one_cycle_is l.count l.initial.self.left.now l.entries.items (l.count - l._at) l.self.left.now
+invariant-loop-at l = ListGoes IsCycleEntry cycle_line alone_cycle_line one_cycle one_cycle_is l.count l.initial.self.left.now l.entries.items
+    (l.count - l._at) l.self.left.now

@@ -7,4 +7,5 @@ use Rattle.ipg_proof.proofs.reader.Reader.edge_lines.Given as goal
 
 -- what is left to read answers as the whole
 abbrev pub invariant-loop-at : goal.invariant-loop-at
-invariant-loop-at l = ListGoes IsEdgeEntry edge_line alone_edge_line one_edge one_edge_is l.count l.initial.self.left.now l.entries.items (l.count - l._at) l.self.left.now
+invariant-loop-at l = ListGoes IsEdgeEntry edge_line alone_edge_line one_edge one_edge_is l.count l.initial.self.left.now l.entries.items
+    (l.count - l._at) l.self.left.now

@@ -6,4 +6,5 @@ use Rattle.ipg_proof.proofs.reader.Reader.number.Goals as goal
 
 pub returns : goal.returns
 returns c =
-    read_same (IsFrom 0) IsShort (number_text c.args.stop) c.args.self.now.left.now c.number_from.new.self.left.now c.number_from.result (λ n is. is.1) short_is c.number_from.ensures
+    read_same (IsFrom 0) IsShort (number_text c.args.stop) c.args.self.now.left.now c.number_from.new.self.left.now c.number_from.result
+    (λ n is. is.1) short_is c.number_from.ensures

@@ -7,4 +7,5 @@ use Rattle.ipg_proof.proofs.reader.Reader.numbers.Given as goal
 
 -- what is left to read answers as the whole
 abbrev pub invariant-loop-at : goal.invariant-loop-at
-invariant-loop-at l = ListGoes IsShort (number_text 32) (alone_short 32 low) 1 one_short l.count l.initial.self.left.now l.numbers.items (l.count - l._at) l.self.left.now
+invariant-loop-at l = ListGoes IsShort (number_text 32) (alone_short 32 low) 1 one_short l.count l.initial.self.left.now l.numbers.items
+    (l.count - l._at) l.self.left.now

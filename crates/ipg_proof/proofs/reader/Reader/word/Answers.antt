@@ -11,7 +11,8 @@ returns-in_err-byte c =
     let i = c.loop-b.b-index in
     let goes = subst (λ left. WordGoes word first left c.loop-b.self.left.now) (drop_more word i 0 c.loop-b-test.true) c.loop-b.invariant in
     exits any (always word) first c.byte.new.self.left.now c.from_residual.result c.in_err-byte.field-0.0 c.from_residual.ensures.1
-    (word_halts word first (get_or word i 0) (drop (i + 1) word) c.loop-b.self.left.now c.byte.new.self.left.now c.in_err-byte.field-0.0 c.in_err-byte.ensures goes)
+    (word_halts word first (get_or word i 0) (drop (i + 1) word) c.loop-b.self.left.now c.byte.new.self.left.now c.in_err-byte.field-0.0
+    c.in_err-byte.ensures goes)
 
 pub loop-b-preserved : goal.loop-b-preserved
 loop-b-preserved c =
