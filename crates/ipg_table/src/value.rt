@@ -1,6 +1,6 @@
 //! The value of an expression, computed from its rows on a stack that is lent.
 
-ghost use Rattle.std.specs.Prelude.{◌≡◌, ◌≤◌, [], ◌∷◌, length, not, true, false, nat_lt, pos, MatchOption, if◌then◌else◌};
+ghost use Rattle.std.specs.Prelude.{◌≡◌, ◌≤◌, ℕ, suc, [], ◌∷◌, length, not, true, false, nat_lt, pos, IfSome, MatchOption, if◌then◌else◌};
 ghost use Rattle.ipg_num.specs.Number.{limited, flag, apply_of, negate_of};
 ghost use Rattle.ipg_core.specs.Eval as spec;
 ghost use Rattle.ipg_core.specs.Environment.{Environment};
@@ -294,11 +294,33 @@ fn step<R: Results>(op: &Op, results: &R, area: &mut [i64], top: usize) -> Turn
     }
 }
 
+/// What a single row computes, where it takes nothing off the stack: no stack is needed then.
+#[inline]
+fn alone<R: Results>(ops: &[Op], results: &R) -> Option<Answer>
+    ensures { (env : Environment) (room : ℕ) → R.stands results.now env → IfSome result (λ answer. answer ≡ run env (suc room) 0 ops.now []) }
+{
+    if ops.len() != 1 {
+        return None;
+    }
+    match &ops[0] {
+        Op::Num(value) => Some(kept(Answer::Val(*value))),
+        Op::Eoi => Some(kept(whole(results.eoi()))),
+        Op::Own(attr) => Some(kept(found(results.own(*attr)))),
+        Op::Seen { term, sym, field } => Some(kept(found(results.seen(*term, sym, *field)))),
+        _ => None,
+    }
+}
+
 /// What rows compute.
 pub(crate) fn evaluate<R: Results>(ops: &[Op], results: &R, area: &mut [i64]) -> Answer
     ensures value { (env : Environment) → R.stands results.now env → result ≡ run env (length area.old) 0 ops.now [] }
     ensures area { length area.new ≡ length area.old }
 {
+    if !area.is_empty() {
+        if let Some(answer) = alone(ops, results) {
+            return answer;
+        }
+    }
     let mut left = ops;
     let mut top = 0;
     while !left.is_empty() {

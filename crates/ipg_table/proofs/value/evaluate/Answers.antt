@@ -1,8 +1,14 @@
-use Rattle.std.proofs.Common.{◌≡◌, ◌<◌, length, subst, ◌∙◌, rules}
-use Rattle.ipg_table.specs.Running.{Next, computed}
+use Rattle.std.proofs.Common.{◌≡◌, ◌-◌, ◌<◌, [], length, subst, ◌∙◌, rules, arith}
+use Rattle.ipg_table.specs.Running.{Next, computed, run}
 use Rattle.ipg_table.specs.Stack.{stacked}
 use Rattle.ipg_table.proofs.Turning.{turn_on}
 use Rattle.ipg_table.proofs.value.evaluate.Goals as goal
+
+pub returns-in-Some-clause-value : goal.returns-in-Some-clause-value
+returns-in-Some-clause-value g c env stands =
+    let room = length c.args.area.now in
+    let some : 0 < room = search rules in
+    subst (λ n. c.in-Some.answer ≡ run env n 0 c.args.ops.now []) (omega (arith, some)) (c.in-Some.ensures env (room - 1) stands)
 
 pub loop-left-preserved : goal.loop-left-preserved
 loop-left-preserved g c =
