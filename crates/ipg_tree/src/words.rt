@@ -31,10 +31,13 @@ pub(crate) fn put<S: Sink>(out: &mut S, text: &[u8]) -> Result<(), SinkFault>
     out.write(text)
 }
 
-/// Writes a number.
+/// Writes a number of one digit or more.
 pub(crate) fn put_number<S: Sink>(out: &mut S, n: u64) -> Result<(), SinkFault>
     ensures { Puts result (decimal n) (S.output out.old) (S.faults out.old) (S.output out.new) (S.faults out.new) }
 {
+    if n < 10 {
+        return put(out, &[b'0' + n as u8]);
+    }
     let mut buffer = Buffer::new();
     put(out, buffer.format(n).as_bytes())
 }
