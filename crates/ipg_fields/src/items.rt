@@ -51,7 +51,8 @@ pub fn item_field<A: Allocator + Clone + Drop>(
     index: i64,
     field: CoreField,
 ) -> Option<i64>
-    ensures { (g : Grammar) → StandFor tables.now g → OfKids tables.now store.now items.now (λ ones. AreShort ones → result ≡ environment.field_of_item g.names field (spec.item_at ones index)) }
+    ensures { (g : Grammar) → StandFor tables.now g
+        → OfKids tables.now store.now items.now (λ ones. AreShort ones → result ≡ environment.field_of_item g.names field (spec.item_at ones index)) }
 {
     match row_at(items, index) {
         Some(kid) => field_of(store, tables, field, kid),

@@ -1,5 +1,6 @@
 -- What stands in tables stands in those that grew out of them.
-use Rattle.std.proofs.Common.{◌≡◌, ℕ, zero, suc, ◌+◌, ◌≤◌, ◌<◌, List, [], ◌∷◌, ◌++◌, length, take, drop, refl, sym, ap, subst, ◌∙◌, arith, append_assoc, append-nil, le_trans, le_refl, Some, Result, Ok, Err, OnOk, IfOk, slice_get, get_or}
+use Rattle.std.proofs.Common.{◌≡◌, ℕ, zero, suc, ◌+◌, ◌≤◌, ◌<◌, List, [], ◌∷◌, ◌++◌, length, take, drop, refl, sym, ap, subst, ◌∙◌, arith}
+use Rattle.std.proofs.Common.{append_assoc, append-nil, le_trans, le_refl, Some, Result, Ok, Err, OnOk, IfOk, slice_get, get_or}
 use Rattle.std.proofs.Math.Seq.{drop-append_seam, take-length, take-suc}
 use Rattle.std.proofs.lemmas.List.{length-append, length-drop, take-append-le, take_all, drop-append-le, get_or_append_left}
 use Rattle.std.proofs.lemmas.Option.{slice_get_within, slice_get-get_or, get_or_from_slice_get}

@@ -1,5 +1,6 @@
 -- The rows of an expression compute its value, and put it on the stack.
-use Rattle.std.proofs.Common.{◌≡◌, ℕ, suc, ◌+◌, ◌≤◌, ◌<◌, ◌^◌, max, List, [], ◌∷◌, ◌++◌, length, Bool, true, false, not, nat_lt, refl, sym, ap, subst, ◌∙◌, arith, append_assoc, append-nil, ℤ, pos, negsuc, Option, Some, None, if◌then◌else◌}
+use Rattle.std.proofs.Common.{◌≡◌, ℕ, suc, ◌+◌, ◌≤◌, ◌<◌, ◌^◌, max, List, [], ◌∷◌, ◌++◌, length, Bool, true, false, not, nat_lt, refl, sym, ap, subst}
+use Rattle.std.proofs.Common.{◌∙◌, arith, append_assoc, append-nil, ℤ, pos, negsuc, Option, Some, None, if◌then◌else◌}
 use Rattle.std.proofs.lemmas.Bool.{lt-ltb}
 use Rattle.std.proofs.Math.Nat.{le-max_left, le-max_right}
 use Rattle.ipg_num.specs.Number.{limited, flag, apply_of, negate_of}
@@ -64,7 +65,8 @@ put_is : (room : ℕ) (answer : Answer) (skip : ℕ) (stack : List ℤ) (next : 
 put_is room answer skip stack next h =
     ap (λ b. on_value (on_value answer limited) (λ z. if b then next skip (z ∷ stack) else Fail)) (lt-ltb (length stack) room h)
 
-skipped : (env : Environment) (room : ℕ) (passed rest : List Op) (stack : List ℤ) → run env room (length passed) (passed ++ rest) stack ≡ run env room 0 rest stack
+skipped : (env : Environment) (room : ℕ) (passed rest : List Op) (stack : List ℤ)
+    → run env room (length passed) (passed ++ rest) stack ≡ run env room 0 rest stack
 skipped env room [] rest stack = refl
 skipped env room (op ∷ passed) rest stack = skipped env room passed rest stack
 
@@ -121,7 +123,8 @@ module _ (env : Environment) (room : ℕ) where
       ∙ put_is room (reading (map-CoreExpr CoreExpr Reading eval y) env) 0 stack (λ skip stack. run env room skip rest stack) within)
 
   -- an operand, and a row that takes it
-  operand : (a : Sure) (op : Op) (f : ℤ → Answer) → ((x : ℤ) (stack : List ℤ) (next : Next) → computed env room op (x ∷ stack) next ≡ put room (f x) 0 stack next)
+  operand : (a : Sure) (op : Op) (f : ℤ → Answer)
+      → ((x : ℤ) (stack : List ℤ) (next : Next) → computed env room op (x ∷ stack) next ≡ put room (f x) 0 stack next)
       → (rest : List Op) (stack : List ℤ) → depth a.0 + 1 + length stack ≤ room
       → run env room 0 ((code a.0 ++ op ∷ []) ++ rest) stack ≡ on_value (on_value (on_value (eval a.0 env) f) limited) (λ z. run env room 0 rest (z ∷ stack))
   operand a op f does rest stack fits =
@@ -160,7 +163,8 @@ module _ (env : Environment) (room : ℕ) where
         ≡ on_value (on_value answer limited) (λ z. run env room 0 rest (z ∷ stack))
     passed answer =
         put_is room answer (length (code b.0) + 1) stack (λ skip stack. run env room skip (code b.0 ++ last ∷ rest) stack) within
-        ∙ same_rest (on_value answer limited) (λ z. run env room (length (code b.0) + 1) (code b.0 ++ last ∷ rest) (z ∷ stack)) (λ z. run env room 0 rest (z ∷ stack))
+        ∙ same_rest (on_value answer limited) (λ z. run env room (length (code b.0) + 1) (code b.0 ++ last ∷ rest) (z ∷ stack))
+        (λ z. run env room 0 rest (z ∷ stack))
         (λ z. skipped_closed env room (code b.0) rest last (z ∷ stack))
 
   -- the right side of `&&` and of `||`
@@ -231,7 +235,8 @@ module _ (env : Environment) (room : ℕ) where
       ∙ ap (λ l. code c.0 ++ cond ∷ l) (append_assoc (code a.0) (else' ∷ (code b.0 ++ ops.Close ∷ [])) rest
       ∙ ap (λ l. code a.0 ++ else' ∷ l) (append_assoc (code b.0) (ops.Close ∷ []) rest)))
       ∙ c.1 (cond ∷ rows) stack deep
-      ∙ chained (eval c.0 env) (λ x. if is_zero x then eval b.0 env else eval a.0 env) (λ z. run env room 0 rest (z ∷ stack)) (λ x. run env room 0 (cond ∷ rows) (x ∷ stack))
+      ∙ chained (eval c.0 env) (λ x. if is_zero x then eval b.0 env else eval a.0 env) (λ z. run env room 0 rest (z ∷ stack))
+      (λ x. run env room 0 (cond ∷ rows) (x ∷ stack))
       (λ x. choice_side (is_zero x) a b rest stack one other)
 
   end_side : (end : Option ℕ) (left : Sure) (rest : List Op) (stack : List ℤ) → length stack < room → depth left.0 + length stack ≤ room
@@ -258,7 +263,8 @@ module _ (env : Environment) (room : ℕ) where
   step CoreExpr-F.Loop = leaf CoreExpr-F.Loop ops.Loop refl refl (λ stack next. refl)
   step (CoreExpr-F.Seen term sym' field) = leaf (CoreExpr-F.Seen term sym' field) (ops.Seen term sym' field) refl refl (λ stack next. refl)
   step (CoreExpr-F.Item term index field) = level (CoreExpr-F.Item term index.0 field)
-      (operand index (ops.Item term field) (λ i. found (field_of_item env.names field (item_at (items_so_far (done_at env.done term)) i))) (λ x stack next. refl))
+      (operand index (ops.Item term field) (λ i. found (field_of_item env.names field (item_at (items_so_far (done_at env.done term)) i)))
+      (λ x stack next. refl))
   step (CoreExpr-F.After term left) = level (CoreExpr-F.After term left.0) (after term left)
   step (CoreExpr-F.Neg a) = level (CoreExpr-F.Neg a.0) (operand a ops.Neg negate_of (λ x stack next. refl))
   step (CoreExpr-F.Not a) = level (CoreExpr-F.Not a.0) (operand a ops.Not (λ x. flag (is_zero x)) (λ x stack next. refl))
@@ -269,7 +275,8 @@ module _ (env : Environment) (room : ℕ) where
       let deep : depth a.0 + length stack ≤ room = omega arith in
       let other : depth b.0 + length stack ≤ room = omega arith in
       let within : length stack < room = omega arith in
-      sides a b (ops.Both (length (code b.0) + 1)) (λ x. if is_zero x then flag false else on_value (eval b.0 env) (λ y. flag (not (is_zero y)))) rest stack deep
+      sides a b (ops.Both (length (code b.0) + 1)) (λ x. if is_zero x then flag false else on_value (eval b.0 env) (λ y. flag (not (is_zero y)))) rest
+      stack deep
       (λ x. both_side (is_zero x) b rest stack within other))
   step (CoreExpr-F.Either a b) = level (CoreExpr-F.Either a.0 b.0) (λ rest stack fits.
       let la = le-max_left (depth a.0) (depth b.0) in
@@ -277,7 +284,8 @@ module _ (env : Environment) (room : ℕ) where
       let deep : depth a.0 + length stack ≤ room = omega arith in
       let other : depth b.0 + length stack ≤ room = omega arith in
       let within : length stack < room = omega arith in
-      sides a b (ops.Either (length (code b.0) + 1)) (λ x. if is_zero x then on_value (eval b.0 env) (λ y. flag (not (is_zero y))) else flag true) rest stack deep
+      sides a b (ops.Either (length (code b.0) + 1)) (λ x. if is_zero x then on_value (eval b.0 env) (λ y. flag (not (is_zero y))) else flag true)
+      rest stack deep
       (λ x. either_side (is_zero x) b rest stack within other))
   step (CoreExpr-F.Cond c a b) = level (CoreExpr-F.Cond c.0 a.0 b.0) (choice c a b)
 

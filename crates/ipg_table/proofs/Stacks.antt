@@ -1,5 +1,6 @@
 -- Taking from the stack, and putting on it.
-use Rattle.std.proofs.Common.{◌≡◌, ◌≢◌, ℕ, zero, suc, ◌+◌, ◌-◌, ◌<◌, ◌≤◌, List, [], ◌∷◌, length, refl, sym, ap, subst, ◌∙◌, arith, get_or, set, ℤ, pos, nat_lt, true, false}
+use Rattle.std.proofs.Common.{◌≡◌, ◌≢◌, ℕ, zero, suc, ◌+◌, ◌-◌, ◌<◌, ◌≤◌, List, [], ◌∷◌, length, refl, sym, ap, subst, ◌∙◌, arith, get_or, set, ℤ}
+use Rattle.std.proofs.Common.{pos, nat_lt, true, false}
 use Rattle.std.proofs.lemmas.List.{get_or-set_same, get_or-set_other, length-set}
 use Rattle.std.proofs.lemmas.Bool.{lt-ltb, le-ltb}
 use Rattle.ipg_table.specs.Stack.{stacked}
@@ -28,7 +29,8 @@ below area top zero value h = refl
 below area top (suc n) value h =
     let other : n ≢ top = (λ e. absurd (omega arith)) in
     let less : n ≤ top = omega arith in
-    ap (λ x. x ∷ stacked (set area top value) n) (get_or-set_other area top n value (pos 0) other) ∙ ap (λ s. get_or area n (pos 0) ∷ s) (below area top n value less)
+    ap (λ x. x ∷ stacked (set area top value) n) (get_or-set_other area top n value (pos 0) other) ∙ ap (λ s. get_or area n (pos 0) ∷ s)
+    (below area top n value less)
 
 pub placed : (area : List ℤ) (top : ℕ) (value : ℤ) → top < length area → stacked (set area top value) (top + 1) ≡ value ∷ stacked area top
 placed area top value h =

@@ -2,7 +2,8 @@
 
 ghost use Rattle.std.specs.Prelude.{◌≡◌, [], ◌∷◌, ◌++◌, ◌+◌, ◌≤◌, ◌<◌, length, slice_get, Some, IfOk, OnOk};
 ghost use Rattle.std.specs.List.{AllByRecursion};
-ghost use Rattle.ipg_table.specs.Rows.{HoldsExpr, HoldsSlot, HoldsCase, HoldsTerm, HoldsInstr, HoldsAlt, HoldsRule, Each, Stands, StandsEach, sets_of, attrs_in};
+ghost use Rattle.ipg_table.specs.Rows.{HoldsExpr, HoldsSlot, HoldsCase, HoldsTerm, HoldsInstr, HoldsAlt, HoldsRule, Each, Stands, StandsEach, sets_of};
+ghost use Rattle.ipg_table.specs.Rows.{attrs_in};
 ghost use Rattle.ipg_table.specs.Grows.{draft_rows, Grows, NamesTerms};
 
 use crate::emit;

@@ -41,9 +41,32 @@ impl Model for Tables {
 
     ghost Value = { Rows };
 
-    ghost view = { λ t. record { rules = t.rules.items; alts = t.alts.items; instrs = t.instrs.items; cases = t.cases.items; ops = t.ops.items; sets = t.sets.items; syms = t.syms.items; bytes = t.bytes.items; names = t.names.items; depth = t.depth } };
+    ghost view = { λ t. record {
+      rules = t.rules.items;
+      alts = t.alts.items;
+      instrs = t.instrs.items;
+      cases = t.cases.items;
+      ops = t.ops.items;
+      sets = t.sets.items;
+      syms = t.syms.items;
+      bytes = t.bytes.items;
+      names = t.names.items;
+      depth = t.depth;
+    } };
 
-    ghost invariant = { λ t. Tabled (record { rules = t.rules.items; alts = t.alts.items; instrs = t.instrs.items; cases = t.cases.items; ops = t.ops.items; sets = t.sets.items; syms = t.syms.items; bytes = t.bytes.items; names = t.names.items; depth = t.depth }) };
+    ghost invariant = { λ t. Tabled
+        (record {
+          rules = t.rules.items;
+          alts = t.alts.items;
+          instrs = t.instrs.items;
+          cases = t.cases.items;
+          ops = t.ops.items;
+          sets = t.sets.items;
+          syms = t.syms.items;
+          bytes = t.bytes.items;
+          names = t.names.items;
+          depth = t.depth;
+        }) };
 }
 
 fn rule_rows(

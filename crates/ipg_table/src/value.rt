@@ -94,7 +94,8 @@ fn take(area: &[i64], top: usize) -> Option<Taken>
 /// Puts a number on the stack, where there is room.
 fn place(area: &mut [i64], top: usize, value: i64, skip: u32) -> Turn
     requires { top ≤ length area.now }
-    ensures turn { Turns result area.new (λ next. if nat_lt (length (stacked area.old top)) (length area.old) then next skip (value ∷ stacked area.old top) else Answer.Fail) }
+    ensures turn { Turns result area.new (λ next. if nat_lt (length (stacked area.old top)) (length area.old)
+        then next skip (value ∷ stacked area.old top) else Answer.Fail) }
     ensures within { StackWithin result area.new }
     ensures area { length area.new ≡ length area.old }
 {
@@ -122,7 +123,10 @@ fn put(area: &mut [i64], top: usize, answer: Answer, skip: u32) -> Turn
 
 fn item<R: Results>(results: &R, area: &mut [i64], top: usize, term: u32, field: CoreField) -> Turn
     requires { top ≤ length area.now }
-    ensures turn { (env : Environment) → R.stands results.now env → Turns result area.new (λ next. on_top (stacked area.old top) (λ i rest. running.put (length area.old) (spec.found (envs.field_of_item env.names field (spec.item_at (envs.items_so_far (envs.done_at env.done term)) i))) 0 rest next)) }
+    ensures turn { (env : Environment) → R.stands results.now env
+        → Turns result area.new (λ next. on_top (stacked area.old top)
+        (λ i rest. running.put (length area.old)
+        (spec.found (envs.field_of_item env.names field (spec.item_at (envs.items_so_far (envs.done_at env.done term)) i))) 0 rest next)) }
     ensures within { StackWithin result area.new }
     ensures area { length area.new ≡ length area.old }
 {
@@ -139,7 +143,9 @@ fn item<R: Results>(results: &R, area: &mut [i64], top: usize, term: u32, field:
 
 fn end<R: Results>(results: &R, area: &mut [i64], top: usize, term: u32, skip: u32) -> Turn
     requires { top ≤ length area.now }
-    ensures turn { (env : Environment) → R.stands results.now env → Turns result area.new (running.put_end (length area.old) (spec.greatest_end (envs.items_so_far (envs.done_at env.done term))) skip (stacked area.old top)) }
+    ensures turn { (env : Environment) → R.stands results.now env
+        → Turns result area.new (running.put_end (length area.old) (spec.greatest_end (envs.items_so_far (envs.done_at env.done term))) skip
+        (stacked area.old top)) }
     ensures within { StackWithin result area.new }
     ensures area { length area.new ≡ length area.old }
 {
@@ -176,7 +182,8 @@ fn inverse(area: &mut [i64], top: usize) -> Turn
 
 fn two(area: &mut [i64], top: usize, op: Op2) -> Turn
     requires { top ≤ length area.now }
-    ensures turn { Turns result area.new (λ next. on_top (stacked area.old top) (λ y rest. on_top rest (λ x rest. running.put (length area.old) (apply_of op x y) 0 rest next))) }
+    ensures turn { Turns result area.new
+        (λ next. on_top (stacked area.old top) (λ y rest. on_top rest (λ x rest. running.put (length area.old) (apply_of op x y) 0 rest next))) }
     ensures within { StackWithin result area.new }
     ensures area { length area.new ≡ length area.old }
 {
@@ -191,7 +198,9 @@ fn two(area: &mut [i64], top: usize, op: Op2) -> Turn
 
 fn both(area: &mut [i64], top: usize, skip: u32) -> Turn
     requires { top ≤ length area.now }
-    ensures turn { Turns result area.new (λ next. on_top (stacked area.old top) (λ x rest. if spec.is_zero x then running.put (length area.old) (flag false) skip rest next else next 0 rest)) }
+    ensures turn { Turns result area.new
+        (λ next. on_top (stacked area.old top) (λ x rest. if spec.is_zero x then running.put (length area.old) (flag false) skip rest next
+        else next 0 rest)) }
     ensures within { StackWithin result area.new }
     ensures area { length area.new ≡ length area.old }
 {
@@ -212,7 +221,9 @@ fn both(area: &mut [i64], top: usize, skip: u32) -> Turn
 
 fn either(area: &mut [i64], top: usize, skip: u32) -> Turn
     requires { top ≤ length area.now }
-    ensures turn { Turns result area.new (λ next. on_top (stacked area.old top) (λ x rest. if spec.is_zero x then next 0 rest else running.put (length area.old) (flag true) skip rest next)) }
+    ensures turn { Turns result area.new
+        (λ next. on_top (stacked area.old top) (λ x rest. if spec.is_zero x then next 0 rest else running.put (length area.old) (flag true) skip rest
+        next)) }
     ensures within { StackWithin result area.new }
     ensures area { length area.new ≡ length area.old }
 {
@@ -233,7 +244,8 @@ fn either(area: &mut [i64], top: usize, skip: u32) -> Turn
 
 fn as_truth(area: &mut [i64], top: usize) -> Turn
     requires { top ≤ length area.now }
-    ensures turn { Turns result area.new (λ next. on_top (stacked area.old top) (λ y rest. running.put (length area.old) (flag (not (spec.is_zero y))) 0 rest next)) }
+    ensures turn { Turns result area.new
+        (λ next. on_top (stacked area.old top) (λ y rest. running.put (length area.old) (flag (not (spec.is_zero y))) 0 rest next)) }
     ensures within { StackWithin result area.new }
     ensures area { length area.new ≡ length area.old }
 {

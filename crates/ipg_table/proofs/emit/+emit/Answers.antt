@@ -19,7 +19,8 @@ level-returns-in_ok-skip-in-After-clause-ops t c =
     let at = c.in_ok-at-in-After.ensures in
     let skip = c.in_ok-skip-in-After.ensures in
     always_ok c.deeper.result
-    (patch (After c.in-After.term) old _ _ _ (code c.get-in-After.result.now) Close Close _ _ at.at at.ops c.in_ok-depth-in-After.ensures.ops skip.behind skip.ops
+    (patch (After c.in-After.term) old _ _ _ (code c.get-in-After.result.now) Close Close _ _ at.at at.ops c.in_ok-depth-in-After.ensures.ops
+    skip.behind skip.ops
     ∙ ap (λ l. old ++ After c.in-After.term (length (code l) + 1) ∷ (code l ++ Close ∷ [])) c.get-in-After.ensures
     ∙ ap (λ rows. old ++ rows) (sym (after_rows c.args.e.now c.in-After.left c.in-After.term c.in-After.is)))
 
@@ -68,7 +69,8 @@ level-returns-in_ok-skip-in-Both-clause-ops t c =
     let skip = c.in_ok-skip-in-Both.ensures in
     let right = code c.get-in-Both-2.result.now in
     always_ok c.deeper-in-Both.result
-    (patch_behind Both old (code c.get-in-Both.result.now) _ _ _ _ right Close Truth _ _ c.in_ok-left-in-Both.ensures.ops at.at at.ops c.in_ok-right-in-Both.ensures.ops skip.behind skip.ops
+    (patch_behind Both old (code c.get-in-Both.result.now) _ _ _ _ right Close Truth _ _ c.in_ok-left-in-Both.ensures.ops at.at at.ops
+    c.in_ok-right-in-Both.ensures.ops skip.behind skip.ops
     ∙ ap (λ a. old ++ (code a ++ Both (length right + 1) ∷ (right ++ Truth ∷ []))) c.get-in-Both.ensures
     ∙ ap (λ b. old ++ (code c.in-Both.a ++ Both (length (code b) + 1) ∷ (code b ++ Truth ∷ []))) c.get-in-Both-2.ensures
     ∙ ap (λ rows. old ++ rows) (sym (both_rows c.args.e.now c.in-Both.a c.in-Both.b c.in-Both.is)))
@@ -80,7 +82,8 @@ level-returns-in_ok-skip-in-Either-clause-ops t c =
     let skip = c.in_ok-skip-in-Either.ensures in
     let right = code c.get-in-Either-2.result.now in
     always_ok c.deeper-in-Either.result
-    (patch_behind Either old (code c.get-in-Either.result.now) _ _ _ _ right Close Truth _ _ c.in_ok-left-in-Either.ensures.ops at.at at.ops c.in_ok-right-in-Either.ensures.ops skip.behind skip.ops
+    (patch_behind Either old (code c.get-in-Either.result.now) _ _ _ _ right Close Truth _ _ c.in_ok-left-in-Either.ensures.ops at.at at.ops
+    c.in_ok-right-in-Either.ensures.ops skip.behind skip.ops
     ∙ ap (λ a. old ++ (code a ++ Either (length right + 1) ∷ (right ++ Truth ∷ []))) c.get-in-Either.ensures
     ∙ ap (λ b. old ++ (code c.in-Either.a ++ Either (length (code b) + 1) ∷ (code b ++ Truth ∷ []))) c.get-in-Either-2.ensures
     ∙ ap (λ rows. old ++ rows) (sym (either_rows c.args.e.now c.in-Either.a c.in-Either.b c.in-Either.is)))
@@ -95,7 +98,8 @@ level-returns-in_ok-skip-in-Cond-2-clause-ops t c =
     let left = code c.get-in-Cond-2.result.now in
     let right = code c.get-in-Cond-3.result.now in
     always_ok c.deeper-in-Cond.result
-    (patch_choice old _ _ _ _ _ _ tested left right _ _ _ _ c.in_ok-tested-in-Cond.ensures.ops first.at first.ops c.in_ok-left-in-Cond.ensures.ops (c.len-second.ensures ∙ c.expr-in-Cond-2.new.ops.ok.0) skip.behind skip.ops c.in_ok-right-in-Cond.ensures.ops other.behind other.ops
+    (patch_choice old _ _ _ _ _ _ tested left right _ _ _ _ c.in_ok-tested-in-Cond.ensures.ops first.at first.ops c.in_ok-left-in-Cond.ensures.ops
+    (c.len-second.ensures ∙ c.expr-in-Cond-2.new.ops.ok.0) skip.behind skip.ops c.in_ok-right-in-Cond.ensures.ops other.behind other.ops
     ∙ ap (λ c. old ++ choice_code (code c) left right) c.get-in-Cond.ensures
     ∙ ap (λ a. old ++ choice_code (code c.in-Cond.c) (code a) right) c.get-in-Cond-2.ensures
     ∙ ap (λ b. old ++ choice_code (code c.in-Cond.c) (code c.in-Cond.a) (code b)) c.get-in-Cond-3.ensures

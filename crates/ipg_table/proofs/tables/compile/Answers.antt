@@ -9,7 +9,8 @@ use Rattle.ipg_table.proofs.tables.compile.Goals as goal
 
 pub rule_rows-requires : goal.rule_rows-requires
 rule_rows-requires c =
-    subst (AllByRecursion (λ (rule : CoreRule). AllByRecursion NamesTerms rule.alts)) (sym c.rules.ensures.rules) (names_terms c.core-core.result.now c.rules.ensures.good)
+    subst (AllByRecursion (λ (rule : CoreRule). AllByRecursion NamesTerms rule.alts)) (sym c.rules.ensures.rules)
+    (names_terms c.core-core.result.now c.rules.ensures.good)
 
 pub invariant_of-result : goal.invariant_of-result
 invariant_of-result c =
@@ -17,7 +18,8 @@ invariant_of-result c =
     let u = draft_rows c.name_rows.new.draft in
     let rules = c.in_ok-rules.rules.items in
     let names = c.in_ok-names.names.items in
-    let stands = stands_all t u rules names c.core-core.result.now c.in_ok-names.ensures.grows (subst (Each (HoldsRule t) rules) c.rules.ensures.rules c.in_ok-rules.ensures.holds)
+    let stands = stands_all t u rules names c.core-core.result.now c.in_ok-names.ensures.grows
+    (subst (Each (HoldsRule t) rules) c.rules.ensures.rules c.in_ok-rules.ensures.holds)
     (subst (Each (Stands u.bytes) names) c.names.ensures c.in_ok-names.ensures.holds) in
     record {
       grammar = c.args.c.now;
@@ -32,6 +34,7 @@ returns c =
     let u = draft_rows c.name_rows.new.draft in
     let rules = c.in_ok-rules.rules.items in
     let names = c.in_ok-names.names.items in
-    let stands = stands_all t u rules names c.core-core.result.now c.in_ok-names.ensures.grows (subst (Each (HoldsRule t) rules) c.rules.ensures.rules c.in_ok-rules.ensures.holds)
+    let stands = stands_all t u rules names c.core-core.result.now c.in_ok-names.ensures.grows
+    (subst (Each (HoldsRule t) rules) c.rules.ensures.rules c.in_ok-rules.ensures.holds)
     (subst (Each (Stands u.bytes) names) c.names.ensures c.in_ok-names.ensures.holds) in
     subst (StandFor (record u { rules = rules; names = names })) c.core-core.ensures.core stands

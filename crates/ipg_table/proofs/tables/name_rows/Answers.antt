@@ -11,6 +11,7 @@ loop-name-preserved c =
     let i = c.loop-name.name-index in (
       grows_trans (draft_rows c.args.draft.now) t u c.loop-name.invariant.0 c.in_ok-row.ensures.grows,
       subst (λ rows. Each (Stands u.bytes) rows (take (i + 1) c.args.names.now)) (sym c.in_ok-push.ensures.items)
-          (each_turn (Stands t.bytes) (Stands u.bytes) c.loop-name.rows.items c.args.names.now i c.in_ok-row.row c.name-item.result (name_grow t u c.in_ok-row.ensures.grows) c.name-item.is c.loop-name-test.true c.loop-name.invariant.1
+          (each_turn (Stands t.bytes) (Stands u.bytes) c.loop-name.rows.items c.args.names.now i c.in_ok-row.row c.name-item.result
+          (name_grow t u c.in_ok-row.ensures.grows) c.name-item.is c.loop-name-test.true c.loop-name.invariant.1
           (subst (Stands u.bytes c.in_ok-row.row) c.as_slice.ensures c.in_ok-row.ensures.holds)),
     )

@@ -11,5 +11,6 @@ loop-rule-preserved c =
     let i = c.loop-rule.rule-index in (
       grows_trans (draft_rows c.args.draft.now) t u c.loop-rule.invariant.0 c.in_ok-row.ensures.grows,
       subst (λ rows. Each (HoldsRule u) rows (take (i + 1) c.args.rules.now)) (sym c.in_ok-push.ensures.items)
-          (each_turn (HoldsRule t) (HoldsRule u) c.loop-rule.rows.items c.args.rules.now i c.in_ok-row.row c.rule-item.result (rule_grow t u c.in_ok-row.ensures.grows) c.rule-item.is c.loop-rule-test.true c.loop-rule.invariant.1 c.in_ok-row.ensures.holds),
+          (each_turn (HoldsRule t) (HoldsRule u) c.loop-rule.rows.items c.args.rules.now i c.in_ok-row.row c.rule-item.result
+          (rule_grow t u c.in_ok-row.ensures.grows) c.rule-item.is c.loop-rule-test.true c.loop-rule.invariant.1 c.in_ok-row.ensures.holds),
     )

@@ -10,6 +10,7 @@ returns-else-is_zero-clause-turn c =
     let room = length c.args.area.now in
     let rest = stacked c.args.area.now c.in-Some.a.top in
     let other : is_zero c.in-Some.a.value ≡ false = sym c.is_zero.ensures ∙ c.if-is_zero.false in
-    subst (λ stack. Turns c.put.result c.put.new.area (λ next. on_top stack (λ x rest. if is_zero x then next 0 rest else put room (flag true) c.args.skip rest next))) (sym c.in-Some.ensures.0)
+    subst (λ stack. Turns c.put.result c.put.new.area
+    (λ next. on_top stack (λ x rest. if is_zero x then next 0 rest else put room (flag true) c.args.skip rest next))) (sym c.in-Some.ensures.0)
     (subst (λ b. Turns c.put.result c.put.new.area (λ next. if b then next 0 rest else put room (flag true) c.args.skip rest next)) (sym other)
     (subst (λ a. Turns c.put.result c.put.new.area (put room a c.args.skip rest)) c.truth.ensures c.put.ensures.turn))

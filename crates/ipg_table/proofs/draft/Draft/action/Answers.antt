@@ -15,7 +15,8 @@ returns-in_ok-item-in-Repeat-clause-holds c =
       c.in-Repeat.last,
       record { sym = c.in-Repeat.item; from = c.in-Repeat.from; to = c.in-Repeat.to },
       c.in-Repeat.is,
-      expr_grow one all (grows_trans one two all last.ensures.grows item.ensures.grows) c.in_ok-first-in-Repeat.first c.in-Repeat.first c.in_ok-first-in-Repeat.ensures.holds,
+      expr_grow one all (grows_trans one two all last.ensures.grows item.ensures.grows) c.in_ok-first-in-Repeat.first c.in-Repeat.first
+          c.in_ok-first-in-Repeat.ensures.holds,
       expr_grow two all item.ensures.grows last.last c.in-Repeat.last last.ensures.holds,
       item.ensures.holds,
     )
@@ -28,6 +29,7 @@ returns-in_ok-other-in-Pick-clause-holds c =
       c.in-Pick.cases,
       c.in-Pick.other,
       c.in-Pick.is,
-      cases_grow t u c.in_ok-other-in-Pick.ensures.grows cases.cases c.in-Pick.cases (subst (StandsEach (HoldsCase t) t.cases cases.cases) c.as_slice.ensures cases.ensures.holds),
+      cases_grow t u c.in_ok-other-in-Pick.ensures.grows cases.cases c.in-Pick.cases
+          (subst (StandsEach (HoldsCase t) t.cases cases.cases) c.as_slice.ensures cases.ensures.holds),
       c.in_ok-other-in-Pick.ensures.holds,
     )

@@ -17,6 +17,7 @@ returns-clause-holds c =
     record {
       instrs = instrs_grow t u (more_sets t new rows c.in_ok-sets.ensures.grows) alt.terms span alt.order
           (subst (λ terms. StandsEach (HoldsInstr t terms) t.instrs span alt.order) c.as_slice-terms.ensures ordered);
-      sets = subst (Stands new c.in_ok-sets.sets) (c.as_slice-2.ensures ∙ c.in_ok-set.ensures ∙ ap attrs_in c.as_slice-terms.ensures) c.in_ok-sets.ensures.stands;
+      sets = subst (Stands new c.in_ok-sets.sets) (c.as_slice-2.ensures ∙ c.in_ok-set.ensures ∙ ap attrs_in c.as_slice-terms.ensures)
+          c.in_ok-sets.ensures.stands;
       terms = c.in_ok-terms.ensures ∙ ap length c.as_slice-terms.ensures;
     }

@@ -11,5 +11,6 @@ loop-alt-preserved c =
     let i = c.loop-alt.alt-index in (
       grows_trans (draft_rows c.args.self.now) t u c.loop-alt.invariant.0 c.in_ok-row.ensures.grows,
       subst (λ rows. Each (HoldsAlt u) rows (take (i + 1) c.args.alts.now)) (sym c.in_ok-push.ensures.ok)
-          (each_turn (HoldsAlt t) (HoldsAlt u) c.loop-alt.rows.items c.args.alts.now i c.in_ok-row.row c.alt-item.result (alt_grow t u c.in_ok-row.ensures.grows) c.alt-item.is c.loop-alt-test.true c.loop-alt.invariant.1 c.in_ok-row.ensures.holds),
+          (each_turn (HoldsAlt t) (HoldsAlt u) c.loop-alt.rows.items c.args.alts.now i c.in_ok-row.row c.alt-item.result
+          (alt_grow t u c.in_ok-row.ensures.grows) c.alt-item.is c.loop-alt-test.true c.loop-alt.invariant.1 c.in_ok-row.ensures.holds),
     )

@@ -11,5 +11,6 @@ loop-case-preserved c =
     let i = c.loop-case.case-index in (
       grows_trans (draft_rows c.args.self.now) t u c.loop-case.invariant.0 c.in_ok-row.ensures.grows,
       subst (λ rows. Each (HoldsCase u) rows (take (i + 1) c.args.cases.now)) (sym c.in_ok-push.ensures.ok)
-          (each_turn (HoldsCase t) (HoldsCase u) c.loop-case.rows.items c.args.cases.now i c.in_ok-row.row c.case-item.result (case_grow t u c.in_ok-row.ensures.grows) c.case-item.is c.loop-case-test.true c.loop-case.invariant.1 c.in_ok-row.ensures.holds),
+          (each_turn (HoldsCase t) (HoldsCase u) c.loop-case.rows.items c.args.cases.now i c.in_ok-row.row c.case-item.result
+          (case_grow t u c.in_ok-row.ensures.grows) c.case-item.is c.loop-case-test.true c.loop-case.invariant.1 c.in_ok-row.ensures.holds),
     )

@@ -14,5 +14,7 @@ loop-term-preserved c =
     let term = get_or order i 0 in (
       grows_trans (draft_rows c.args.self.now) t u c.loop-term.invariant.0 c.in_ok-row.ensures.grows,
       subst (λ rows. Each (HoldsInstr u terms) rows (take (i + 1) order)) (sym c.in_ok-push.ensures.ok)
-          (each_turn (HoldsInstr t terms) (HoldsInstr u terms) c.loop-term.rows.items order i c.in_ok-row.row term (instr_grow t u c.in_ok-row.ensures.grows terms) (get_or_same order i 0 term c.loop-term-test.true) c.loop-term-test.true c.loop-term.invariant.1 c.in_ok-row.ensures.holds),
+          (each_turn (HoldsInstr t terms) (HoldsInstr u terms) c.loop-term.rows.items order i c.in_ok-row.row term
+          (instr_grow t u c.in_ok-row.ensures.grows terms) (get_or_same order i 0 term c.loop-term-test.true) c.loop-term-test.true
+          c.loop-term.invariant.1 c.in_ok-row.ensures.holds),
     )
