@@ -11,12 +11,8 @@ use std::alloc::Global;
 
 /// Answers the words. Nothing is written before all is settled.
 pub fn run<F: Files, S: Sink>(alloc: Global, words: &[String], files: &mut F, out: &mut S) -> Status
-    ensures runs { Runs (record {
-      told = F.told files.old;
-      read_faults = F.faults files.old;
-      output = S.output out.old;
-      write_faults = S.faults out.old;
-    })
+    ensures runs { Runs
+        (record { told = F.told files.old; read_faults = F.faults files.old; output = S.output out.old; write_faults = S.faults out.old })
         (record { told = F.told files.new; read_faults = F.faults files.new; output = S.output out.new; write_faults = S.faults out.new })
         (map string_bytes words.now) result }
     ensures replies { RepliesWithoutFault
