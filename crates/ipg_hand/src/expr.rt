@@ -31,6 +31,7 @@ pub struct Site<'m> {
 }
 
 /// The value of an expression. `area` is the stack of operands; `depth` of the tables says how long it has to be.
+#[inline]
 #[tactic(auto, unfolding(ipg_core::specs::Meaning::value_in))]
 pub fn value<R: Results>(tables: &Tables, results: &R, expr: Span, area: &mut [i64]) -> Answer
     requires { tables.now.depth ≤ length area.now }

@@ -323,16 +323,11 @@ fn alone<R: Results>(ops: &[Op], results: &R) -> Option<Answer>
     }
 }
 
-/// What rows compute.
-pub(crate) fn evaluate<R: Results>(ops: &[Op], results: &R, area: &mut [i64]) -> Answer
+/// What rows compute, row by row on the stack.
+fn on_stack<R: Results>(ops: &[Op], results: &R, area: &mut [i64]) -> Answer
     ensures value { (env : Environment) → R.stands results.now env → result ≡ run env (length area.old) 0 ops.now [] }
     ensures area { length area.new ≡ length area.old }
 {
-    if !area.is_empty() {
-        if let Some(answer) = alone(ops, results) {
-            return answer;
-        }
-    }
     let mut left = ops;
     let mut top = 0;
     while !left.is_empty() {
@@ -348,4 +343,18 @@ pub(crate) fn evaluate<R: Results>(ops: &[Op], results: &R, area: &mut [i64]) ->
         Some(taken) => Answer::Val(taken.value),
         None => Answer::Fail,
     }
+}
+
+/// What rows compute.
+#[inline]
+pub(crate) fn evaluate<R: Results>(ops: &[Op], results: &R, area: &mut [i64]) -> Answer
+    ensures value { (env : Environment) → R.stands results.now env → result ≡ run env (length area.old) 0 ops.now [] }
+    ensures area { length area.new ≡ length area.old }
+{
+    if !area.is_empty() {
+        if let Some(answer) = alone(ops, results) {
+            return answer;
+        }
+    }
+    on_stack(ops, results, area)
 }

@@ -2,7 +2,7 @@ use Rattle.std.proofs.Common.{◌≡◌, ◌≤◌, [], length}
 use Rattle.ipg_core.specs.Environment.{Environment}
 use Rattle.ipg_table.specs.Running.{run}
 use Rattle.ipg_table.specs.Stack.{stacked}
-use Rattle.ipg_table.proofs.value.evaluate.Given as goal
+use Rattle.ipg_table.proofs.value.on_stack.Given as goal
 
 abbrev pub decreases-loop-left : goal.decreases-loop-left
 decreases-loop-left g l = length l.left
