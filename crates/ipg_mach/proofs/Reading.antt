@@ -27,9 +27,11 @@ use Rattle.ipg_hand.specs.Now.{Lent, HasRun, Stands, AreResults, WithRunning}
 use Rattle.ipg_advance.specs.declared.entry.Entry.{Entry}
 use Rattle.ipg_advance.specs.declared.entry.Entry.TheVariants as entry
 use Rattle.ipg_advance.specs.Advance.{IsEntry, environment_at}
-use Rattle.ipg_piles.specs.Piled.{Piled, between}
+use Rattle.ipg_piles.specs.Piled.{Piled, between, below, above}
 use Rattle.ipg_mach.specs.declared.frame.Frame.{Frame}
+use Rattle.ipg_mach.specs.declared.reader.View.{View}
 use Rattle.ipg_mach.specs.Calls.{IsOpen, size_of, running_in, running_at}
+use Rattle.ipg_mach.specs.Lending.{Lends}
 use Rattle.ipg_mach.proofs.Rows.{between_below}
 
 -- a part of a part lies in the input
@@ -145,3 +147,24 @@ module _ (t : Rows) (src : Source) (st : Stored) (frame : Frame) (under own : Pi
         subst (λ e. Stands l (environment_at c.frame c.state u e term)) (sym entered.0) (plain run)
     stands_at (entry.Items left item) entered holds run =
         subst (λ e. Stands l (environment_at c.frame c.state u e term)) (sym entered.2) (at_item item instr.action entered.0 run holds)
+
+-- whatever is lent of the call
+pub view_stands : {A : Type 0} (v : View A) (src : Source) (items : List tree.Kid) (c : OpenCall)
+    → IsOpen v.tables.now src v.top.now.store v.top.now.frame (below v.top.now.piles v.top.now.frame.base)
+    (above v.top.now.piles v.top.now.frame.base) items c
+    → length c.frame.bytes ≡ size_of v.top.now.frame → v.size ≡ size_of v.top.now.frame → v.size < 2 ^ 32
+    → (u : ℕ) (term : CoreTerm) → slice_get c.terms u ≡ Some term → v.instr.term ≡ u
+    → IsEntry (size_of v.top.now.frame) v.top.now.frame.entry items c.entry → HoldsTerm v.tables.now v.instr.action term
+    → (l : Lent) → Lends v l → Stands l (environment_at c.frame c.state u c.entry term)
+view_stands v src items c is whole size small u term is_term number entered holds l lends =
+    let piles = v.top.now.piles in
+    let frame = v.top.now.frame in
+    stands_at v.tables.now src v.top.now.store frame (below piles frame.base) (above piles frame.base) items c is l (record {
+      rows = lends.rows;
+      store = lends.store;
+      size = lends.size ∙ size;
+      small = subst (λ n. n < 2 ^ 32) (sym lends.size) small;
+      own = lends.own;
+      outer = lends.outer ∙ sym (between_below piles.own frame.base.own frame.outer.from frame.outer.to is.call.outer_inside);
+      done = lends.done;
+    }) whole v.instr u term is_term number lends.items lends.are_items frame.entry entered holds lends.running

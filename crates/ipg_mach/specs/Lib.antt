@@ -1,5 +1,7 @@
 -- open calls as frames hold them
 pub mod Calls
+-- what is lent of the highest call
+pub mod Lending
 -- what is known of calls
 pub mod Known
 -- what has been counted

@@ -9,6 +9,8 @@ ghost use Rattle.ipg_moves.specs.Moves as moves;
 ghost use Rattle.ipg_nodes.specs.Stored.{Source};
 ghost use Rattle.ipg_table.specs.Rows.{HoldsInstr};
 ghost use Rattle.ipg_advance.specs.Advance.{IsAtHand, IsAdvance, EndsBy};
+ghost use Rattle.ipg_hand.specs.Now.{lent};
+ghost use Rattle.ipg_mach.specs.Lending.{Lends};
 ghost use Rattle.ipg_mach.specs.Calls as calls;
 ghost use Rattle.ipg_mach.specs.Calls.{shown, IsWorking, IsSub, items_in, term_at_hand};
 ghost use Rattle.ipg_mach.specs.declared.frame.Frame.{Frame};
@@ -17,8 +19,10 @@ use crate::lent::first;
 use crate::top::Top;
 use ipg_advance::laws::{answered_is_taken, sub_ends_by};
 use ipg_advance::{Advance, AtHand, Entry, at_hand, taken};
+use ipg_core::grammar::{CoreField, Sym};
 use ipg_hand::{Now, Running, Site};
 use ipg_nodes::Kid;
+use ipg_table::results::Results;
 use ipg_table::row::{Action, Instr};
 use ipg_table::tables::Tables;
 use std::alloc::Allocator;
@@ -68,6 +72,70 @@ fn running<'m>(instr: Instr, entry: Entry, items: &'m [Kid]) -> Option<Running<'
     }
 }
 
+/// The highest call at an instruction, as expressions read it. What they don't ask for isn't lent.
+#[derive(Drop)]
+struct View<'v, 'm, A: Allocator> {
+    tables: &'v Tables,
+    top: &'v Top<'m, A>,
+    size: u32,
+    instr: Instr,
+}
+
+impl<'v, 'm, A: Allocator + Clone + Drop> View<'v, 'm, A> {
+    /// All that expressions may ask for.
+    #[inline]
+    fn now(&self) -> Now<'v, A>
+        ensures { Lends self.now (lent result) }
+    {
+        let top = self.top;
+        let frame = top.frame;
+        Now {
+            tables: self.tables,
+            store: &top.store,
+            size: self.size,
+            own: top.piles.own(frame.base),
+            outer: top.piles.between(frame.outer.from, frame.outer.to),
+            done: top.piles.done(frame.base),
+            running: running(self.instr, frame.entry, top.piles.items(frame.base)),
+        }
+    }
+}
+
+impl<'v, 'm, A: Allocator + Clone + Drop> Results for View<'v, 'm, A> {
+    ghost use Rattle.ipg_hand.specs.Now.{Lent, Stands};
+    ghost use Rattle.ipg_mach.specs.Lending.{Lends};
+
+    ghost stands = { λ view env. (l : Lent) → Lends view l → Stands l env };
+
+    fn eoi(&self) -> u32 {
+        self.now().eoi()
+    }
+
+    fn own(&self, attr: u32) -> Option<i64> {
+        self.now().own(attr)
+    }
+
+    fn outer(&self, attr: u32) -> Option<i64> {
+        self.now().outer(attr)
+    }
+
+    fn item(&self) -> Option<i64> {
+        self.now().item()
+    }
+
+    fn seen(&self, term: u32, sym: &Sym, field: CoreField) -> Option<i64> {
+        self.now().seen(term, sym, field)
+    }
+
+    fn item_field(&self, term: u32, index: i64, field: CoreField) -> Option<i64> {
+        self.now().item_field(term, index, field)
+    }
+
+    fn greatest_end(&self, term: u32) -> Option<i64> {
+        self.now().greatest_end(term)
+    }
+}
+
 impl<'m, A: Allocator + Clone + Drop> Reader<'m, A> {
     /// What an instruction of the highest call comes to.
     fn at_instr(&mut self, top: &Top<'_, A>, instr: Instr) -> AtHand
@@ -86,20 +154,16 @@ impl<'m, A: Allocator + Clone + Drop> Reader<'m, A> {
             bytes,
             size: bytes.len() as u32,
         };
-        let items = top.piles.items(frame.base);
-        let now = Now {
+        let view = View {
             tables: self.tables,
-            store: &top.store,
+            top,
             size: site.size,
-            own: top.piles.own(frame.base),
-            outer: top.piles.between(frame.outer.from, frame.outer.to),
-            done: top.piles.done(frame.base),
-            running: running(instr, frame.entry, items),
+            instr,
         };
         at_hand(
             &site,
             &top.store,
-            &now,
+            &view,
             instr,
             frame.entry,
             &mut self.numbers,

@@ -1,14 +1,12 @@
-use Rattle.std.proofs.Common.{refl, sym, ap, ◌∙◌, subst, length, Option, Some}
+use Rattle.std.proofs.Common.{sym, ap, ◌∙◌, subst, length, Option, Some}
 use Rattle.ipg_core.specs.declared.grammar.CoreTerm.{CoreTerm}
 use Rattle.ipg_core.specs.Part.{part}
 use Rattle.ipg_moves.specs.Moves as moves
 use Rattle.ipg_hand.specs.Found.{LiesAt}
-use Rattle.ipg_hand.specs.Now.{Lent}
 use Rattle.ipg_advance.specs.Advance.{IsAtHand, IsEntry}
-use Rattle.ipg_piles.specs.Piled.{below, above}
+use Rattle.ipg_piles.specs.Piled.{below}
 use Rattle.ipg_mach.specs.Calls.{size_of, items_in}
 use Rattle.ipg_mach.proofs.Reading as reading
-use Rattle.ipg_mach.proofs.Rows.{between_below}
 use Rattle.ipg_mach.proofs.Working as working
 use Rattle.ipg_mach.proofs.reader.Reader.at_instr.Goals as goal
 
@@ -23,25 +21,8 @@ returns-clause-found g c src frames lower call u rest input work is_left holds =
     let here = c.part-bytes.ensures.part ∙ ap (λ s. part s frame.from frame.to) (sym input) in
     let whole = working.part_size t src frame (below top.piles frame.base) call.frame call.from is_open.call in
     let size = ap length (here ∙ sym is_open.call.bytes) ∙ whole in
-    let l : Lent = record {
-      rows = t;
-      store = top.store;
-      size = length bytes;
-      own = c.own.result.now;
-      outer = c.between.result.now;
-      done = c.done.result.now;
-      running = c.running.result;
-    } in
-    let stands = reading.stands_at t src top.store frame (below top.piles frame.base) (above top.piles frame.base) items call is_open l (record {
-      rows = refl;
-      store = refl;
-      size = size;
-      small = c.part-bytes.ensures.small;
-      own = c.own.ensures;
-      outer = c.between.ensures ∙ sym (between_below top.piles.own frame.base.own frame.outer.from frame.outer.to is_open.call.outer_inside);
-      done = c.done.ensures;
-    }) whole c.args.instr u holds.term holds.is_term holds.number c.items-items.result c.items-items.ensures frame.entry work.entry holds.holds
-    c.running.ensures in
+    let stands = reading.view_stands _ src items call is_open whole size c.part-bytes.ensures.small u holds.term holds.is_term holds.number
+    work.entry holds.holds in
     let found = c.at_hand.ensures.found src frame.from u call.frame call.state items call.entry holds.term stands holds.holds holds.number
     (subst (λ n. IsEntry n frame.entry items call.entry) (sym size) work.entry) (record {
       syms = is_open.call.syms;
