@@ -323,7 +323,8 @@ fn alone<R: Results>(ops: &[Op], results: &R) -> Option<Answer>
     }
 }
 
-/// What rows compute, row by row on the stack.
+/// What rows compute, row by row on the stack. It stays apart, so that a single row is evaluated where it is asked for.
+#[inline(never)]
 fn on_stack<R: Results>(ops: &[Op], results: &R, area: &mut [i64]) -> Answer
     ensures value { (env : Environment) → R.stands results.now env → result ≡ run env (length area.old) 0 ops.now [] }
     ensures area { length area.new ≡ length area.old }
