@@ -10,7 +10,8 @@ use Rattle.ipg_ast.specs.declared.grammar.Field.{Field}
 use Rattle.ipg_ast.specs.declared.grammar.Expr.{Expr}
 use Rattle.ipg_ast.specs.declared.grammar.Expr.TheOpen.{Expr-F}
 use Rattle.ipg_ast.specs.declared.grammar.Expr.TheFolds.{fold-roll-Expr}
-use Rattle.ipg_ast.specs.declared.grammar.Expr.TheVariants.{Item, Group, Neg, Not, Two, Both, Either, Cond, rolls-Item, rolls-Group, rolls-Neg, rolls-Not, rolls-Two, rolls-Both, rolls-Either, rolls-Cond}
+use Rattle.ipg_ast.specs.declared.grammar.Expr.TheVariants.{Item, Group, Neg, Not, Two, Both, Either, Cond, rolls-Item, rolls-Group}
+use Rattle.ipg_ast.specs.declared.grammar.Expr.TheVariants.{rolls-Neg, rolls-Not, rolls-Two, rolls-Both, rolls-Either, rolls-Cond}
 use Rattle.std.proofs.lemmas.List.{append_assoc}
 use Rattle.ipg_ast.proofs.Texts.{text_append}
 
@@ -76,7 +77,8 @@ either_text a b = append_assoc (text a) (124 ∷ 124 ∷ 32 ∷ []) (text b) ∙
 
 pub cond_text : (c a b : Expr) → (((text c ++ (63 ∷ 32 ∷ [])) ++ text a) ++ (58 ∷ 32 ∷ [])) ++ text b ≡ text (Cond c a b)
 cond_text c a b =
-    let flat : (((text c ++ (63 ∷ 32 ∷ [])) ++ text a) ++ (58 ∷ 32 ∷ [])) ++ text b ≡ text c ++ (63 ∷ 32 ∷ (text a ++ (58 ∷ 32 ∷ text b))) = simp append_assoc refl in
+    let flat : (((text c ++ (63 ∷ 32 ∷ [])) ++ text a) ++ (58 ∷ 32 ∷ [])) ++ text b ≡ text c ++ (63 ∷ 32 ∷ (text a ++ (58 ∷ 32 ∷ text b))) =
+    simp append_assoc refl in
     flat ∙ sym (
     ap tokens_text (ap expr_tokens (sym (rolls-Cond c a b)) ∙ fold-roll-Expr Tokens expr_step (Expr-F.Cond c a b))
     ∙ text_append (expr_tokens c) (Symbol (codes "?") ∷ (expr_tokens a ++ (Symbol (codes ":") ∷ expr_tokens b)))

@@ -20,7 +20,8 @@ pub then : {old mid new a b : List ℕ} → Wrote old a mid → Wrote mid b new 
 then {old = old} {a = a} {b = b} first next = record { is = next.is ∙ ap (λ m. m ++ b) first.is ∙ append_assoc old a b }
 
 -- the same where the last piece may be refused
-pub finally : {T E : Type 0} {old mid front : List ℕ} (r : Result T E) (new back all : List ℕ) → Wrote old front mid → front ++ back ≡ all → OnOk r (new ≡ mid ++ back) → OnOk r (new ≡ old ++ all)
+pub finally : {T E : Type 0} {old mid front : List ℕ} (r : Result T E) (new back all : List ℕ) → Wrote old front mid → front ++ back ≡ all
+    → OnOk r (new ≡ mid ++ back) → OnOk r (new ≡ old ++ all)
 finally {old = old} {front = front} r new back all first whole next =
     on_ok_weaker r (λ e. e ∙ ap (λ m. m ++ back) first.is ∙ append_assoc old front back ∙ ap (λ t. old ++ t) whole) next
 

@@ -1,5 +1,7 @@
 ghost use Rattle.std.specs.Prelude.{◌≡◌, ◌∷◌, ◌++◌, [], IfOk, OnOk};
-ghost use Rattle.ipg_ast.specs.Spelling.{field_tokens, sign_of, expr_tokens, place_tokens, what_token, slot_tokens, case_tokens, cases_tokens, term_tokens, terms_tokens, local_alts_tokens, local_tokens, locals_tokens, where_tokens, alt_tokens, alts_tokens, rule_tokens, grammar_tokens};
+ghost use Rattle.ipg_ast.specs.Spelling.{field_tokens, sign_of, expr_tokens, place_tokens, what_token, slot_tokens, case_tokens};
+ghost use Rattle.ipg_ast.specs.Spelling.{cases_tokens, term_tokens, terms_tokens, local_alts_tokens, local_tokens, locals_tokens};
+ghost use Rattle.ipg_ast.specs.Spelling.{where_tokens, alt_tokens, alts_tokens, rule_tokens, grammar_tokens};
 ghost use Rattle.ipg_ast.specs.Canonical.{tokens_text};
 ghost use Rattle.ipg_ast.specs.Shape.{IsFlat};
 

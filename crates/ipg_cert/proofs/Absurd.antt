@@ -47,7 +47,8 @@ judged_sum totals constant None h = absurd h
 judged_sum totals constant (Some form) h =
     ap (λ b. b && int_lt (pos 0) constant) (same_zero totals form.terms h.0) ∙ ap (λ z. none_in form.terms form.terms && int_lt (pos 0) z) h.1
 
-pub judged : (facts : List Fact) (entries : List (ℕ × ℕ)) (totals : List ℤ) (constant : ℤ) → 1 ≤ length entries → length entries ≤ 2 ^ 21 → Sums totals (Some constant) (weighted_sum facts entries)
+pub judged : (facts : List Fact) (entries : List (ℕ × ℕ)) (totals : List ℤ) (constant : ℤ) → 1 ≤ length entries → length entries ≤ 2 ^ 21
+    → Sums totals (Some constant) (weighted_sum facts entries)
     → (none_left totals && int_lt (pos 0) constant) ≡ combines entries facts
 judged facts entries totals constant some few h =
     judged_sum totals constant (weighted_sum facts entries) h

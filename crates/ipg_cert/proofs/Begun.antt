@@ -1,5 +1,6 @@
 -- The words that a reader has taken begin a text: the least steps that end it.
-use Rattle.std.proofs.Common.{◌≡◌, ℕ, zero, suc, ◌+◌, ◌-◌, ◌^◌, ◌<◌, ◌≤◌, Bool, true, List, [], ◌∷◌, ◌++◌, length, replicate, refl, ap, ◌∙◌, sym, subst, arith, append_assoc, append-nil, length-append, decimal, flat_map, true≢false, pos, negsuc}
+use Rattle.std.proofs.Common.{◌≡◌, ℕ, zero, suc, ◌+◌, ◌-◌, ◌^◌, ◌<◌, ◌≤◌, Bool, true, List, [], ◌∷◌, ◌++◌, length, replicate, refl, ap, ◌∙◌}
+use Rattle.std.proofs.Common.{sym, subst, arith, append_assoc, append-nil, length-append, decimal, flat_map, true≢false, pos, negsuc}
 use Rattle.std.specs.List.{AllByRecursion}
 use Rattle.ipg_cert.specs.declared.pos.Need.{Need}
 use Rattle.ipg_cert.specs.declared.pos.Need.TheVariants.{Count, Weight, Fact, Var, At, Choice, Parts}
@@ -10,7 +11,8 @@ use Rattle.ipg_cert.specs.declared.refutation.Step.TheVariants.{Combine, Split, 
 use Rattle.ipg_cert.specs.Words.{entry_words, step_words, spaced}
 use Rattle.ipg_cert.specs.Texts.{parts_of, AreTrees, IsWord, IsSignedWord, IsEntry, IsInRange, Begins}
 use Rattle.ipg_cert.specs.Reader.{may_be_negative, signed, State}
-use Rattle.ipg_cert.proofs.Spelled.{IsAt, IsDue, IsFirst, IsNumber, IsSound, all_leaves, before, behind, counted, digits, digits_signed, first_due, gap_spelled, leaf, leaves_trees, not_negative, part, signed_range, words_split}
+use Rattle.ipg_cert.proofs.Spelled.{IsAt, IsDue, IsFirst, IsNumber, IsSound, all_leaves, before, behind, counted, digits, digits_signed}
+use Rattle.ipg_cert.proofs.Spelled.{first_due, gap_spelled, leaf, leaves_trees, not_negative, part, signed_range, words_split}
 
 record Finish (entries : List (ℕ × ℕ)) (p : Pos) : Type 0 where
   pub step : Step
@@ -38,7 +40,8 @@ all_both P (x ∷ xs) ys all more = (all.0, all_both P xs ys all.1 more)
 
 flat_both : (es fs : List (ℕ × ℕ)) → flat_map entry_words (es ++ fs) ≡ flat_map entry_words es ++ flat_map entry_words fs
 flat_both [] fs = refl
-flat_both (e ∷ es) fs = ap (λ xs. entry_words e ++ xs) (flat_both es fs) ∙ sym (append_assoc (entry_words e) (flat_map entry_words es) (flat_map entry_words fs))
+flat_both (e ∷ es) fs = ap (λ xs. entry_words e ++ xs) (flat_both es fs)
+    ∙ sym (append_assoc (entry_words e) (flat_map entry_words es) (flat_map entry_words fs))
 
 -- the entries so far, one at hand and 1s
 module _ (es : List (ℕ × ℕ)) (l w f : ℕ) where
@@ -51,8 +54,11 @@ module _ (es : List (ℕ × ℕ)) (l w f : ℕ) where
   filled_words : step_words (Combine filled) ≡ before es (Weight (suc l)) ++ (decimal w ++ (32 ∷ (decimal f ++ flat_map entry_words (ones l))))
   filled_words =
       ap (λ k. 99 ∷ (32 ∷ (decimal k ++ flat_map entry_words filled))) (sym filled_length)
-      ∙ ap (λ xs. 99 ∷ (32 ∷ (decimal (length es + suc l) ++ xs))) (flat_both es ((w, f) ∷ ones l) ∙ ap (λ xs. flat_map entry_words es ++ 32 ∷ xs) (append_assoc (decimal w) (32 ∷ decimal f) (flat_map entry_words (ones l))))
-      ∙ ap (λ xs. 99 ∷ (32 ∷ xs)) (sym (append_assoc (decimal (length es + suc l)) (flat_map entry_words es) (32 ∷ (decimal w ++ (32 ∷ (decimal f ++ flat_map entry_words (ones l)))))))
+      ∙ ap (λ xs. 99 ∷ (32 ∷ (decimal (length es + suc l) ++ xs)))
+      (flat_both es ((w, f) ∷ ones l) ∙ ap (λ xs. flat_map entry_words es ++ 32 ∷ xs)
+      (append_assoc (decimal w) (32 ∷ decimal f) (flat_map entry_words (ones l))))
+      ∙ ap (λ xs. 99 ∷ (32 ∷ xs))
+      (sym (append_assoc (decimal (length es + suc l)) (flat_map entry_words es) (32 ∷ (decimal w ++ (32 ∷ (decimal f ++ flat_map entry_words (ones l)))))))
       ∙ ap (λ xs. 99 ∷ xs) (sym (append_assoc (counted (suc l) es) (32 ∷ []) (decimal w ++ (32 ∷ (decimal f ++ flat_map entry_words (ones l))))))
 
   -- the same after the weight
@@ -64,8 +70,11 @@ module _ (es : List (ℕ × ℕ)) (l w f : ℕ) where
       ∙ sym (append_assoc (counted (suc l) es) (32 ∷ (decimal w ++ 32 ∷ [])) (decimal f ++ flat_map entry_words (ones l))))
 
   filled_range : AllByRecursion IsEntry es → IsWord (length es + suc l) → IsWord w → IsWord f → IsInRange (Combine filled)
-  filled_range all count first second =
-      ((let e : 1 ≤ length filled = omega (arith, filled_length) in e), subst IsWord filled_length count, all_both IsEntry es ((w, f) ∷ ones l) all ((first, second), all_ones l))
+  filled_range all count first second = (
+    (let e : 1 ≤ length filled = omega (arith, filled_length) in e),
+    subst IsWord filled_length count,
+    all_both IsEntry es ((w, f) ∷ ones l) all ((first, second), all_ones l),
+  )
 
 leaf_range : IsInRange leaf
 leaf_range = ((let e : 1 ≤ 1 = omega arith in e), one_word, ((one_word, one_word), tt))
@@ -76,20 +85,27 @@ zero_word = omega arith
 zero_signed : IsSignedWord (pos 0)
 zero_signed = omega arith
 
-finish_number : (entries : List (ℕ × ℕ)) (need : Need) (negative : Bool) (v : ℕ) → AllByRecursion IsEntry entries → IsDue entries need → IsNumber need negative v
+finish_number : (entries : List (ℕ × ℕ)) (need : Need) (negative : Bool) (v : ℕ) → AllByRecursion IsEntry entries → IsDue entries need
+    → IsNumber need negative v
     → Finish entries (Digits (record { need = need; negative = negative; value = v }))
 finish_number entries Count negative v all due number = record {
   step = Combine (ones v);
   rest = flat_map entry_words (ones v);
-  words = ap (λ k. 99 ∷ 32 ∷ (decimal k ++ flat_map entry_words (ones v))) (length_ones v) ∙ ap (λ ds. 99 ∷ 32 ∷ (ds ++ flat_map entry_words (ones v))) (sym (not_negative Count negative v number refl));
-  range = ((let e : 1 ≤ length (ones v) = omega (arith, length_ones v, number.some refl) in e), (let e : length (ones v) < 2 ^ 64 = omega (arith, length_ones v, number.small) in e), all_ones v);
+  words = ap (λ k. 99 ∷ 32 ∷ (decimal k ++ flat_map entry_words (ones v))) (length_ones v)
+      ∙ ap (λ ds. 99 ∷ 32 ∷ (ds ++ flat_map entry_words (ones v))) (sym (not_negative Count negative v number refl));
+  range = (
+    (let e : 1 ≤ length (ones v) = omega (arith, length_ones v, number.some refl) in e),
+    (let e : length (ones v) < 2 ^ 64 = omega (arith, length_ones v, number.small) in e),
+    all_ones v,
+  );
 }
 finish_number entries (Weight zero) negative v all due number = absurd (let e : ⊥ = omega (arith, due.0) in e)
 finish_number entries (Weight (suc l)) negative v all due number = record {
   step = Combine (filled entries l v 1);
   rest = 32 ∷ (decimal 1 ++ flat_map entry_words (ones l));
   words = filled_words entries l v 1 ∙ sym (append_assoc (before entries (Weight (suc l))) (decimal v) (32 ∷ (decimal 1 ++ flat_map entry_words (ones l))))
-      ∙ ap (λ ds. (before entries (Weight (suc l)) ++ ds) ++ (32 ∷ (decimal 1 ++ flat_map entry_words (ones l)))) (sym (not_negative (Weight (suc l)) negative v number refl));
+      ∙ ap (λ ds. (before entries (Weight (suc l)) ++ ds) ++ (32 ∷ (decimal 1 ++ flat_map entry_words (ones l))))
+      (sym (not_negative (Weight (suc l)) negative v number refl));
   range = filled_range entries l v 1 all due.1 (let e : v < 2 ^ 64 = omega (arith, number.small) in e) one_word;
 }
 finish_number entries (Fact zero weight) negative v all due number = absurd (let e : ⊥ = omega (arith, due.0) in e)
@@ -97,7 +113,8 @@ finish_number entries (Fact (suc l) weight) negative v all due number = record {
   step = Combine (filled entries l weight v);
   rest = flat_map entry_words (ones l);
   words = filled_fact entries l weight v ∙ sym (append_assoc (before entries (Fact (suc l) weight)) (decimal v) (flat_map entry_words (ones l)))
-      ∙ ap (λ ds. (before entries (Fact (suc l) weight) ++ ds) ++ flat_map entry_words (ones l)) (sym (not_negative (Fact (suc l) weight) negative v number refl));
+      ∙ ap (λ ds. (before entries (Fact (suc l) weight) ++ ds) ++ flat_map entry_words (ones l))
+      (sym (not_negative (Fact (suc l) weight) negative v number refl));
   range = filled_range entries l weight v all due.1 due.2 (let e : v < 2 ^ 64 = omega (arith, number.small) in e);
 }
 finish_number entries Var negative v all due number = record {
@@ -109,7 +126,8 @@ finish_number entries Var negative v all due number = record {
 finish_number entries (At var) negative v all due number = record {
   step = Split var (signed negative v);
   rest = [];
-  words = ap (λ xs. 115 ∷ 32 ∷ xs) (ap (λ ds. decimal var ++ 32 ∷ ds) (sym (digits_signed negative v (λ e. (number.minus e).0))) ∙ sym (append_assoc (decimal var) (32 ∷ []) (digits negative v)))
+  words = ap (λ xs. 115 ∷ 32 ∷ xs) (ap (λ ds. decimal var ++ 32 ∷ ds) (sym (digits_signed negative v (λ e. (number.minus e).0)))
+      ∙ sym (append_assoc (decimal var) (32 ∷ []) (digits negative v)))
       ∙ sym (append-nil (before entries (At var) ++ digits negative v));
   range = (due.1, signed_range var negative v (λ e. (number.minus e).0) number.small);
 }
@@ -122,7 +140,8 @@ finish_number entries Choice negative v all due number = record {
 finish_number entries (Parts fact) negative v all due number = record {
   step = Either fact v;
   rest = [];
-  words = ap (λ xs. 101 ∷ 32 ∷ xs) (ap (λ ds. decimal fact ++ 32 ∷ ds) (sym (not_negative (Parts fact) negative v number refl)) ∙ sym (append_assoc (decimal fact) (32 ∷ []) (digits negative v)))
+  words = ap (λ xs. 101 ∷ 32 ∷ xs) (ap (λ ds. decimal fact ++ 32 ∷ ds) (sym (not_negative (Parts fact) negative v number refl))
+      ∙ sym (append_assoc (decimal fact) (32 ∷ []) (digits negative v)))
       ∙ sym (append-nil (before entries (Parts fact) ++ digits negative v));
   range = (due.1, number.some refl, (let e : v < 2 ^ 64 = omega (arith, number.small) in e));
 }
@@ -172,7 +191,8 @@ finish_minus entries Var due e = absurd (true≢false (sym e))
 finish_minus entries (At var) due e = record {
   step = Split var (negsuc 0);
   rest = decimal 1;
-  words = ap (λ xs. 115 ∷ 32 ∷ xs) (sym (append_assoc (decimal var) (32 ∷ []) (45 ∷ decimal 1))) ∙ sym (append_assoc (before entries (At var)) (45 ∷ []) (decimal 1));
+  words = ap (λ xs. 115 ∷ 32 ∷ xs) (sym (append_assoc (decimal var) (32 ∷ []) (45 ∷ decimal 1)))
+      ∙ sym (append_assoc (before entries (At var)) (45 ∷ []) (decimal 1));
   range = (due.1, (let f : 0 < 2 ^ 63 = omega arith in f));
 }
 finish_minus entries Choice due e = absurd (true≢false (sym e))
@@ -221,7 +241,8 @@ sound_begins st words sound =
             ∙ sym (append_assoc words tail (10 ∷ []))
             ∙ ap (λ ws. (ws ++ tail) ++ 10 ∷ []) sound.spelled
             ∙ ap (λ xs. xs ++ 10 ∷ []) (append_assoc (behind st.made) (part st.entries st.pos) tail
-            ∙ ap (λ xs. behind st.made ++ xs) (sym (append_assoc (part st.entries st.pos) f.rest (flat_map spaced more)) ∙ ap (λ xs. xs ++ flat_map spaced more) (sym f.words))
+            ∙ ap (λ xs. behind st.made ++ xs)
+            (sym (append_assoc (part st.entries st.pos) f.rest (flat_map spaced more)) ∙ ap (λ xs. xs ++ flat_map spaced more) (sym f.words))
             ∙ sym (words_split st.made f.step more));
       },
     )

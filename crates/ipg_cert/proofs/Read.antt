@@ -1,5 +1,6 @@
 -- What a reader answers of bytes.
-use Rattle.std.proofs.Common.{◌≡◌, ℕ, suc, ◌+◌, ◌-◌, ◌<◌, ◌≤◌, Bool, true, false, List, [], ◌∷◌, ◌++◌, take, drop, length, Option, Some, None, Ok, Err, refl, ap, ◌∙◌, sym, subst, arith, inl, inr, append_assoc, append-nil, length-append, true≢false, if◌then◌else◌}
+use Rattle.std.proofs.Common.{◌≡◌, ℕ, suc, ◌+◌, ◌-◌, ◌<◌, ◌≤◌, Bool, true, false, List, [], ◌∷◌, ◌++◌, take, drop, length, Option, Some, None, Ok, Err}
+use Rattle.std.proofs.Common.{refl, ap, ◌∙◌, sym, subst, arith, inl, inr, append_assoc, append-nil, length-append, true≢false, if◌then◌else◌}
 use Rattle.std.proofs.Common.{min, subst₂, length-take, length-drop}
 use Rattle.std.proofs.lemmas.List.{drop_min}
 use Rattle.std.proofs.lemmas.Option.{none-some, same_Some}
@@ -15,7 +16,8 @@ use Rattle.ipg_cert.proofs.Runs.{and_then, run, run_on, run_step, text_ends}
 
 -- a run that ends is read as such, whatever stands behind it
 by_next : (o : Option State) (n m : ℕ) (bs rest : List ℕ) (e : State) (go : State → Found)
-    → ((on : State) → has_ended on.pos ≡ false → run on bs ≡ Some e → go on ≡ Ok (e.made, m)) → ((on : State) → has_ended on.pos ≡ true → run on bs ≡ Some e → (on ≡ e) × (n + 1 ≡ m))
+    → ((on : State) → has_ended on.pos ≡ false → run on bs ≡ Some e → go on ≡ Ok (e.made, m))
+    → ((on : State) → has_ended on.pos ≡ true → run on bs ≡ Some e → (on ≡ e) × (n + 1 ≡ m))
     → and_then o (λ on. run on bs) ≡ Some e → next o n go ≡ Ok (e.made, m)
 by_next None n m bs rest e go more last d = absurd (none-some e d)
 by_next (Some on) n m bs rest e go more last d =
@@ -39,7 +41,8 @@ ended_run : (st e : State) (bs : List ℕ) → has_ended st.pos ≡ true → run
 ended_run st e [] ended d = (same_Some st e d, refl)
 ended_run st e (b ∷ bs) ended d = absurd (none-some e (ap (λ o. and_then o (λ on. run on bs)) (sym (ended_stuck st b ended)) ∙ d))
 
-read_ends : (bs rest : List ℕ) (st e : State) (n : ℕ) → has_ended st.pos ≡ false → has_ended e.pos ≡ true → run st bs ≡ Some e → read_from st n (bs ++ rest) ≡ Ok (e.made, n + length bs)
+read_ends : (bs rest : List ℕ) (st e : State) (n : ℕ) → has_ended st.pos ≡ false → has_ended e.pos ≡ true → run st bs ≡ Some e
+    → read_from st n (bs ++ rest) ≡ Ok (e.made, n + length bs)
 read_ends [] rest st e n going ended d = absurd (true≢false (sym ended ∙ ap (λ s. has_ended s.pos) (sym (same_Some st e d)) ∙ going))
 read_ends (b ∷ bs) rest st e n going ended d =
     by_next (step st b) n (n + suc (length bs)) bs rest e (λ on. read_from on (n + 1) (bs ++ rest))
@@ -65,7 +68,8 @@ says_later words n b bs (Err m) (k, count, within, begins, stops) = (
   (let e : suc k ≤ suc (length bs) = omega (arith, within) in e),
   subst Begins (append_assoc words (b ∷ []) (take k bs)) begins,
   λ more on. stops (let e : k < length bs = omega (arith, more) in e)
-      (subst GoesOn (sym (append_assoc words (b ∷ []) (take (k + 1) bs) ∙ ap (λ j. words ++ take j (b ∷ bs)) (let e : suc (k + 1) ≡ suc k + 1 = omega arith in e))) on),
+      (subst GoesOn (sym (append_assoc words (b ∷ []) (take (k + 1) bs)
+      ∙ ap (λ j. words ++ take j (b ∷ bs)) (let e : suc (k + 1) ≡ suc k + 1 = omega arith in e))) on),
 )
 
 -- no text goes on with a byte that does not fit
@@ -77,9 +81,15 @@ no_text words st b reached stuck (steps, rest, text) =
     ∙ ends.reached)
 
 says : (bs words : List ℕ) (st : State) (n : ℕ) → IsSound st words → run start words ≡ Some st → Says words n bs (read_from st n bs)
-says [] words st n sound reached =
-    (0, (let e : n ≡ n + 0 = omega arith in e), (let e : 0 ≤ 0 = omega arith in e), subst Begins (sym (append-nil words)) (sound_begins st words sound), λ less. absurd (let e : ⊥ = omega (arith, less) in e))
-says (b ∷ bs) words st n sound reached = by_step (step st b) refl (step_sound st.made st.entries st.open_trees words b st.pos sound) (λ on s r. says bs (words ++ b ∷ []) on (n + 1) s r)
+says [] words st n sound reached = (
+  0,
+  (let e : n ≡ n + 0 = omega arith in e),
+  (let e : 0 ≤ 0 = omega arith in e),
+  subst Begins (sym (append-nil words)) (sound_begins st words sound),
+  λ less. absurd (let e : ⊥ = omega (arith, less) in e),
+)
+says (b ∷ bs) words st n sound reached = by_step (step st b) refl (step_sound st.made st.entries st.open_trees words b st.pos sound)
+    (λ on s r. says bs (words ++ b ∷ []) on (n + 1) s r)
   where
     by_step : (o : Option State) → step st b ≡ o → OnStep o (words ++ b ∷ [])
         → ((on : State) → IsSound on (words ++ b ∷ []) → run start (words ++ b ∷ []) ≡ Some on → Says (words ++ b ∷ []) (n + 1) bs (read_from on (n + 1) bs))
@@ -125,14 +135,16 @@ first_fault bs n is = fault_is bs (read_from start 0 bs) n is (at_start bs)
 pub read_back : (steps : List Step) (text rest : List ℕ) → IsTextOf steps text → read_from start 0 (text ++ rest) ≡ Ok (steps, length text)
 read_back steps text rest is =
     let ends = text_ends steps text is in
-    read_ends text rest start ends.end 0 refl ends.ended ends.reached ∙ ap (λ ss. Ok (ss, 0 + length text)) ends.made ∙ ap (λ k. Ok (steps, k)) (let e : 0 + length text ≡ length text = omega arith in e)
+    read_ends text rest start ends.end 0 refl ends.ended ends.reached ∙ ap (λ ss. Ok (ss, 0 + length text)) ends.made
+    ∙ ap (λ k. Ok (steps, k)) (let e : 0 + length text ≡ length text = omega arith in e)
 
 -- ---- from a place of a text on
 
 at_once : (bs : List ℕ) (steps : List Step) (n : ℕ) → IsTextOf steps (take n bs) → 1 ≤ n
 at_once bs steps n is = omega (arith, length-take n bs, ap length is.words, length-append (words_of steps) (10 ∷ []))
 
-pub text_at : (text : List ℕ) (at from n : ℕ) (steps : List Step) → from ≡ min at (length text) → read_from start 0 (drop from text) ≡ Ok (steps, n) → IsTextAt text at steps (from + n)
+pub text_at : (text : List ℕ) (at from n : ℕ) (steps : List Step) → from ≡ min at (length text) → read_from start 0 (drop from text) ≡ Ok (steps, n)
+    → IsTextAt text at steps (from + n)
 text_at text at from n steps is read =
     let (within, there) = text_found (drop from text) steps n read in
     let some = at_once (drop from text) steps n there in
@@ -151,7 +163,8 @@ fault_from text at from n is read = record {
   place_is = ap (λ k. k + n) is;
 }
 
-read_again : (text : List ℕ) (at from : ℕ) (steps : List Step) (words rest : List ℕ) → from ≡ min at (length text) → IsTextOf steps words → drop at text ≡ words ++ rest
+read_again : (text : List ℕ) (at from : ℕ) (steps : List Step) (words rest : List ℕ) → from ≡ min at (length text) → IsTextOf steps words
+    → drop at text ≡ words ++ rest
     → read_from start 0 (drop from text) ≡ Ok (steps, length words)
 read_again text at from steps words rest is text_is split =
     ap (read_from start 0) (ap (λ k. drop k text) is ∙ drop_min at text ∙ split) ∙ read_back steps words rest text_is
@@ -174,13 +187,16 @@ no_fault n found e = true≢false (ap is_fault e)
     is_fault (Ok found) = false
     is_fault (Err k) = true
 
-pub found_again : (text : List ℕ) (at from n : ℕ) (found steps : List Step) (words rest : List ℕ) → from ≡ min at (length text) → read_from start 0 (drop from text) ≡ Ok (found, n)
+pub found_again : (text : List ℕ) (at from n : ℕ) (found steps : List Step) (words rest : List ℕ) → from ≡ min at (length text)
+    → read_from start 0 (drop from text) ≡ Ok (found, n)
     → IsTextOf steps words → drop at text ≡ words ++ rest → (found ≡ steps) × (from + n ≡ at + length words)
 found_again text at from n found steps words rest is read text_is split =
     let (same, count) = same_found found steps n (length words) (sym read ∙ read_again text at from steps words rest is text_is split) in
     let at_it : IsTextAt text at found (from + n) = text_at text at from n found is read in
     (same, omega (arith, count, is, at_it.order, at_it.within))
 
-pub no_fault_again : (text : List ℕ) (at from n : ℕ) (steps : List Step) (words rest : List ℕ) → from ≡ min at (length text) → read_from start 0 (drop from text) ≡ Err n
+pub no_fault_again : (text : List ℕ) (at from n : ℕ) (steps : List Step) (words rest : List ℕ) → from ≡ min at (length text)
+    → read_from start 0 (drop from text) ≡ Err n
     → IsTextOf steps words → drop at text ≡ words ++ rest → ⊥
-no_fault_again text at from n steps words rest is read text_is split = no_fault n (steps, length words) (sym read ∙ read_again text at from steps words rest is text_is split)
+no_fault_again text at from n steps words rest is read text_is split =
+    no_fault n (steps, length words) (sym read ∙ read_again text at from steps words rest is text_is split)

@@ -1,5 +1,7 @@
 -- The words of whole trees lead a reader on to its end.
-use Rattle.std.proofs.Common.{◌≡◌, ℕ, zero, suc, ◌+◌, ◌-◌, ◌*◌, ◌/◌, ◌%◌, ◌^◌, ◌<◌, ◌≤◌, Bool, true, false, not, ◌&&◌, ◌||◌, nat_le, ◌==◌, List, [], ◌∷◌, ◌++◌, length, Option, Some, None, refl, ap, ◌∙◌, sym, subst, arith, append_assoc, append-nil, decimal, flat_map, true≢false, if◌then◌else◌, ℤ, pos, negsuc}
+use Rattle.std.proofs.Common.{◌≡◌, ℕ, zero, suc, ◌+◌, ◌-◌, ◌*◌, ◌/◌, ◌%◌, ◌^◌, ◌<◌, ◌≤◌, Bool, true, false, not, ◌&&◌, ◌||◌}
+use Rattle.std.proofs.Common.{nat_le, ◌==◌, List, [], ◌∷◌, ◌++◌, length, Option, Some, None, refl, ap, ◌∙◌, sym, subst, arith}
+use Rattle.std.proofs.Common.{append_assoc, append-nil, decimal, flat_map, true≢false, if◌then◌else◌, ℤ, pos, negsuc}
 use Rattle.std.specs.Fmt.{signed_decimal}
 use Rattle.std.specs.List.{AllByRecursion}
 use Rattle.std.proofs.lemmas.Bool.{le-leb, eq-eqb, ne_eqb}
@@ -17,7 +19,8 @@ use Rattle.ipg_cert.specs.declared.refutation.Step.{Step}
 use Rattle.ipg_cert.specs.declared.refutation.Step.TheVariants.{Combine, Split, Either}
 use Rattle.ipg_cert.specs.Words.{entry_words, step_words, words_of}
 use Rattle.ipg_cert.specs.Texts.{parts_of, AreTrees, IsWord, IsSignedWord, IsEntry, IsInRange, IsTextOf}
-use Rattle.ipg_cert.specs.Reader.{limit, may_be_zero, may_be_negative, is_digit, digit_value, signed, begun, grown, State, start, spaced_to, parted, with_step, with_entry, taken, step, has_ended}
+use Rattle.ipg_cert.specs.Reader.{limit, may_be_zero, may_be_negative, is_digit, digit_value, signed, begun, grown}
+use Rattle.ipg_cert.specs.Reader.{State, start, spaced_to, parted, with_step, with_entry, taken, step, has_ended}
 use Rattle.ipg_cert.proofs.Spelled.{limit_word}
 
 abbrev pub and_then : Option State → (State → Option State) → Option State
@@ -28,7 +31,8 @@ abbrev pub run : State → List ℕ → Option State
 run st [] = Some st
 run st (b ∷ bs) = and_then (step st b) (λ on. run on bs)
 
-through : (o : Option State) (f g : State → Option State) (mid : State) (r : Option State) → ((on : State) → f on ≡ Some mid → g on ≡ r) → and_then o f ≡ Some mid → and_then o g ≡ r
+through : (o : Option State) (f g : State → Option State) (mid : State) (r : Option State) → ((on : State) → f on ≡ Some mid → g on ≡ r)
+    → and_then o f ≡ Some mid → and_then o g ≡ r
 through None f g mid r h e = absurd (none-some mid e)
 through (Some on) f g mid r h e = h on e
 
@@ -65,8 +69,10 @@ module _ (made : List Step) (entries : List (ℕ × ℕ)) (trees : ℕ) (need : 
       let here : Number = record { need = need; negative = negative; value = m / 10 } in
       ap (λ c. taken (if c then grown here (m / 10 * 10 + digit_value (48 + m % 10)) else End here) (at_number (m / 10)) (48 + m % 10)) digit
       ∙ ap (λ v. taken (grown here v) (at_number (m / 10)) (48 + m % 10)) sum
-      ∙ ap (λ c. taken (if c && nat_le m (limit need negative) then To (Digits (record { need = need; negative = negative; value = m })) else Stuck) (at_number (m / 10)) (48 + m % 10)) some
-      ∙ ap (λ c. taken (if c then To (Digits (record { need = need; negative = negative; value = m })) else Stuck) (at_number (m / 10)) (48 + m % 10)) (le-leb m (limit need negative) small)
+      ∙ ap (λ c. taken (if c && nat_le m (limit need negative) then To (Digits (record { need = need; negative = negative; value = m })) else Stuck)
+      (at_number (m / 10)) (48 + m % 10)) some
+      ∙ ap (λ c. taken (if c then To (Digits (record { need = need; negative = negative; value = m })) else Stuck) (at_number (m / 10)) (48 + m % 10))
+      (le-leb m (limit need negative) small)
 
   -- a first digit, and those after it
   module _ (st : State) (begin : (d : ℕ) → d < 10 → MayBe need negative d → step st (48 + d) ≡ Some (at_number d)) where
@@ -75,7 +81,8 @@ module _ (made : List Step) (entries : List (ℕ × ℕ)) (trees : ℕ) (need : 
         (λ m l fits ok. run_step st (at_number m) (48 + m) [] (begin m l ok))
         (λ m ds l h fits ok.
         let ok' : MayBe need negative (m / 10) = ((λ e. (let f : 1 ≤ m / 10 = omega arith in f)), (λ e. (let f : 1 ≤ m / 10 = omega arith in f))) in
-        run_on st (at_number (m / 10)) ds ((48 + m % 10) ∷ []) (h (omega arith) ok') ∙ run_step (at_number (m / 10)) (at_number m) (48 + m % 10) [] (one_more m l fits))
+        run_on st (at_number (m / 10)) ds ((48 + m % 10) ∷ []) (h (omega arith) ok')
+        ∙ run_step (at_number (m / 10)) (at_number m) (48 + m % 10) [] (one_more m l fits))
         v (omega (arith, small, limit_word need negative)) small may
 
 module _ (made : List Step) (entries : List (ℕ × ℕ)) (trees : ℕ) where
@@ -99,11 +106,13 @@ module _ (made : List Step) (entries : List (ℕ × ℕ)) (trees : ℕ) where
       ∙ ap (λ c. taken (if c then begun need true (48 + d) else Stuck) (at_place (Minus need)) (48 + d)) some
       ∙ ap (λ v. Some (at_number made entries trees need true v)) value
 
-  run_number : (need : Need) (v : ℕ) → v ≤ limit need false → (may_be_zero need ≡ false → 1 ≤ v) → run (at_place (First need)) (decimal v) ≡ Some (at_number made entries trees need false v)
+  run_number : (need : Need) (v : ℕ) → v ≤ limit need false → (may_be_zero need ≡ false → 1 ≤ v)
+      → run (at_place (First need)) (decimal v) ≡ Some (at_number made entries trees need false v)
   run_number need v small some =
       run_decimal made entries trees need false (at_place (First need)) (first_begins need) v small (some, λ e. absurd (true≢false (sym e)))
 
-  run_signed : (var : ℕ) (z : ℤ) → IsSignedWord z → (negative : Bool) × (v : ℕ) × (signed negative v ≡ z) × (run (at_place (First (At var))) (signed_decimal z) ≡ Some (at_number made entries trees (At var) negative v))
+  run_signed : (var : ℕ) (z : ℤ) → IsSignedWord z → (negative : Bool) × (v : ℕ) × (signed negative v ≡ z)
+      × (run (at_place (First (At var))) (signed_decimal z) ≡ Some (at_number made entries trees (At var) negative v))
   run_signed var (pos n) small = (false, n, refl, run_number (At var) n (omega arith) (λ e. absurd (true≢false e)))
   run_signed var (negsuc n) small =
       let some : 1 ≤ suc n = omega arith in (
@@ -121,7 +130,8 @@ record Whole (st : State) (words : List ℕ) (made : List Step) (trees : ℕ) (s
   pub spaced : step end 32 ≡ parted (record { made = made ++ s ∷ []; entries = []; open_trees = trees - 1 + parts_of s; pos = Letter }) 32
   pub fed : step end 10 ≡ parted (record { made = made ++ s ∷ []; entries = []; open_trees = trees - 1 + parts_of s; pos = Letter }) 10
 
-whole_later : (st mid : State) (xs ys : List ℕ) (made : List Step) (trees : ℕ) (s : Step) → run st xs ≡ Some mid → Whole mid ys made trees s → Whole st (xs ++ ys) made trees s
+whole_later : (st mid : State) (xs ys : List ℕ) (made : List Step) (trees : ℕ) (s : Step) → run st xs ≡ Some mid → Whole mid ys made trees s
+    → Whole st (xs ++ ys) made trees s
 whole_later st mid xs ys made trees s e w = record { end = w.end; reached = run_on st mid xs ys e ∙ w.reached; spaced = w.spaced; fed = w.fed }
 
 -- a number, and a space
@@ -140,13 +150,16 @@ module _ (made : List Step) (trees : ℕ) where
       → run st (entry_words (w, f)) ≡ Some (fact_end done left w f)
   entry_run done left w f st e first second =
       run_step st (at_place made done trees (First (Weight left))) 32 (decimal w ++ 32 ∷ decimal f) e
-      ∙ run_spaced (at_place made done trees (First (Weight left))) (at_number made done trees (Weight left) false w) (at_place made done trees (First (Fact left w))) (decimal w) (decimal f)
+      ∙ run_spaced (at_place made done trees (First (Weight left))) (at_number made done trees (Weight left) false w)
+      (at_place made done trees (First (Fact left w))) (decimal w) (decimal f)
       (run_number made done trees (Weight left) w (word_limit w first) (λ d. absurd (true≢false d))) refl
       ∙ run_number made done trees (Fact left w) f (word_limit f second) (λ d. absurd (true≢false d))
 
-  next_entry : (done : List (ℕ × ℕ)) (n w f : ℕ) → step (fact_end done (suc (suc n)) w f) 32 ≡ Some (at_place made (done ++ (w, f) ∷ []) trees (First (Weight (suc n))))
+  next_entry : (done : List (ℕ × ℕ)) (n w f : ℕ) → step (fact_end done (suc (suc n)) w f) 32
+      ≡ Some (at_place made (done ++ (w, f) ∷ []) trees (First (Weight (suc n))))
   next_entry done n w f =
-      ap (λ c. if c then parted (with_step (with_entry (fact_end done (suc (suc n)) w f) w f) (Combine (done ++ (w, f) ∷ []))) 32 else spaced_to (with_entry (fact_end done (suc (suc n)) w f) w f) (Weight (suc (suc n) - 1)) 32)
+      ap (λ c. if c then parted (with_step (with_entry (fact_end done (suc (suc n)) w f) w f) (Combine (done ++ (w, f) ∷ []))) 32 else spaced_to
+      (with_entry (fact_end done (suc (suc n)) w f) w f) (Weight (suc (suc n) - 1)) 32)
       (ne_eqb (suc (suc n)) 1 (λ e. let g : ⊥ = omega (arith, e) in g))
       ∙ ap (λ k. Some (at_place made (done ++ (w, f) ∷ []) trees (First (Weight k)))) (let e : suc (suc n) - 1 ≡ suc n = omega arith in e)
 
@@ -156,9 +169,11 @@ module _ (made : List Step) (trees : ℕ) where
       whole_later st (fact_end done 1 w f) (entry_words (w, f)) [] made trees (Combine (done ++ (w, f) ∷ [])) (entry_run done 1 w f st e all.0.0 all.0.1)
       (record { end = fact_end done 1 w f; reached = refl; spaced = refl; fed = refl })
   entries_whole (x ∷ es) done w f st e all =
-      whole_later st (fact_end done (suc (suc (length es))) w f) (entry_words (w, f)) (flat_map entry_words (x ∷ es)) made trees (Combine (done ++ (w, f) ∷ x ∷ es))
+      whole_later st (fact_end done (suc (suc (length es))) w f) (entry_words (w, f)) (flat_map entry_words (x ∷ es)) made trees
+      (Combine (done ++ (w, f) ∷ x ∷ es))
       (entry_run done (suc (suc (length es))) w f st e all.0.0 all.0.1)
-      (subst (λ fs. Whole (fact_end done (suc (suc (length es))) w f) (flat_map entry_words (x ∷ es)) made trees (Combine fs)) (append_assoc done ((w, f) ∷ []) (x ∷ es))
+      (subst (λ fs. Whole (fact_end done (suc (suc (length es))) w f) (flat_map entry_words (x ∷ es)) made trees (Combine fs))
+      (append_assoc done ((w, f) ∷ []) (x ∷ es))
       (entries_whole es (done ++ (w, f) ∷ []) x.0 x.1 (fact_end done (suc (suc (length es))) w f) (next_entry done (length es) w f) all.1))
 
   abbrev before_step : State
@@ -167,21 +182,24 @@ module _ (made : List Step) (trees : ℕ) where
   step_whole : (s : Step) → IsInRange s → Whole before_step (step_words s) made trees s
   step_whole (Combine []) range = absurd (let e : ⊥ = omega (arith, range.0) in e)
   step_whole (Combine (x ∷ es)) range =
-      whole_later before_step (at_number made [] trees Count false (suc (length es))) (99 ∷ 32 ∷ decimal (suc (length es))) (flat_map entry_words (x ∷ es)) made trees (Combine (x ∷ es))
+      whole_later before_step (at_number made [] trees Count false (suc (length es))) (99 ∷ 32 ∷ decimal (suc (length es)))
+      (flat_map entry_words (x ∷ es)) made trees (Combine (x ∷ es))
       (run_number made [] trees Count (suc (length es)) (word_limit (suc (length es)) range.1) (λ e. range.0))
       (entries_whole es [] x.0 x.1 (at_number made [] trees Count false (suc (length es))) refl range.2)
   step_whole (Split x z) range =
       let (negative, v, is, run_z) = run_signed made [] trees x z range.1 in
       record {
         end = at_number made [] trees (At x) negative v;
-        reached = run_spaced (at_place made [] trees (First Var)) (at_number made [] trees Var false x) (at_place made [] trees (First (At x))) (decimal x) (signed_decimal z)
+        reached = run_spaced (at_place made [] trees (First Var)) (at_number made [] trees Var false x) (at_place made [] trees (First (At x))) (decimal x)
+            (signed_decimal z)
             (run_number made [] trees Var x (word_limit x range.0) (λ d. absurd (true≢false d))) refl ∙ run_z;
         spaced = ap (λ y. parted (record { made = made ++ Split x y ∷ []; entries = []; open_trees = trees - 1 + 2; pos = Letter }) 32) is;
         fed = ap (λ y. parted (record { made = made ++ Split x y ∷ []; entries = []; open_trees = trees - 1 + 2; pos = Letter }) 10) is;
       }
   step_whole (Either fact parts) range = record {
     end = at_number made [] trees (Parts fact) false parts;
-    reached = run_spaced (at_place made [] trees (First Choice)) (at_number made [] trees Choice false fact) (at_place made [] trees (First (Parts fact))) (decimal fact) (decimal parts)
+    reached = run_spaced (at_place made [] trees (First Choice)) (at_number made [] trees Choice false fact) (at_place made [] trees (First (Parts fact)))
+        (decimal fact) (decimal parts)
         (run_number made [] trees Choice fact (word_limit fact range.0) (λ d. absurd (true≢false d))) refl
         ∙ run_number made [] trees (Parts fact) parts (word_limit parts range.2) (λ e. range.1);
     spaced = refl;
@@ -205,7 +223,8 @@ last_fed made n none = ap (λ c. if c then Some (record { made = made; entries =
 more_spaced : (made : List Step) (n : ℕ) → 1 ≤ n
     → parted (record { made = made; entries = []; open_trees = n; pos = Letter }) 32 ≡ Some (record { made = made; entries = []; open_trees = n; pos = Letter })
 more_spaced made n some =
-    ap (λ c. if c then None else Some (record { made = made; entries = []; open_trees = n; pos = Letter })) (ne_eqb n 0 (λ e. let f : ⊥ = omega (arith, e) in f))
+    ap (λ c. if c then None else Some (record { made = made; entries = []; open_trees = n; pos = Letter }))
+    (ne_eqb n 0 (λ e. let f : ⊥ = omega (arith, e) in f))
 
 open_after : (trees : ℕ) (s : Step) (steps : List Step) → AreTrees trees (s ∷ steps) → AreTrees (trees - 1 + parts_of s) steps
 open_after zero s steps e = absurd e

@@ -1,5 +1,6 @@
 -- Forms that were added, from what the parts of the code ensure.
-use Rattle.std.proofs.Common.{◌≡◌, ℕ, ◌+◌, ◌*◌, ◌^◌, ◌<◌, ◌≤◌, true, false, cond, ◌&&◌, nat_eq, nat_le, ℤ, pos, ◌+ℤ◌, ◌*ℤ◌, List, [], ◌∷◌, ◌++◌, map, length, get_or, drop, subst, refl, sym, ◌∙◌, ap, arith}
+use Rattle.std.proofs.Common.{◌≡◌, ℕ, ◌+◌, ◌*◌, ◌^◌, ◌<◌, ◌≤◌, true, false, cond, ◌&&◌, nat_eq, nat_le, ℤ, pos, ◌+ℤ◌, ◌*ℤ◌}
+use Rattle.std.proofs.Common.{List, [], ◌∷◌, ◌++◌, map, length, get_or, drop, subst, refl, sym, ◌∙◌, ap, arith}
 use Rattle.std.specs.Prelude.{Option, None, Some, option_and_then}
 use Rattle.std.specs.Int.RustNames.{unsigned_abs}
 use Rattle.std.proofs.lemmas.List.{drop_more}
@@ -14,10 +15,16 @@ use Rattle.ipg_cert.specs.Seen.{Added, Weighs, AreZero, StandFor, Progress}
 use Rattle.ipg_cert.proofs.Sums.{both_true, plus_times_right}
 use Rattle.ipg_cert.proofs.TotalsLemmas.{grown, abs_add}
 
-pub added : (w : ℕ) (old new : List ℤ) (constant product : ℤ) (form : Form) → w ≤ 2 ^ 40 → length form.terms ≤ 64 → are_coefficients form.terms ≡ true → AddsTerms old new w form.terms
+pub added : (w : ℕ) (old new : List ℤ) (constant product : ℤ) (form : Form) → w ≤ 2 ^ 40 → length form.terms ≤ 64 → are_coefficients form.terms ≡ true
+    → AddsTerms old new w form.terms
     → constant ≡ product → product ≡ pos w *ℤ form.constant → unsigned_abs product ≤ 2 ^ 103 → Added w old new constant form
 added w old new constant product form light few small terms same is size =
-    record { terms = terms; constant_is = same ∙ is; size = omega (arith, ap unsigned_abs same); grows = λ most. grown old new w form.terms most light few small terms }
+    record {
+      terms = terms;
+      constant_is = same ∙ is;
+      size = omega (arith, ap unsigned_abs same);
+      grows = λ most. grown old new w form.terms most light few small terms;
+    }
 
 pub rule_few : (terms : List (ℕ × ℤ)) → in_rule terms ≡ true → length terms ≤ 64
 rule_few terms h = leb-true (length terms) 64 (both_true (nat_le (length terms) 64) (rises 0 terms && are_coefficients terms) h).0
@@ -42,12 +49,15 @@ coefficient-scaled x w (t ∷ xs) =
 stands_more : (w : ℕ) (old new : List ℤ) (form sum : Form) → AddsTerms old new w form.terms → StandFor old sum → StandFor new (plus_times w form sum)
 stands_more w old new form sum adds stands x =
     adds x ∙ ap (λ z. (pos w *ℤ coefficient x form.terms) +ℤ z) (stands x)
-    ∙ sym (coefficient-append x (map (λ (t : ℕ × ℤ). (t.0, pos w *ℤ t.1)) form.terms) sum.terms ∙ ap (λ z. z +ℤ coefficient x sum.terms) (coefficient-scaled x w form.terms))
+    ∙ sym (coefficient-append x (map (λ (t : ℕ × ℤ). (t.0, pos w *ℤ t.1)) form.terms) sum.terms
+    ∙ ap (λ z. z +ℤ coefficient x sum.terms) (coefficient-scaled x w form.terms))
 
 pub started : (facts : List Fact) (entries : List (ℕ × ℕ)) (totals : List ℤ) → AreZero totals → Progress facts entries entries 0 totals (pos 0)
-started facts entries totals zero = record { sum = zero_form; leads = refl; stands = zero; constant_is = refl; within = λ x. omega (arith, ap unsigned_abs (zero x)); size = omega arith }
+started facts entries totals zero =
+    record { sum = zero_form; leads = refl; stands = zero; constant_is = refl; within = λ x. omega (arith, ap unsigned_abs (zero x)); size = omega arith }
 
-one_more : (facts : List Fact) (entry : ℕ × ℕ) (left entries : List (ℕ × ℕ)) (count : ℕ) (old new : List ℤ) (constant more next : ℤ) (o : Option Form) → form_of_entry facts entry ≡ o → Progress facts (entry ∷ left) entries count old constant
+one_more : (facts : List Fact) (entry : ℕ × ℕ) (left entries : List (ℕ × ℕ)) (count : ℕ) (old new : List ℤ) (constant more next : ℤ) (o : Option Form)
+    → form_of_entry facts entry ≡ o → Progress facts (entry ∷ left) entries count old constant
     → Weighs entry.0 old new (Some more) o → next ≡ more +ℤ constant → Progress facts left entries (count + 1) new next
 one_more facts entry left entries count old new constant more next None is p weighs e = absurd weighs
 one_more facts entry left entries count old new constant more next (Some form) is p weighs e = record {
@@ -64,8 +74,10 @@ weighs_size w old new more None weighs = absurd weighs
 weighs_size w old new more (Some form) weighs = weighs.size
 
 -- the next entry was weighed
-pub weighed : (facts : List Fact) (entries : List (ℕ × ℕ)) (i : ℕ) (old new : List ℤ) (constant more next : ℤ) (d : ℕ × ℕ) → i < length entries → Progress facts (drop i entries) entries i old constant
-    → Weighs (get_or entries i d).0 old new (Some more) (form_of_entry facts (get_or entries i d)) → next ≡ more +ℤ constant → Progress facts (drop (i + 1) entries) entries (i + 1) new next
+pub weighed : (facts : List Fact) (entries : List (ℕ × ℕ)) (i : ℕ) (old new : List ℤ) (constant more next : ℤ) (d : ℕ × ℕ) → i < length entries
+    → Progress facts (drop i entries) entries i old constant
+    → Weighs (get_or entries i d).0 old new (Some more) (form_of_entry facts (get_or entries i d)) → next ≡ more +ℤ constant
+    → Progress facts (drop (i + 1) entries) entries (i + 1) new next
 weighed facts entries i old new constant more next d within p weighs e =
     one_more facts (get_or entries i d) (drop (i + 1) entries) entries i old new constant more next (form_of_entry facts (get_or entries i d)) refl
     (subst (λ es. Progress facts es entries i old constant) (drop_more entries i d within) p) weighs e

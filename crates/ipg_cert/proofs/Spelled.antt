@@ -1,5 +1,7 @@
 -- The words that a reader has taken, and one byte more.
-use Rattle.std.proofs.Common.{◌≡◌, ℕ, zero, suc, ◌+◌, ◌-◌, ◌*◌, ◌/◌, ◌%◌, ◌^◌, ◌<◌, ◌≤◌, ◌⊎◌, Bool, true, false, not, ◌&&◌, ◌||◌, nat_le, ◌==◌, List, [], ◌∷◌, ◌++◌, length, replicate, Option, Some, None, refl, ap, ◌∙◌, sym, subst, arith, inl, inr, pos_of_ne-zero, append_assoc, append-nil, length-append, decimal, flat_map, true≢false, if◌then◌else◌}
+use Rattle.std.proofs.Common.{◌≡◌, ℕ, zero, suc, ◌+◌, ◌-◌, ◌*◌, ◌/◌, ◌%◌, ◌^◌, ◌<◌, ◌≤◌, ◌⊎◌, Bool, true, false, not, ◌&&◌, ◌||◌, nat_le, ◌==◌}
+use Rattle.std.proofs.Common.{List, [], ◌∷◌, ◌++◌, length, replicate, Option, Some, None, refl, ap, ◌∙◌, sym, subst, arith, inl, inr, pos_of_ne-zero}
+use Rattle.std.proofs.Common.{append_assoc, append-nil, length-append, decimal, flat_map, true≢false, if◌then◌else◌}
 use Rattle.std.specs.Fmt.{signed_decimal}
 use Rattle.std.specs.List.{AllByRecursion}
 use Rattle.std.proofs.lemmas.Bool.{cond_both, eqb-true, eqb-false, leb-true}
@@ -17,7 +19,8 @@ use Rattle.ipg_cert.specs.declared.refutation.Step.TheVariants.{Combine, Split, 
 use Rattle.ipg_cert.specs.Words.{entry_words, step_words, spaced, words_of}
 use Rattle.ipg_cert.specs.Texts.{parts_of, AreTrees, IsWord, IsSignedWord, IsEntry, IsInRange, IsTextOf}
 use Rattle.ipg_cert.proofs.Sums.{both_true}
-use Rattle.ipg_cert.specs.Reader.{limit, may_be_zero, may_be_negative, is_digit, digit_value, signed, begun, grown, turn_at, State, spaced_to, parted, with_entry, entered, finished, taken, step, has_ended}
+use Rattle.ipg_cert.specs.Reader.{limit, may_be_zero, may_be_negative, is_digit, digit_value, signed, begun, grown, turn_at}
+use Rattle.ipg_cert.specs.Reader.{State, spaced_to, parted, with_entry, entered, finished, taken, step, has_ended}
 
 -- ---- words
 
@@ -28,7 +31,8 @@ behind (s ∷ steps) = step_words s ++ 32 ∷ behind steps
 
 behind_push : (made : List Step) (s : Step) → behind (made ++ s ∷ []) ≡ behind made ++ (step_words s ++ 32 ∷ [])
 behind_push [] s = refl
-behind_push (m ∷ made) s = ap (λ xs. step_words m ++ 32 ∷ xs) (behind_push made s) ∙ sym (append_assoc (step_words m) (32 ∷ behind made) (step_words s ++ 32 ∷ []))
+behind_push (m ∷ made) s = ap (λ xs. step_words m ++ 32 ∷ xs) (behind_push made s)
+    ∙ sym (append_assoc (step_words m) (32 ∷ behind made) (step_words s ++ 32 ∷ []))
 
 spaced_words : (made : List Step) (s : Step) (more : List Step) → flat_map spaced (made ++ s ∷ more) ≡ 32 ∷ words_of (made ++ s ∷ more)
 spaced_words [] s more = refl
@@ -197,9 +201,11 @@ digit_more v b some small e =
     let range : (48 ≤ b) × (b ≤ 57) = grind (arith, nat_tests) in
     let front : v ≡ (v * 10 + (b - 48)) / 10 = omega arith in
     let end : b ≡ 48 + (v * 10 + (b - 48)) % 10 = omega arith in
-    ap (λ k. decimal k ++ b ∷ []) front ∙ ap (λ x. decimal ((v * 10 + (b - 48)) / 10) ++ x ∷ []) end ∙ sym (decimal_step (v * 10 + (b - 48)) (omega arith) small)
+    ap (λ k. decimal k ++ b ∷ []) front ∙ ap (λ x. decimal ((v * 10 + (b - 48)) / 10) ++ x ∷ []) end
+    ∙ sym (decimal_step (v * 10 + (b - 48)) (omega arith) small)
 
-digits_more : (negative : Bool) (v b : ℕ) → 1 ≤ v → v * 10 + digit_value b < 2 ^ 64 → is_digit b ≡ true → digits negative v ++ b ∷ [] ≡ digits negative (v * 10 + digit_value b)
+digits_more : (negative : Bool) (v b : ℕ) → 1 ≤ v → v * 10 + digit_value b < 2 ^ 64 → is_digit b ≡ true
+    → digits negative v ++ b ∷ [] ≡ digits negative (v * 10 + digit_value b)
 digits_more true v b some small e = ap (λ xs. 45 ∷ xs) (digit_more v b some small e)
 digits_more false v b some small e = digit_more v b some small e
 
@@ -217,9 +223,11 @@ pub not_negative : (need : Need) (negative : Bool) (v : ℕ) → IsNumber need n
 not_negative need false v number e = refl
 not_negative need true v number e = absurd (true≢false (sym (number.minus refl).1 ∙ e))
 
-module _ (made : List Step) (entries : List (ℕ × ℕ)) (trees : ℕ) (p : Pos) (words : List ℕ) (sound : IsSound (record { made = made; entries = entries; open_trees = trees; pos = p }) words) (b : ℕ) where
+module _ (made : List Step) (entries : List (ℕ × ℕ)) (trees : ℕ) (p : Pos) (words : List ℕ)
+    (sound : IsSound (record { made = made; entries = entries; open_trees = trees; pos = p }) words) (b : ℕ) where
   -- the step at hand goes on
-  moved : (entries' : List (ℕ × ℕ)) (q : Pos) → has_ended q ≡ false → AllByRecursion IsEntry entries' → IsAt entries' q → part entries p ++ b ∷ [] ≡ part entries' q
+  moved : (entries' : List (ℕ × ℕ)) (q : Pos) → has_ended q ≡ false → AllByRecursion IsEntry entries' → IsAt entries' q
+      → part entries p ++ b ∷ [] ≡ part entries' q
       → After (record { made = made; entries = entries'; open_trees = trees; pos = q }) (words ++ b ∷ [])
   moved entries' q on all at e = inl (
     on,
@@ -235,7 +243,8 @@ module _ (made : List Step) (entries : List (ℕ × ℕ)) (trees : ℕ) (p : Pos
 
   spaced_on : (entries' : List (ℕ × ℕ)) (need : Need) → AllByRecursion IsEntry entries' → IsDue entries' need → part entries p ++ 32 ∷ [] ≡ before entries' need
       → OnStep (spaced_to (record { made = made; entries = entries'; open_trees = trees; pos = p }) need b) (words ++ b ∷ [])
-  spaced_on entries' need all due e = if_some (b == 32) _ (words ++ b ∷ []) (λ is. moved entries' (First need) refl all due (ap (λ x. part entries p ++ x ∷ []) (eqb-true b 32 is) ∙ e))
+  spaced_on entries' need all due e = if_some (b == 32) _ (words ++ b ∷ [])
+      (λ is. moved entries' (First need) refl all due (ap (λ x. part entries p ++ x ∷ []) (eqb-true b 32 is) ∙ e))
 
   -- the step at hand is whole
   parted_on : (s : Step) → IsInRange s → part entries p ≡ step_words s
@@ -250,13 +259,15 @@ module _ (made : List Step) (entries : List (ℕ × ℕ)) (trees : ℕ) (p : Pos
         record {
           tree = leaves_none 1 (made ++ s ∷ []) (subst (Leaves 1 (made ++ s ∷ [])) (eqb-true (trees - 1 + parts_of s) 0 none) left);
           ranges = all;
-          words = ap (λ ws. ws ++ b ∷ []) (words_are ∙ ap (λ xs. behind made ++ xs) (sym (append-nil (step_words s))) ∙ sym (words_split made s [])) ∙ ap (λ x. words_of (made ++ s ∷ []) ++ x ∷ []) (eqb-true b 10 is);
+          words = ap (λ ws. ws ++ b ∷ []) (words_are ∙ ap (λ xs. behind made ++ xs) (sym (append-nil (step_words s))) ∙ sym (words_split made s []))
+              ∙ ap (λ x. words_of (made ++ s ∷ []) ++ x ∷ []) (eqb-true b 10 is);
         },
       )))
       (λ some. if_some (b == 32) _ (words ++ b ∷ []) (λ is. inl (
         refl,
         record {
-          spelled = ap (λ ws. ws ++ b ∷ []) words_are ∙ ap (λ x. (behind made ++ step_words s) ++ x ∷ []) (eqb-true b 32 is) ∙ append_assoc (behind made) (step_words s) (32 ∷ []) ∙ sym (behind_push made s) ∙ sym (append-nil (behind (made ++ s ∷ [])));
+          spelled = ap (λ ws. ws ++ b ∷ []) words_are ∙ ap (λ x. (behind made ++ step_words s) ++ x ∷ []) (eqb-true b 32 is)
+              ∙ append_assoc (behind made) (step_words s) (32 ∷ []) ∙ sym (behind_push made s) ∙ sym (append-nil (behind (made ++ s ∷ [])));
           ranges = all;
           entries = tt;
           trees = left;
@@ -312,7 +323,8 @@ module _ (made : List Step) (entries : List (ℕ × ℕ)) (trees : ℕ) (negativ
       let all = all_push IsEntry entries (weight, v) sound.entries (due.2, (let e : v < 2 ^ 64 = omega (arith, number.small) in e)) in
       let count = more_entries entries (weight, v) left due.0 in
       let spelled : part entries p ≡ 99 ∷ (32 ∷ (decimal (length entries + left) ++ flat_map entry_words (entries ++ (weight, v) ∷ []))) =
-      ap (λ ds. before entries (Fact left weight) ++ ds) (not_negative (Fact left weight) negative v number refl) ∙ entry_spelled (length entries + left) entries weight v in
+      ap (λ ds. before entries (Fact left weight) ++ ds) (not_negative (Fact left weight) negative v number refl)
+      ∙ entry_spelled (length entries + left) entries weight v in
       cond_both (left == 1) _ _ (λ o. OnStep o (words ++ b ∷ []))
       (λ one.
       let whole : length entries + left ≡ length (entries ++ (weight, v) ∷ []) = omega (arith, eqb-true left 1 one, length-append entries ((weight, v) ∷ [])) in
@@ -413,9 +425,16 @@ module _ (made : List Step) (entries : List (ℕ × ℕ)) (trees : ℕ) (words :
       let least : 1 ≤ n.value = pos_of_ne-zero (eqb-false n.value 0 (is_not (n.value == 0) some)) in
       let within : value ≤ limit n.need n.negative = leb-true value (limit n.need n.negative) small in
       let word : value < 2 ^ 64 = omega (arith, within, limit_word n.need n.negative) in
-      moved made entries trees p words sound b entries (Digits (record { need = n.need; negative = n.negative; value = value })) refl sound.entries
-      (sound.at.0, record { small = within; some = λ e. (let f : 1 ≤ value = omega (arith, least) in f); minus = λ e. ((let f : 1 ≤ value = omega (arith, least) in f), (number.minus e).1) })
-      (append_assoc (before entries n.need) (digits n.negative n.value) (b ∷ []) ∙ ap (λ xs. before entries n.need ++ xs) (digits_more n.negative n.value b least word digit)))
+      moved made entries trees p words sound b entries (Digits (record { need = n.need; negative = n.negative; value = value })) refl sound.entries (
+        sound.at.0,
+        record {
+          small = within;
+          some = λ e. (let f : 1 ≤ value = omega (arith, least) in f);
+          minus = λ e. ((let f : 1 ≤ value = omega (arith, least) in f), (number.minus e).1);
+        },
+      )
+      (append_assoc (before entries n.need) (digits n.negative n.value) (b ∷ [])
+      ∙ ap (λ xs. before entries n.need ++ xs) (digits_more n.negative n.value b least word digit)))
       (λ e. tt))
       (λ end. finished_on made entries trees n.negative n.value words b n.need sound)
 
@@ -443,7 +462,8 @@ module _ (made : List Step) (entries : List (ℕ × ℕ)) (trees : ℕ) (words :
       (λ e. cond_both (may_be_negative need && b == 45) (To (Minus need)) Stuck (Turned (First need))
       (λ e.
       let (may, minus) = both_true (may_be_negative need) (b == 45) e in
-      moved made entries trees (First need) words sound b entries (Minus need) refl sound.entries (sound.at, may) (ap (λ x. before entries need ++ x ∷ []) (eqb-true b 45 minus)))
+      moved made entries trees (First need) words sound b entries (Minus need) refl sound.entries (sound.at, may)
+      (ap (λ x. before entries need ++ x ∷ []) (eqb-true b 45 minus)))
       (λ e. tt))
   step_sound (Minus need) sound =
       cond_both (is_digit b && not (b == 48)) (begun need true b) Stuck (Turned (Minus need))

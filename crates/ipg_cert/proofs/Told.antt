@@ -30,7 +30,8 @@ wholes : (fs : List Formula) → AllByRecursion IsTold fs → map (λ (t : Told)
 wholes [] each = refl
 wholes (f ∷ fs) each = ap (λ g. g ∷ map (λ (t : Told). t.whole) (map told fs)) each.0.0 ∙ ap (λ gs. f ∷ gs) (wholes fs each.1)
 
-every_told : (v : Assignment) (fs : List Formula) → AllByRecursion IsTold fs → every (map (holds_at v) fs) ≡ true → all_hold v (flat_map (λ (t : Told). t.facts) (map told fs)) ≡ true
+every_told : (v : Assignment) (fs : List Formula) → AllByRecursion IsTold fs → every (map (holds_at v) fs) ≡ true
+    → all_hold v (flat_map (λ (t : Told). t.facts) (map told fs)) ≡ true
 every_told v [] each h = refl
 every_told v (f ∷ fs) each h = all_hold-append v (facts_of f) _ (each.0.1 v (both_true _ _ h).0) (every_told v fs each.1 (both_true _ _ h).1)
 
@@ -52,7 +53,8 @@ on_any : (fs : List Formula) → AllByRecursion IsTold fs → IsTold (formula.An
 on_any fs each =
     let e : told (formula.Any fs) ≡ told_step (Any (map told fs)) = folds-Any Told told_step fs in (
       ap (λ t. t.whole) e ∙ ap formula.Any (wholes fs each),
-      λ v h. ap (λ t. all_hold v t.facts) e ∙ ap (λ gs. some (map (holds_at v) gs) && true) (wholes fs each) ∙ ap (λ b. b && true) (sym (folds-Any Bool (holds_step v) fs) ∙ h),
+      λ v h. ap (λ t. all_hold v t.facts) e ∙ ap (λ gs. some (map (holds_at v) gs) && true) (wholes fs each)
+          ∙ ap (λ b. b && true) (sym (folds-Any Bool (holds_step v) fs) ∙ h),
     )
 
 pub is_told : (f : Formula) → IsTold f

@@ -1,5 +1,6 @@
 -- The sizes of totals, and a term more in a sum.
-use Rattle.std.proofs.Common.{◌≡◌, ℕ, suc, ◌+◌, ◌-◌, ◌*◌, ◌^◌, ◌≤◌, true, false, cond, ◌&&◌, nat_eq, nat_le, nat_lt, ℤ, pos, negsuc, ◌+ℤ◌, ◌*ℤ◌, List, [], ◌∷◌, length, get_or, take, drop, refl, ◌∙◌, ap, arith}
+use Rattle.std.proofs.Common.{◌≡◌, ℕ, suc, ◌+◌, ◌-◌, ◌*◌, ◌^◌, ◌≤◌, true, false, cond, ◌&&◌, nat_eq, nat_le, nat_lt, ℤ, pos}
+use Rattle.std.proofs.Common.{negsuc, ◌+ℤ◌, ◌*ℤ◌, List, [], ◌∷◌, length, get_or, take, drop, refl, ◌∙◌, ap, arith}
 use Rattle.std.specs.Prelude.{Result, Ok, Err, OnOk}
 use Rattle.std.specs.Int.RustNames.{unsigned_abs}
 use Rattle.std.proofs.Math.Nat.{mul-le-mul_left, mul-le-mul_right}
@@ -36,7 +37,8 @@ coefficient_size x (t ∷ terms) h =
     ]
 
 -- w times at most 64 terms add at most 2^86 to a total
-pub grown : (old new : List ℤ) (w : ℕ) (terms : List (ℕ × ℤ)) (most : ℕ) → w ≤ 2 ^ 40 → length terms ≤ 64 → are_coefficients terms ≡ true → AddsTerms old new w terms → AreWithin most old → AreWithin (most + 2 ^ 86) new
+pub grown : (old new : List ℤ) (w : ℕ) (terms : List (ℕ × ℤ)) (most : ℕ) → w ≤ 2 ^ 40 → length terms ≤ 64 → are_coefficients terms ≡ true
+    → AddsTerms old new w terms → AreWithin most old → AreWithin (most + 2 ^ 86) new
 grown old new w terms most light few small adds within x =
     let c = coefficient x terms in
     omega (
@@ -70,7 +72,8 @@ pub adds_more : (old mid new : List ℤ) (w : ℕ) (terms : List (ℕ × ℤ)) �
 adds_more old mid new w [] some rest adds = absurd (omega arith)
 adds_more old mid new w (t ∷ terms) some rest adds = λ x.
     adds x ∙ ap (λ z. cond (nat_eq t.0 x) (pos w *ℤ t.1) (pos 0) +ℤ z) (rest x ∙ ap (λ ts. (pos w *ℤ coefficient x ts) +ℤ total_at old x) (others-cons t terms))
-    ∙ elim (nat_eq t.0 x) as (λ b. cond b (pos w *ℤ t.1) (pos 0) +ℤ ((pos w *ℤ coefficient x terms) +ℤ total_at old x) ≡ (pos w *ℤ (cond b t.1 (pos 0) +ℤ coefficient x terms)) +ℤ total_at old x) [
+    ∙ elim (nat_eq t.0 x) as (λ b. cond b (pos w *ℤ t.1) (pos 0) +ℤ ((pos w *ℤ coefficient x terms) +ℤ total_at old x)
+    ≡ (pos w *ℤ (cond b t.1 (pos 0) +ℤ coefficient x terms)) +ℤ total_at old x) [
       | true ↦ same_in _ _ (omega (arith, ints, plus_times_right (pos w) t.1 (coefficient x terms)))
       | false ↦ same_in _ _ (omega (arith, ints, plus_times_right (pos w) (pos 0) (coefficient x terms), product_is (pos w) (pos 0)))
     ]

@@ -1,6 +1,7 @@
 //! Where a reader of a refutation's words stands, and where a byte takes it.
 ghost use Rattle.std.specs.Prelude.{◌≡◌, ◌≤◌, ◌+◌, ◌*◌};
-ghost use Rattle.ipg_cert.specs.Reader.{limit, may_be_zero, may_be_negative, is_digit, digit_value, begun, letter_turn, gap_turn, first_turn, minus_turn, grown, digit_turn, turn_at, has_ended, PosWithin, TurnWithin};
+ghost use Rattle.ipg_cert.specs.Reader.{limit, may_be_zero, may_be_negative, is_digit, digit_value, begun, letter_turn, gap_turn};
+ghost use Rattle.ipg_cert.specs.Reader.{first_turn, minus_turn, grown, digit_turn, turn_at, has_ended, PosWithin, TurnWithin};
 
 /// A number of a step that is due.
 #[derive(Clone, Copy)]

@@ -1,4 +1,5 @@
-ghost use Rattle.std.specs.Prelude.{◌&&◌, int_lt, ◌≡◌, ℕ, ℤ, pos, ◌+◌, ◌*◌, ◌^◌, ◌<◌, ◌≤◌, List, Option, None, Some, Bool, true, slice_get, length, map, IfOk, OnOk, IsTrue};
+ghost use Rattle.std.specs.Prelude.{◌&&◌, int_lt, ◌≡◌, ℕ, ℤ, pos, ◌+◌, ◌*◌, ◌^◌, ◌<◌, ◌≤◌, List, Option, None};
+ghost use Rattle.std.specs.Prelude.{Some, Bool, true, slice_get, length, map, IfOk, OnOk, IsTrue};
 ghost use Rattle.std.specs.List.{list_all};
 ghost use Rattle.std.specs.Ordering.{int_eq};
 ghost use Rattle.std.specs.Int.RustNames.{unsigned_abs};

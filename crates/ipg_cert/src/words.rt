@@ -1,7 +1,9 @@
 //! Reads the words of a refutation.
-ghost use Rattle.std.specs.Prelude.{◌≡◌, ℕ, ◌+◌, ◌-◌, ◌*◌, ◌^◌, ◌≤◌, ◌<◌, ◌++◌, [], ◌∷◌, length, take, drop, min, Some, None, Ok, Err, List, IfOk, MatchResult, if◌then◌else◌};
+ghost use Rattle.std.specs.Prelude.{◌≡◌, ℕ, ◌+◌, ◌-◌, ◌*◌, ◌^◌, ◌≤◌, ◌<◌, ◌++◌, [], ◌∷◌, length, take, drop};
+ghost use Rattle.std.specs.Prelude.{min, Some, None, Ok, Err, List, IfOk, MatchResult, if◌then◌else◌};
 ghost use Rattle.ipg_cert.specs.Texts.{parts_of, IsTextOf, IsTextAt, IsFault};
-ghost use Rattle.ipg_cert.specs.Reader.{limit, signed, start, spaced_to, parted, with_step, with_entry, entered, finished, step, has_ended, read_from, PosWithin, IsAnswer, IsWithin};
+ghost use Rattle.ipg_cert.specs.Reader.{limit, signed, start, spaced_to, parted, with_step, with_entry, entered};
+ghost use Rattle.ipg_cert.specs.Reader.{finished, step, has_ended, read_from, PosWithin, IsAnswer, IsWithin};
 ghost use Rattle.ipg_cert.specs.Reading.{seen};
 ghost use Rattle.ipg_cert.specs.declared.refutation.Step.{Step};
 ghost use Rattle.ipg_cert.specs.declared.words.WordFault.TheVariants.{Memory};
@@ -102,7 +104,13 @@ impl Reader {
 
     fn close(&mut self, step: Step, b: u8) -> Result<bool, AllocError>
         requires room { self.old.open_trees + 2 ^ 64 < 2 ^ 128 }
-        ensures is { IfOk result (λ on. parted (record { made = (seen self.old).made ++ step ∷ []; entries = []; open_trees = self.old.open_trees - 1 + parts_of step; pos = self.old.pos }) b ≡ (if on then Some (seen self.new) else None)) }
+        ensures is { IfOk result
+            (λ on. parted (record {
+              made = (seen self.old).made ++ step ∷ [];
+              entries = [];
+              open_trees = self.old.open_trees - 1 + parts_of step;
+              pos = self.old.pos;
+            }) b ≡ (if on then Some (seen self.new) else None)) }
         ensures within { IfOk result (λ _. PosWithin self.new.pos) }
         ensures grows { IfOk result (λ _. self.new.open_trees ≤ self.old.open_trees + 2 ^ 64) }
     {
@@ -188,7 +196,8 @@ impl Reader {
 
 /// The steps at the front of these bytes, and how many bytes they and their line feed take.
 fn read(alloc: Global, bytes: &[u8]) -> Result<(Vec<Step>, usize), WordFault>
-    ensures is { MatchResult result (λ found. read_from start 0 bytes.now ≡ Ok (found.0.items, found.1)) (λ fault. IsAnswer (read_from start 0 bytes.now) fault) }
+    ensures is { MatchResult result (λ found. read_from start 0 bytes.now ≡ Ok (found.0.items, found.1))
+        (λ fault. IsAnswer (read_from start 0 bytes.now) fault) }
     ensures within { MatchResult result (λ found. found.1 ≤ length bytes.now) (λ fault. IsWithin (length bytes.now) fault) }
 {
     let mut reader = Reader::new(alloc);
@@ -222,7 +231,8 @@ pub fn refutation_read(
     at: usize,
 ) -> Result<(Refutation, usize), WordFault>
     ensures is { MatchResult result (λ found. IsTextAt text.now at found.0.steps found.1) (λ fault. IsFault text.now at fault) }
-    ensures back { (steps : List Step) (words rest : List ℕ) → IsTextOf steps words → drop at text.now ≡ words ++ rest → MatchResult result (λ found. (found.0.steps ≡ steps) × (found.1 ≡ at + length words)) (λ fault. fault ≡ Memory) }
+    ensures back { (steps : List Step) (words rest : List ℕ) → IsTextOf steps words → drop at text.now ≡ words ++ rest
+        → MatchResult result (λ found. (found.0.steps ≡ steps) × (found.1 ≡ at + length words)) (λ fault. fault ≡ Memory) }
 {
     let from = at.min(text.len());
     match read(alloc, tail(text, from)) {

@@ -1,5 +1,6 @@
 -- What a run asks, followed through its parts.
-use Rattle.std.proofs.Common.{◌≡◌, ℕ, refl, sym, ◌∙◌, ap, Bool, true, false, if◌then◌else◌, List, [], ◌∷◌, ◌++◌, Option, Some, None, Result, Ok, Err, append-nil}
+use Rattle.std.proofs.Common.{◌≡◌, ℕ, refl, sym, ◌∙◌, ap, Bool, true, false, if◌then◌else◌, List}
+use Rattle.std.proofs.Common.{[], ◌∷◌, ◌++◌, Option, Some, None, Result, Ok, Err, append-nil}
 use Rattle.std.specs.List.{AllByRecursion}
 use Rattle.ipg_num.specs.declared.op.Answer.{Answer}
 use Rattle.ipg_num.specs.declared.op.Answer.TheVariants.{Val, Fail, Range}
@@ -38,7 +39,8 @@ unfolding go_on
 asks_go (Ok a) go k = k a refl
 asks_go (Err why) go k = asks_stop why
 
-pub asks_bind : {A B : Type 0} {Q : Asked → Type 0} (run : Run A) (go : A → Run B) → Asks Q run → ((a : A) → run.answer ≡ Ok a → Asks Q (go a)) → Asks Q (run >>= go)
+pub asks_bind : {A B : Type 0} {Q : Asked → Type 0} (run : Run A) (go : A → Run B) → Asks Q run → ((a : A) → run.answer ≡ Ok a → Asks Q (go a))
+    → Asks Q (run >>= go)
 unfolding ◌>>=◌ after
 asks_bind {A} {B} {Q} run go h k = record { each = all_append Q run.asked _ h.each (asks_go {Q = Q} run.answer go k).each }
 

@@ -1,5 +1,6 @@
 -- Where each call goes to a later rule, the height falls with the rules that are left.
-use Rattle.std.proofs.Common.{◌≡◌, ℕ, zero, suc, ◌+◌, ◌*◌, ◌<◌, ◌≤◌, ℤ, ◌+ℤ◌, ◌-ℤ◌, pos, refl, arith, List, [], ◌∷◌, ◌++◌, Option, Some, None, Bool, true, false, if◌then◌else◌, length}
+use Rattle.std.proofs.Common.{◌≡◌, ℕ, zero, suc, ◌+◌, ◌*◌, ◌<◌, ◌≤◌, ℤ, ◌+ℤ◌, ◌-ℤ◌, pos, refl, arith, List, []}
+use Rattle.std.proofs.Common.{◌∷◌, ◌++◌, Option, Some, None, Bool, true, false, if◌then◌else◌, length}
 use Rattle.std.specs.Prelude.{slice_get}
 use Rattle.std.specs.List.{AllByRecursion}
 use Rattle.ipg_core.specs.declared.grammar.Sym.{Sym}
@@ -20,7 +21,9 @@ use Rattle.ipg_core.specs.Tree.{Kid}
 use Rattle.ipg_core.specs.Environment.{Values}
 use Rattle.ipg_core.specs.Eval.{is_zero, eval}
 use Rattle.ipg_core.specs.Run.{NoTree, Run, finish, stop, some_of, value_of}
-use Rattle.ipg_core.specs.Meaning.{Call, Frame, State, Place, environment, value_in, ask, token_on, number_on, primitive_on, symbol_on, slot_on, items_on, times, item_end, item_on, many_on, turns, repetition_on, pick_on, term_on, terms_on, start, alt_on, alts_on, rule_run, rule_on, den}
+use Rattle.ipg_core.specs.Meaning.{Call, Frame, State, Place, environment, value_in, ask, token_on, number_on, primitive_on}
+use Rattle.ipg_core.specs.Meaning.{symbol_on, slot_on, items_on, times, item_end, item_on, many_on, turns, repetition_on}
+use Rattle.ipg_core.specs.Meaning.{pick_on, term_on, terms_on, start, alt_on, alts_on, rule_run, rule_on, den}
 use Rattle.ipg_core.specs.Mention.{EachSym}
 use Rattle.ipg_core.specs.Total.{IsForward, IsLater}
 use Rattle.ipg_core.specs.Laws.{ForwardIsTotal}
@@ -89,13 +92,15 @@ module _ (call : Call) (f : Frame) where
       settled_bind _ _ (settled_some (interval (length f.bytes) from to)) (λ ends _.
       symbol_settles p state.own ends.0 ends.1 slot.sym h)))
 
-  items_settle : (term : ℕ) (state : State) (slot : CoreSlot) (n : ℕ) (i : ℤ) (items : List Kid) → Leads call slot.sym → Settled (items_on call f term state slot n i items).answer
+  items_settle : (term : ℕ) (state : State) (slot : CoreSlot) (n : ℕ) (i : ℤ) (items : List Kid) → Leads call slot.sym
+      → Settled (items_on call f term state slot n i items).answer
   unfolding items_on
   items_settle term state slot zero i items h = settled_finish items
   items_settle term state slot (suc n) i items h =
       settled_bind _ _ (slot_settles _ _ (Some i) slot h) (λ item _. items_settle term state slot n (i +ℤ pos 1) (items ++ item ∷ []) h)
 
-  pick_settles : (p : Place) (state : State) (cases : List (CoreExpr × CoreSlot)) (other : CoreSlot) → AllByRecursion (λ c. Leads call c.1.sym) cases → Leads call other.sym → Settled (pick_on call f p state cases other).answer
+  pick_settles : (p : Place) (state : State) (cases : List (CoreExpr × CoreSlot)) (other : CoreSlot) → AllByRecursion (λ c. Leads call c.1.sym) cases
+      → Leads call other.sym → Settled (pick_on call f p state cases other).answer
   unfolding pick_on
   pick_settles p state [] other h k = slot_settles p state None other k
   pick_settles p state (c ∷ cases) other h k =
@@ -106,7 +111,8 @@ module _ (call : Call) (f : Frame) where
   unfolding item_on
   item_settles p own from to sym h = settled_bind _ _ (settled_some (item_end from to sym)) (λ end _. symbol_settles p own from end sym h)
 
-  many_settles : (p : Place) (own : Values) (sym : Sym) → Leads call sym → (n from to : ℕ) (items : List Kid) → Settled (many_on call f p own sym n from to items).answer
+  many_settles : (p : Place) (own : Values) (sym : Sym) → Leads call sym → (n from to : ℕ) (items : List Kid)
+      → Settled (many_on call f p own sym n from to items).answer
   unfolding many_on
   many_settles p own sym h zero from to items = settled_finish items
   many_settles p own sym h (suc n) from to items =
@@ -140,7 +146,8 @@ module _ (call : Call) (f : Frame) where
   leads_at (t ∷ terms) h zero = h.0
   leads_at (t ∷ terms) h (suc u) = leads_at terms h.1 u
 
-  terms_settle : (terms : List CoreTerm) → AllByRecursion (EachSym (Leads call)) terms → (order : List ℕ) (state : State) → Settled (terms_on call f terms order state).answer
+  terms_settle : (terms : List CoreTerm) → AllByRecursion (EachSym (Leads call)) terms → (order : List ℕ) (state : State)
+      → Settled (terms_on call f terms order state).answer
   unfolding terms_on
   terms_settle terms h [] state = settled_finish state
   terms_settle terms h (u ∷ order) state =
@@ -150,7 +157,8 @@ module _ (call : Call) (f : Frame) where
   unfolding alt_on
   alt_settles alt h = settled_bind _ _ (terms_settle alt.terms h alt.order (start (length alt.terms))) (λ state _. settled_finish _)
 
-alts_settle : (call : Call) (f : Frame) (alts : List CoreAlt) → AllByRecursion (λ alt. AllByRecursion (EachSym (Leads call)) alt.terms) alts → Settled (alts_on call f alts).answer
+alts_settle : (call : Call) (f : Frame) (alts : List CoreAlt) → AllByRecursion (λ alt. AllByRecursion (EachSym (Leads call)) alt.terms) alts
+    → Settled (alts_on call f alts).answer
 unfolding alts_on
 alts_settle call f [] h = settled_stop
 alts_settle call f (alt ∷ alts) h = settled_else _ _ (alt_settles call f alt h.0) (alts_settle call (record f { alt = f.alt + 1 }) alts h.1)
@@ -173,11 +181,13 @@ module _ (P Q : Sym → Type 0) (follows : (sym : Sym) → P sym → Q sym) wher
   terms_follow [] h = tt
   terms_follow (t ∷ terms) h = (term_follows t h.0, terms_follow terms h.1)
 
-  alts_follow : (alts : List CoreAlt) → AllByRecursion (λ alt. AllByRecursion (EachSym P) alt.terms) alts → AllByRecursion (λ alt. AllByRecursion (EachSym Q) alt.terms) alts
+  alts_follow : (alts : List CoreAlt) → AllByRecursion (λ alt. AllByRecursion (EachSym P) alt.terms) alts
+      → AllByRecursion (λ alt. AllByRecursion (EachSym Q) alt.terms) alts
   alts_follow [] h = tt
   alts_follow (alt ∷ alts) h = (terms_follow alt.terms h.0, alts_follow alts h.1)
 
-rule_settles : (call : Call) (f : Frame) (g : Grammar) (r : ℕ) (rule : Option CoreRule) → rule_at g r ≡ rule → IsForward g → ((sym : Sym) → IsLater g r sym → Leads call sym) → Settled (rule_run call f rule).answer
+rule_settles : (call : Call) (f : Frame) (g : Grammar) (r : ℕ) (rule : Option CoreRule) → rule_at g r ≡ rule → IsForward g
+    → ((sym : Sym) → IsLater g r sym → Leads call sym) → Settled (rule_run call f rule).answer
 rule_settles call f g r None e forward leads = settled_stop
 rule_settles call f g r (Some rule) e forward leads =
     alts_settle call f rule.alts (alts_follow (IsLater g r) (Leads call) leads rule.alts (forward r rule e))
@@ -195,7 +205,8 @@ forward_settles : (g : Grammar) → IsForward g → (h : ℕ) → SettlesFrom g 
 unfolding den rule_on
 forward_settles g forward zero r s outer lt le = absurd (omega arith)
 forward_settles g forward (suc h) r s outer lt le =
-    rule_settles (den g h) (record { grammar = g; rule = r; alt = 0; bytes = s; outer = outer }) g r (rule_at g r) refl forward (leads_on g h r (forward_settles g forward h) le)
+    rule_settles (den g h) (record { grammar = g; rule = r; alt = 0; bytes = s; outer = outer }) g r (rule_at g r) refl forward
+    (leads_on g h r (forward_settles g forward h) le)
 
 pub forward_is_total : ForwardIsTotal
 forward_is_total g forward r s outer fits = (forward_settles g forward ((length s + 1) * length g.rules) r s outer fits.rule (omega arith)).not_deep

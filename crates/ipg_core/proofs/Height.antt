@@ -1,5 +1,6 @@
 -- A larger height gives the same answer: each part of the evaluator agrees where its calls do.
-use Rattle.std.proofs.Common.{◌≡◌, ℕ, zero, suc, ◌+◌, ◌≤◌, ℤ, ◌+ℤ◌, ◌-ℤ◌, pos, refl, ap, arith, List, [], ◌∷◌, ◌++◌, Option, Some, None, Bool, true, false, if◌then◌else◌, length}
+use Rattle.std.proofs.Common.{◌≡◌, ℕ, zero, suc, ◌+◌, ◌≤◌, ℤ, ◌+ℤ◌, ◌-ℤ◌, pos, refl, ap, arith, List, []}
+use Rattle.std.proofs.Common.{◌∷◌, ◌++◌, Option, Some, None, Bool, true, false, if◌then◌else◌, length}
 use Rattle.std.specs.Prelude.{slice_get}
 use Rattle.ipg_core.specs.declared.grammar.Sym.{Sym}
 use Rattle.ipg_core.specs.declared.grammar.Sym.TheVariants.{Text, Prim, Rule}
@@ -15,7 +16,8 @@ use Rattle.ipg_core.specs.Tree.{Kid}
 use Rattle.ipg_core.specs.Environment.{Values}
 use Rattle.ipg_core.specs.Eval.{is_zero}
 use Rattle.ipg_core.specs.Run.{Run, some_of}
-use Rattle.ipg_core.specs.Meaning.{Call, Frame, State, Place, value_in, outer_for, ask, symbol_on, slot_on, items_on, times, item_end, item_on, many_on, turns, repetition_on, pick_on, term_on, terms_on, start, alt_on, alts_on, rule_run, rule_on, den}
+use Rattle.ipg_core.specs.Meaning.{Call, Frame, State, Place, value_in, outer_for, ask, symbol_on, slot_on, items_on, times, item_end, item_on}
+use Rattle.ipg_core.specs.Meaning.{many_on, turns, repetition_on, pick_on, term_on, terms_on, start, alt_on, alts_on, rule_run, rule_on, den}
 use Rattle.ipg_core.specs.Laws.{HeightsAgree}
 use Rattle.ipg_core.proofs.Settled.{Settled, Agree, agree_refl, agree_bind, agree_else, agree_kept}
 
@@ -26,7 +28,8 @@ pub record CallsAgree (call call' : Call) : Type 0 where
 module _ (call call' : Call) (calls : CallsAgree call call') (f : Frame) where
   ask_agrees : (p : Place) (callee from to : ℕ) (outer : Values) → Agree (ask call f p callee from to outer) (ask call' f p callee from to outer)
   unfolding ask
-  ask_agrees p callee from to outer = record { agree = λ s. ap (λ answer. record (ask call f p callee from to outer) { answer = answer }) (calls.agree callee (part f.bytes from to) outer s) }
+  ask_agrees p callee from to outer =
+      record { agree = λ s. ap (λ answer. record (ask call f p callee from to outer) { answer = answer }) (calls.agree callee (part f.bytes from to) outer s) }
 
   symbol_agrees : (p : Place) (own : Values) (from to : ℕ) (sym : Sym) → Agree (symbol_on call f p own from to sym) (symbol_on call' f p own from to sym)
   symbol_agrees p own from to (Text token) = agree_refl _
@@ -42,7 +45,8 @@ module _ (call call' : Call) (calls : CallsAgree call call') (f : Frame) where
       agree_bind (agree_refl (some_of (interval (length f.bytes) from to))) (λ ends.
       symbol_agrees p state.own ends.0 ends.1 slot.sym)))
 
-  items_agree : (term : ℕ) (state : State) (slot : CoreSlot) (n : ℕ) (i : ℤ) (items : List Kid) → Agree (items_on call f term state slot n i items) (items_on call' f term state slot n i items)
+  items_agree : (term : ℕ) (state : State) (slot : CoreSlot) (n : ℕ) (i : ℤ) (items : List Kid)
+      → Agree (items_on call f term state slot n i items) (items_on call' f term state slot n i items)
   unfolding items_on
   items_agree term state slot zero i items = agree_refl _
   items_agree term state slot (suc n) i items =
@@ -52,7 +56,8 @@ module _ (call call' : Call) (calls : CallsAgree call call') (f : Frame) where
   chosen_agrees true x x' y y' h k = h
   chosen_agrees false x x' y y' h k = k
 
-  pick_agrees : (p : Place) (state : State) (cases : List (CoreExpr × CoreSlot)) (other : CoreSlot) → Agree (pick_on call f p state cases other) (pick_on call' f p state cases other)
+  pick_agrees : (p : Place) (state : State) (cases : List (CoreExpr × CoreSlot)) (other : CoreSlot)
+      → Agree (pick_on call f p state cases other) (pick_on call' f p state cases other)
   unfolding pick_on
   pick_agrees p state [] other = slot_agrees p state None other
   pick_agrees p state (c ∷ cases) other =
@@ -63,7 +68,8 @@ module _ (call call' : Call) (calls : CallsAgree call call') (f : Frame) where
   unfolding item_on
   item_agrees p own from to sym = agree_bind (agree_refl (some_of (item_end from to sym))) (λ end. symbol_agrees p own from end sym)
 
-  many_agrees : (p : Place) (own : Values) (sym : Sym) (n from to : ℕ) (items : List Kid) → Agree (many_on call f p own sym n from to items) (many_on call' f p own sym n from to items)
+  many_agrees : (p : Place) (own : Values) (sym : Sym) (n from to : ℕ) (items : List Kid)
+      → Agree (many_on call f p own sym n from to items) (many_on call' f p own sym n from to items)
   unfolding many_on
   many_agrees p own sym zero from to items = agree_refl _
   many_agrees p own sym (suc n) from to items =
@@ -112,7 +118,9 @@ unfolding den rule_on
 heights g zero high h = record { agree = λ r s outer settled. absurd (settled.not_deep refl) }
 heights g (suc low) zero h = absurd (omega arith)
 heights g (suc low) (suc high) h = record {
-  agree = λ r s outer settled. ap (λ (run : Run _). run.answer) ((rule_agrees (den g low) (den g high) (heights g low high (omega arith)) (record { grammar = g; rule = r; alt = 0; bytes = s; outer = outer }) (rule_at g r)).agree settled);
+  agree = λ r s outer settled. ap (λ (run : Run _). run.answer)
+      ((rule_agrees (den g low) (den g high) (heights g low high (omega arith)) (record { grammar = g; rule = r; alt = 0; bytes = s; outer = outer })
+      (rule_at g r)).agree settled);
 }
 
 pub heights_agree : HeightsAgree

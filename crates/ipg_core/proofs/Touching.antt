@@ -1,5 +1,6 @@
 -- A tree of a rule that must touch does.
-use Rattle.std.proofs.Common.{◌≡◌, ℕ, zero, suc, ◌+◌, ◌-◌, ◌<◌, ◌≤◌, refl, sym, ap, ◌∙◌, subst, arith, List, [], ◌∷◌, ◌++◌, Option, Some, None, Result, Ok, Bool, true, false, cond, if◌then◌else◌, length, min, max, map, ℤ, true≢false, ◌⊎◌, inl, inr}
+use Rattle.std.proofs.Common.{◌≡◌, ℕ, zero, suc, ◌+◌, ◌-◌, ◌<◌, ◌≤◌, refl, sym, ap, ◌∙◌, subst, arith, List, [], ◌∷◌, ◌++◌, Option, Some, None}
+use Rattle.std.proofs.Common.{Result, Ok, Bool, true, false, cond, if◌then◌else◌, length, min, max, map, ℤ, true≢false, ◌⊎◌, inl, inr}
 use Rattle.std.specs.Prelude.{option_map, slice_get, slice_set, replicate, nat_eq, nat_lt, ◌&&◌, ◌||◌}
 use Rattle.std.proofs.lemmas.Bool.Decides.{nat_tests}
 use Rattle.std.proofs.lemmas.List.{length-replicate}
@@ -22,7 +23,8 @@ use Rattle.ipg_core.specs.Touch.{width, Ends, touches, untouched, moved, first_o
 use Rattle.ipg_core.specs.Environment.{Values, Done}
 use Rattle.ipg_core.specs.Eval.{is_zero}
 use Rattle.ipg_core.specs.Run.{NoTree, Deep, Run, some_of}
-use Rattle.ipg_core.specs.Meaning.{Call, Frame, State, Place, outer_for, ask, halves, token_on, number_on, primitive_on, symbol_on, slot_on, pick_on, with_kid, with_value, term_on, terms_on, start, kids_done, node_of, alt_on, alts_on, rule_run, rule_on, den}
+use Rattle.ipg_core.specs.Meaning.{Call, Frame, State, Place, outer_for, ask, halves, token_on, number_on, primitive_on, symbol_on, slot_on, pick_on}
+use Rattle.ipg_core.specs.Meaning.{with_kid, with_value, term_on, terms_on, start, kids_done, node_of, alt_on, alts_on, rule_run, rule_on, den}
 use Rattle.ipg_core.specs.Order.{is_taken, InOrder, Provides}
 use Rattle.ipg_core.specs.Good.{AltAt, IsOrdered, Good}
 use Rattle.ipg_core.specs.MustTouch.{Marks, or_false, is_marked, sym_marked, cases_marked, term_marked, some_marked, all_marked, next_round, round, MustTouch}
@@ -83,7 +85,8 @@ set_here [] u d lt h = absurd (omega arith)
 set_here (one ∷ done) zero d lt h = h
 set_here (one ∷ done) (suc u) d lt h = set_here done u d (omega arith) h
 
-set_there : (done : List (Option Done)) (u v : ℕ) (d : Done) → (u ≡ v → ⊥) → HasTouched (slice_get done v) → HasTouched (slice_get (slice_set done u (Some d)) v)
+set_there : (done : List (Option Done)) (u v : ℕ) (d : Done) → (u ≡ v → ⊥) → HasTouched (slice_get done v)
+    → HasTouched (slice_get (slice_set done u (Some d)) v)
 set_there [] u v d other h = h
 set_there (one ∷ done) zero zero d other h = absurd (other refl)
 set_there (one ∷ done) zero (suc v) d other h = h
@@ -128,7 +131,8 @@ module _ (marks : Marks) (call : Call) (calls : TouchingCalls marks call) (f : F
   primitive_touches from to Bytes h = absurd (omega arith)
   primitive_touches from to prim h = number_touches from to prim h
 
-  symbol_touches : (p : Place) (own : Values) (from to : ℕ) (item : Sym) → sym_marked marks item ≡ true → Yields KidTouches (symbol_on call f p own from to item).answer
+  symbol_touches : (p : Place) (own : Values) (from to : ℕ) (item : Sym) → sym_marked marks item ≡ true
+      → Yields KidTouches (symbol_on call f p own from to item).answer
   unfolding ask
   symbol_touches p own from to (Text token) h = token_touches from to token (ltb-true _ _ h)
   symbol_touches p own from to (Prim prim) h = primitive_touches from to prim (ltb-true _ _ h)
@@ -136,12 +140,14 @@ module _ (marks : Marks) (call : Call) (calls : TouchingCalls marks call) (f : F
       yields_bind _ _ (calls.touching callee (part f.bytes from to) (outer_for f own (holder_of (rule_at f.grammar callee))) h)
       (λ tree t. yields_finish _ (record { touching = moved_touches from (tree_ends tree) t.touching }))
 
-  slot_touches : (p : Place) (state : State) (item : Option ℤ) (slot : CoreSlot) → sym_marked marks slot.sym ≡ true → Yields KidTouches (slot_on call f p state item slot).answer
+  slot_touches : (p : Place) (state : State) (item : Option ℤ) (slot : CoreSlot) → sym_marked marks slot.sym ≡ true
+      → Yields KidTouches (slot_on call f p state item slot).answer
   unfolding slot_on
   slot_touches p state item slot h =
       yields_then _ _ (λ from _. yields_then _ _ (λ to _. yields_then _ _ (λ ends _. symbol_touches p state.own ends.0 ends.1 slot.sym h)))
 
-  pick_touches : (p : Place) (state : State) (cases : List (CoreExpr × CoreSlot)) (other : CoreSlot) → cases_marked marks cases ≡ true → sym_marked marks other.sym ≡ true → Yields KidTouches (pick_on call f p state cases other).answer
+  pick_touches : (p : Place) (state : State) (cases : List (CoreExpr × CoreSlot)) (other : CoreSlot) → cases_marked marks cases ≡ true
+      → sym_marked marks other.sym ≡ true → Yields KidTouches (pick_on call f p state cases other).answer
   unfolding pick_on
   pick_touches p state [] other h k = slot_touches p state None other k
   pick_touches p state (c ∷ cases) other h k =
@@ -155,23 +161,30 @@ module _ (marks : Marks) (call : Call) (calls : TouchingCalls marks call) (f : F
     touched : taken ≡ true → HasTouched (slice_get state.done u)
 
   -- the result of the term v, which touches where v is u
-  kid_on_the_way : (terms u v : ℕ) (b taken is_switch : Bool) (state : State) (k : Kid) → u < terms → nat_eq v u ≡ b → IsOnTheWay terms u taken state → (v ≡ u → KidTouches k)
+  kid_on_the_way : (terms u v : ℕ) (b taken is_switch : Bool) (state : State) (k : Kid) → u < terms → nat_eq v u ≡ b → IsOnTheWay terms u taken state
+      → (v ≡ u → KidTouches k)
       → IsOnTheWay terms u (b || taken) (with_kid state v is_switch k)
   unfolding with_kid
   kid_on_the_way terms u v true taken is_switch state k lt e h t =
       let same : v ≡ u = grind (arith, nat_tests) in
       let room : v < length state.done = let a = h.size in omega arith in
       let d : Done = record { is_switch = is_switch; kid = k } in
-      record { size = set_length state.done v (Some d) ∙ h.size; touched = λ _. subst (λ n. HasTouched (slice_get (slice_set state.done v (Some d)) n)) same (set_here state.done v d room (t same).touching) }
+      record {
+        size = set_length state.done v (Some d) ∙ h.size;
+        touched = λ _. subst (λ n. HasTouched (slice_get (slice_set state.done v (Some d)) n)) same
+            (set_here state.done v d room (t same).touching);
+      }
   kid_on_the_way terms u v false taken is_switch state k lt e h t =
       let other : v ≡ u → ⊥ = grind (arith, nat_tests) in
       let d : Done = record { is_switch = is_switch; kid = k } in
       record { size = set_length state.done v (Some d) ∙ h.size; touched = λ p. set_there state.done v u d other (h.touched p) }
 
   -- a term without a result, which isn't u
-  skip_on_the_way : (terms u v : ℕ) (b taken : Bool) (state next : State) → nat_eq v u ≡ b → next.done ≡ state.done → IsOnTheWay terms u taken state → (v ≡ u → ⊥) → IsOnTheWay terms u (b || taken) next
+  skip_on_the_way : (terms u v : ℕ) (b taken : Bool) (state next : State) → nat_eq v u ≡ b → next.done ≡ state.done → IsOnTheWay terms u taken state
+      → (v ≡ u → ⊥) → IsOnTheWay terms u (b || taken) next
   skip_on_the_way terms u v true taken state next e d h t = absurd (t (grind (arith, nat_tests)))
-  skip_on_the_way terms u v false taken state next e d h t = record { size = ap length d ∙ h.size; touched = λ p. subst (λ done. HasTouched (slice_get done u)) (sym d) (h.touched p) }
+  skip_on_the_way terms u v false taken state next e d h t =
+      record { size = ap length d ∙ h.size; touched = λ p. subst (λ done. HasTouched (slice_get done u)) (sym d) (h.touched p) }
 
   abbrev MarkedAt : List CoreTerm → ℕ → Type 0
   MarkedAt terms u = (term : CoreTerm) × (slice_get terms u ≡ Some term) × (term_marked marks term ≡ true)
@@ -179,7 +192,8 @@ module _ (marks : Marks) (call : Call) (calls : TouchingCalls marks call) (f : F
   marked_term : (terms : List CoreTerm) (u v : ℕ) (term : CoreTerm) → MarkedAt terms u → slice_get terms v ≡ Some term → v ≡ u → term_marked marks term ≡ true
   marked_term terms u v term m e same = let one : term ≡ m.0 = cc in subst (λ t. term_marked marks t ≡ true) (sym one) m.2
 
-  term_on_the_way : (terms : List CoreTerm) (u v : ℕ) (taken : Bool) (state : State) (term : Option CoreTerm) → MarkedAt terms u → u < length terms → slice_get terms v ≡ term
+  term_on_the_way : (terms : List CoreTerm) (u v : ℕ) (taken : Bool) (state : State) (term : Option CoreTerm) → MarkedAt terms u → u < length terms
+      → slice_get terms v ≡ term
       → IsOnTheWay (length terms) u taken state → Yields (IsOnTheWay (length terms) u (nat_eq v u || taken)) (term_on call f state v term).answer
   unfolding with_value
   term_on_the_way terms u v taken state None m lt e h = yields_stop NoTree
@@ -204,7 +218,8 @@ module _ (marks : Marks) (call : Call) (calls : TouchingCalls marks call) (f : F
 
   -- the order takes u in the end
   terms_on_the_way : (provides : ℕ → ℕ → Type 0) (terms : List CoreTerm) (u : ℕ) (taken order : List ℕ) (state : State) → MarkedAt terms u → u < length terms
-      → InOrder provides (length terms) taken order → IsOnTheWay (length terms) u (is_taken taken u) state → Yields (λ s. IsOnTheWay (length terms) u true s) (terms_on call f terms order state).answer
+      → InOrder provides (length terms) taken order → IsOnTheWay (length terms) u (is_taken taken u) state
+      → Yields (λ s. IsOnTheWay (length terms) u true s) (terms_on call f terms order state).answer
   unfolding terms_on
   terms_on_the_way provides terms u taken [] state m lt o h = yields_finish state (subst (λ b. IsOnTheWay (length terms) u b state) (o u lt) h)
   terms_on_the_way provides terms u taken (v ∷ order) state m lt o h =
@@ -229,7 +244,8 @@ module _ (marks : Marks) (call : Call) (calls : TouchingCalls marks call) (f : F
   marked_place [] h = absurd (true≢false (sym h))
   marked_place (term ∷ terms) h = marked_from term terms _ refl h (marked_place terms)
 
-  alt_touches : (provides : ℕ → ℕ → Type 0) (alt : CoreAlt) → InOrder provides (length alt.terms) [] alt.order → some_marked marks alt.terms ≡ true → Yields TreeTouches (alt_on call f alt).answer
+  alt_touches : (provides : ℕ → ℕ → Type 0) (alt : CoreAlt) → InOrder provides (length alt.terms) [] alt.order → some_marked marks alt.terms ≡ true
+      → Yields TreeTouches (alt_on call f alt).answer
   unfolding alt_on node_of
   alt_touches provides alt o h =
       let m = marked_place alt.terms h in
@@ -244,9 +260,11 @@ ordered_first : (f : Frame) (alt : CoreAlt) (alts : List CoreAlt) → AreOrdered
 ordered_first f alt alts o = subst (λ k. IsOrdered f.grammar (f.rule, k) alt) (let e : f.alt + 0 ≡ f.alt = omega arith in e) (o zero alt refl)
 
 ordered_rest : (f : Frame) (alt : CoreAlt) (alts : List CoreAlt) → AreOrdered f (alt ∷ alts) → AreOrdered (record f { alt = f.alt + 1 }) alts
-ordered_rest f alt alts o k other e = subst (λ n. IsOrdered f.grammar (f.rule, n) other) (let e : f.alt + suc k ≡ (f.alt + 1) + k = omega arith in e) (o (suc k) other e)
+ordered_rest f alt alts o k other e = subst (λ n. IsOrdered f.grammar (f.rule, n) other) (let e : f.alt + suc k ≡ (f.alt + 1) + k = omega arith in e)
+    (o (suc k) other e)
 
-alts_touch : (marks : Marks) (call : Call) → TouchingCalls marks call → (f : Frame) (alts : List CoreAlt) → AreOrdered f alts → all_marked marks alts ≡ true → Yields TreeTouches (alts_on call f alts).answer
+alts_touch : (marks : Marks) (call : Call) → TouchingCalls marks call → (f : Frame) (alts : List CoreAlt) → AreOrdered f alts → all_marked marks alts ≡ true
+    → Yields TreeTouches (alts_on call f alts).answer
 unfolding alts_on
 alts_touch marks call calls f [] o h = yields_stop NoTree
 alts_touch marks call calls f (alt ∷ alts) o h =
@@ -263,11 +281,13 @@ marked_alts : (marks : Marks) (rule : Option CoreRule) → or_false (option_map 
 marked_alts marks None h = absurd (true≢false (sym h))
 marked_alts marks (Some rule) h = h
 
-rule_touches : (marks : Marks) (call : Call) → TouchingCalls marks call → (f : Frame) → f.alt ≡ 0 → (rule : Option CoreRule) → rule_at f.grammar f.rule ≡ rule → Good f.grammar → AltsMarked marks rule → Yields TreeTouches (rule_run call f rule).answer
+rule_touches : (marks : Marks) (call : Call) → TouchingCalls marks call → (f : Frame) → f.alt ≡ 0 → (rule : Option CoreRule) → rule_at f.grammar f.rule ≡ rule
+    → Good f.grammar → AltsMarked marks rule → Yields TreeTouches (rule_run call f rule).answer
 rule_touches marks call calls f first None e good h = yields_stop NoTree
 rule_touches marks call calls f first (Some rule) e good h =
     alts_touch marks call calls f rule.alts
-    (λ k alt q. subst (λ n. IsOrdered f.grammar (f.rule, n) alt) (let s : k ≡ f.alt + k = omega arith in s) (good.ordered (f.rule, k) rule alt (record { is_rule = e; is_alt = q }))) h
+    (λ k alt q. subst (λ n. IsOrdered f.grammar (f.rule, n) alt) (let s : k ≡ f.alt + k = omega arith in s)
+    (good.ordered (f.rule, k) rule alt (record { is_rule = e; is_alt = q }))) h
 
 unmarked : (rule : Option CoreRule) → or_false (option_map (λ (r : CoreRule). false) rule) ≡ true → ⊥
 unmarked None h = true≢false (sym h)
@@ -276,10 +296,12 @@ unmarked (Some rule) h = true≢false (sym h)
 den_touches : (g : Grammar) → Good g → (k h : ℕ) → TouchingCalls (round g k) (den g h)
 unfolding den rule_on round
 den_touches g good k zero = record { touching = λ r s outer m. yields_err Deep }
-den_touches g good zero (suc h) = record { touching = λ r s outer m. absurd (unmarked (slice_get g.rules r) (sym (ap or_false (slice_get-map (λ (rule : CoreRule). false) g.rules r)) ∙ m)) }
+den_touches g good zero (suc h) =
+    record { touching = λ r s outer m. absurd (unmarked (slice_get g.rules r) (sym (ap or_false (slice_get-map (λ (rule : CoreRule). false) g.rules r)) ∙ m)) }
 den_touches g good (suc k) (suc h) = record {
   touching = λ r s outer m.
-      rule_touches (round g k) (den g h) (den_touches g good k h) (record { grammar = g; rule = r; alt = 0; bytes = s; outer = outer }) refl (rule_at g r) refl good
+      rule_touches (round g k) (den g h) (den_touches g good k h) (record { grammar = g; rule = r; alt = 0; bytes = s; outer = outer }) refl
+      (rule_at g r) refl good
       (marked_alts (round g k) (rule_at g r) (sym (ap or_false (slice_get-map (λ (rule : CoreRule). all_marked (round g k) rule.alts) g.rules r)) ∙ m));
 }
 

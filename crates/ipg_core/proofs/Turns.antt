@@ -1,5 +1,6 @@
 -- A repetition never uses up its turns.
-use Rattle.std.proofs.Common.{◌≡◌, ℕ, zero, suc, ◌+◌, ◌<◌, ◌≤◌, refl, sym, ap, ◌∙◌, arith, add-one, List, [], ◌∷◌, ◌++◌, Result, Ok, Err, Bool, true, false, if◌then◌else◌, length}
+use Rattle.std.proofs.Common.{◌≡◌, ℕ, zero, suc, ◌+◌, ◌<◌, ◌≤◌, refl, sym, ap, ◌∙◌, arith, add-one, List}
+use Rattle.std.proofs.Common.{[], ◌∷◌, ◌++◌, Result, Ok, Err, Bool, true, false, if◌then◌else◌, length}
 use Rattle.std.proofs.lemmas.Bool.{ltb-true}
 use Rattle.ipg_core.specs.declared.grammar.Sym.{Sym}
 use Rattle.ipg_core.specs.Tree.{Kid}
@@ -16,7 +17,8 @@ chosen_same true x x' y h = h refl
 chosen_same false x x' y h = refl
 
 kept_same : (answer : Result Kid Stop) (items : List Kid) (go go' : ℕ → List Kid → Run (List Kid))
-    → ((item : Kid) → answer ≡ Ok item → touches (ends_of item) ≡ true → go (ends_of item).end (items ++ item ∷ []) ≡ go' (ends_of item).end (items ++ item ∷ []))
+    → ((item : Kid) → answer ≡ Ok item → touches (ends_of item) ≡ true
+    → go (ends_of item).end (items ++ item ∷ []) ≡ go' (ends_of item).end (items ++ item ∷ []))
     → kept answer items go ≡ kept answer items go'
 unfolding kept
 kept_same (Ok item) items go go' h = chosen_same (touches (ends_of item)) _ _ _ (h item refl)

@@ -1,5 +1,6 @@
 -- A tree lies within its part.
-use Rattle.std.proofs.Common.{◌≡◌, ℕ, zero, suc, ◌+◌, ◌-◌, ◌*◌, ◌<◌, ◌≤◌, refl, sym, ap, ◌∙◌, subst, arith, List, [], ◌∷◌, ◌++◌, Option, Some, None, Result, Ok, Bool, true, false, cond, if◌then◌else◌, length, take, drop, min, max, ℤ, pos, negsuc, ◌+ℤ◌, ◌-ℤ◌}
+use Rattle.std.proofs.Common.{◌≡◌, ℕ, zero, suc, ◌+◌, ◌-◌, ◌*◌, ◌<◌, ◌≤◌, refl, sym, ap, ◌∙◌, subst, arith, List, [], ◌∷◌, ◌++◌, Option, Some, None}
+use Rattle.std.proofs.Common.{Result, Ok, Bool, true, false, cond, if◌then◌else◌, length, take, drop, min, max, ℤ, pos, negsuc, ◌+ℤ◌, ◌-ℤ◌}
 use Rattle.std.specs.Prelude.{slice_get, slice_set, replicate, nat_le, nat_lt, nat_eq, bytes_eq, ◌&&◌}
 use Rattle.std.specs.List.{AllByRecursion}
 use Rattle.std.proofs.lemmas.List.{length-take, length-drop}
@@ -22,10 +23,13 @@ use Rattle.ipg_core.specs.Touch.{width, Ends, touches, untouched, moved, first_o
 use Rattle.ipg_core.specs.Environment.{Values, Done}
 use Rattle.ipg_core.specs.Eval.{is_zero}
 use Rattle.ipg_core.specs.Run.{Stop, NoTree, Deep, Run, finish, stop, some_of}
-use Rattle.ipg_core.specs.Meaning.{Call, Frame, State, Place, value_in, outer_for, ask, token_on, number_on, primitive_on, symbol_on, slot_on, items_on, times, item_end, item_on, many_on, turns, repetition_on, pick_on, with_kid, with_value, term_on, terms_on, start, kids_done, node_of, alt_on, alts_on, rule_run, rule_on, den}
+use Rattle.ipg_core.specs.Meaning.{Call, Frame, State, Place, value_in, outer_for, ask, token_on, number_on, primitive_on, symbol_on}
+use Rattle.ipg_core.specs.Meaning.{slot_on, items_on, times, item_end, item_on, many_on, turns, repetition_on, pick_on, with_kid, with_value}
+use Rattle.ipg_core.specs.Meaning.{term_on, terms_on, start, kids_done, node_of, alt_on, alts_on, rule_run, rule_on, den}
 use Rattle.ipg_core.specs.Within.{IsInterval, AreEnds, TreeWithin, KidWithin, KidsWithin}
 use Rattle.ipg_core.specs.Laws.{LiesWithin}
-use Rattle.ipg_core.proofs.Yields.{Yields, yields_err, yields_finish, yields_stop, yields_some, yields_then, yields_bind, yields_else, yields_chosen, yields_kept}
+use Rattle.ipg_core.proofs.Yields.{Yields, yields_err, yields_finish, yields_stop, yields_some, yields_then}
+use Rattle.ipg_core.proofs.Yields.{yields_bind, yields_else, yields_chosen, yields_kept}
 
 -- ---- intervals and parts
 
@@ -38,7 +42,8 @@ same_interval n l r from to h k e =
     let b : r ≡ to = ap (λ (p : ℕ × ℕ). p.1) e in
     record { valid = omega arith; inside = omega arith }
 
-chosen_interval : (n l r from to : ℕ) (b : Bool) → (nat_le l r && nat_le r n) ≡ b → cond {A = Option (ℕ × ℕ)} b (Some (l, r)) None ≡ Some (from, to) → IsInterval n from to
+chosen_interval : (n l r from to : ℕ) (b : Bool) → (nat_le l r && nat_le r n) ≡ b → cond {A = Option (ℕ × ℕ)} b (Some (l, r)) None ≡ Some (from, to)
+    → IsInterval n from to
 chosen_interval n l r from to true t e =
     let tests = and_parts (nat_le l r) (nat_le r n) t in
     let same : pair l r ≡ pair from to = cc in
@@ -80,7 +85,8 @@ unfolding first_of untouched
 first_ends n w true e h = rw e (record { starts = omega arith; ends = omega arith })
 first_ends n w false e h = rw e (record { starts = omega arith; ends = h })
 
-moved_ends : (n from to : ℕ) (e : Ends) → IsInterval n from to → AreEnds (to - from) e.start e.end → (from ≤ (moved from e).start) × ((moved from e).end ≤ to) × AreEnds n (moved from e).start (moved from e).end
+moved_ends : (n from to : ℕ) (e : Ends) → IsInterval n from to → AreEnds (to - from) e.start e.end
+    → (from ≤ (moved from e).start) × ((moved from e).end ≤ to) × AreEnds n (moved from e).start (moved from e).end
 unfolding moved
 moved_ends n from to e i h =
     let a = i.valid in let b = i.inside in let c = h.starts in let d = h.ends in
@@ -91,7 +97,8 @@ token_stands n from to token i h =
     let m = moved_ends n from to _ i (first_ends (to - from) (length token) _ refl h) in
     record { within = (i, h); starts = m.0; ends = m.1 }
 
-number_stands : (n from to : ℕ) (prim : Primitive) (high low : ℕ) → IsInterval n from to → width prim ≤ to - from → StandsOn n from to (Number from to prim high low)
+number_stands : (n from to : ℕ) (prim : Primitive) (high low : ℕ) → IsInterval n from to → width prim ≤ to - from
+    → StandsOn n from to (Number from to prim high low)
 number_stands n from to prim high low i h =
     let m = moved_ends n from to _ i (first_ends (to - from) (width prim) _ refl h) in
     record { within = (i, h); starts = m.0; ends = m.1 }
@@ -109,18 +116,21 @@ ends_within n (Raw from to bytes) h = let a = h.0.valid in let b = h.0.inside in
 ends_within n (Array sym items) h = record { starts = omega arith; ends = omega arith }
 ends_within n (Repetition sym items) h = record { starts = omega arith; ends = omega arith }
 
-together_by : (n : ℕ) (a b : Ends) (s t : Bool) → touches a ≡ s → touches b ≡ t → AreEnds n a.start a.end → AreEnds n b.start b.end → AreEnds n (together a b).start (together a b).end
+together_by : (n : ℕ) (a b : Ends) (s t : Bool) → touches a ≡ s → touches b ≡ t → AreEnds n a.start a.end → AreEnds n b.start b.end
+    → AreEnds n (together a b).start (together a b).end
 unfolding together
 together_by n a b true true p q h k = let u = h.starts in let v = h.ends in let w = k.ends in rw (p, q) (record { starts = omega arith; ends = omega arith })
 together_by n a b true false p q h k = rw (p, q) h
 together_by n a b false t p q h k = rw p k
 
 mutual
-  kids_ends : (n : ℕ) (ks : Kids) (none : Ends) → KidsWithin n ks → AreEnds n none.start none.end → AreEnds n (kids_touch ks none).start (kids_touch ks none).end
+  kids_ends : (n : ℕ) (ks : Kids) (none : Ends) → KidsWithin n ks → AreEnds n none.start none.end
+      → AreEnds n (kids_touch ks none).start (kids_touch ks none).end
   kids_ends n no_kids none h k = k
   kids_ends n (kid one ks) none h k = together_by n _ _ _ _ refl refl (kid_ends n one none h.0 k) (kids_ends n ks none h.1 k)
 
-  kid_ends : (n : ℕ) (one : Kid) (none : Ends) → KidWithin n one → AreEnds n none.start none.end → AreEnds n (kid_touches one none).start (kid_touches one none).end
+  kid_ends : (n : ℕ) (one : Kid) (none : Ends) → KidWithin n one → AreEnds n none.start none.end
+      → AreEnds n (kid_touches one none).start (kid_touches one none).end
   kid_ends n (Sub from to tree) none h k = ends_within n (Sub from to tree) h
   kid_ends n (Token from to bytes) none h k = ends_within n (Token from to bytes) h
   kid_ends n (Number from to prim high low) none h k = ends_within n (Number from to prim high low) h
@@ -146,7 +156,8 @@ fresh_within : (n terms : ℕ) → AllByRecursion (DoneWithin n) (replicate term
 fresh_within n zero = tt
 fresh_within n (suc terms) = (tt, fresh_within n terms)
 
-set_within : (n : ℕ) (done : List (Option Done)) (term : ℕ) (d : Done) → AllByRecursion (DoneWithin n) done → KidWithin n d.kid → AllByRecursion (DoneWithin n) (slice_set done term (Some d))
+set_within : (n : ℕ) (done : List (Option Done)) (term : ℕ) (d : Done) → AllByRecursion (DoneWithin n) done → KidWithin n d.kid
+    → AllByRecursion (DoneWithin n) (slice_set done term (Some d))
 set_within n [] term d h k = h
 set_within n (one ∷ done) zero d h k = (k, h.1)
 set_within n (one ∷ done) (suc term) d h k = (h.0, set_within n done term d h.1 k)
@@ -168,10 +179,12 @@ yields_wider : {n from end to : ℕ} {answer : Result Kid Stop} → Yields (Stan
 yields_wider h w = record { holds = λ k e. let on = h.holds k e in record { within = on.within; starts = on.starts; ends = let a = on.ends in omega arith } }
 
 -- an item's interval lies in that of its repetition
-same_end : (n from r end to : ℕ) → IsInterval n from to → from ≤ r → r ≤ to → (let A = Option ℕ in let a : A = Some r in let b : A = Some end in a ≡ b) → IsInterval n from end × (end ≤ to)
+same_end : (n from r end to : ℕ) → IsInterval n from to → from ≤ r → r ≤ to → (let A = Option ℕ in let a : A = Some r in let b : A = Some end in a ≡ b)
+    → IsInterval n from end × (end ≤ to)
 same_end n from r end to i h k e = let same : r ≡ end = cc in let a = i.inside in (record { valid = omega arith; inside = omega arith }, omega arith)
 
-number_end : (n from end to w : ℕ) (b : Bool) → nat_le (from + w) to ≡ b → IsInterval n from to → cond b (Some (from + w)) None ≡ Some end → IsInterval n from end × (end ≤ to)
+number_end : (n from end to w : ℕ) (b : Bool) → nat_le (from + w) to ≡ b → IsInterval n from to → cond b (Some (from + w)) None ≡ Some end
+    → IsInterval n from end × (end ≤ to)
 number_end n from end to w true t i e = same_end n from (from + w) end to i (omega arith) (leb-true _ _ t) e
 number_end n from end to w false t i e = absurd (cc)
 
@@ -185,24 +198,31 @@ module _ (call : Call) (calls : WithinCalls call) (f : Frame) where
   abbrev size : ℕ
   size = length f.bytes
 
-  token_yields : (from to : ℕ) (token : List ℕ) → IsInterval size from to → Yields (StandsOn size from to) (token_on from to (part f.bytes from to) token).answer
+  token_yields : (from to : ℕ) (token : List ℕ) → IsInterval size from to
+      → Yields (StandsOn size from to) (token_on from to (part f.bytes from to) token).answer
   unfolding token_on
   token_yields from to token i =
       yields_chosen _ _ _
-      (λ e. yields_finish _ (token_stands size from to token i (let a = fits_token (part f.bytes from to) token e in let b = part_length f.bytes from to i in omega arith)))
+      (λ e. yields_finish _
+      (token_stands size from to token i (let a = fits_token (part f.bytes from to) token e in let b = part_length f.bytes from to i in omega arith)))
       (λ e. yields_stop NoTree)
 
-  number_yields : (from to : ℕ) (prim : Primitive) → IsInterval size from to → Yields (StandsOn size from to) (number_on from to (part f.bytes from to) prim).answer
+  number_yields : (from to : ℕ) (prim : Primitive) → IsInterval size from to
+      → Yields (StandsOn size from to) (number_on from to (part f.bytes from to) prim).answer
   unfolding number_on
   number_yields from to prim i =
       yields_chosen _ _ _ (λ e. yields_stop NoTree)
-      (λ e. yields_finish _ (number_stands size from to prim _ _ i (let a : width prim ≤ length (part f.bytes from to) = ltb-false _ _ e in let b = part_length f.bytes from to i in omega arith)))
+      (λ e. yields_finish _
+      (number_stands size from to prim _ _ i
+      (let a : width prim ≤ length (part f.bytes from to) = ltb-false _ _ e in let b = part_length f.bytes from to i in omega arith)))
 
-  primitive_yields : (from to : ℕ) (prim : Primitive) → IsInterval size from to → Yields (StandsOn size from to) (primitive_on from to (part f.bytes from to) prim).answer
+  primitive_yields : (from to : ℕ) (prim : Primitive) → IsInterval size from to
+      → Yields (StandsOn size from to) (primitive_on from to (part f.bytes from to) prim).answer
   primitive_yields from to Bytes i = yields_finish _ (raw_stands size from to _ i (part_length f.bytes from to i))
   primitive_yields from to prim i = number_yields from to prim i
 
-  symbol_yields : (p : Place) (own : Values) (from to : ℕ) (sym : Sym) → IsInterval size from to → Yields (StandsOn size from to) (symbol_on call f p own from to sym).answer
+  symbol_yields : (p : Place) (own : Values) (from to : ℕ) (sym : Sym) → IsInterval size from to
+      → Yields (StandsOn size from to) (symbol_on call f p own from to sym).answer
   unfolding ask
   symbol_yields p own from to (Text token) i = token_yields from to token i
   symbol_yields p own from to (Prim prim) i = primitive_yields from to prim i
@@ -217,31 +237,38 @@ module _ (call : Call) (calls : WithinCalls call) (f : Frame) where
       yields_bind _ _ (yields_some (interval size from to)) (λ ends e.
       yields_within (symbol_yields p state.own ends.0 ends.1 slot.sym (valid size from to ends.0 ends.1 e)))))
 
-  items_yield : (term : ℕ) (state : State) (slot : CoreSlot) (n : ℕ) (i : ℤ) (items : List Kid) → AllByRecursion (KidWithin size) items → Yields (AllByRecursion (KidWithin size)) (items_on call f term state slot n i items).answer
+  items_yield : (term : ℕ) (state : State) (slot : CoreSlot) (n : ℕ) (i : ℤ) (items : List Kid) → AllByRecursion (KidWithin size) items
+      → Yields (AllByRecursion (KidWithin size)) (items_on call f term state slot n i items).answer
   unfolding items_on
   items_yield term state slot zero i items h = yields_finish items h
   items_yield term state slot (suc n) i items h =
-      yields_bind _ _ (slot_yields _ _ (Some i) slot) (λ item k. items_yield term state slot n (i +ℤ pos 1) (items ++ item ∷ []) (push_within size items item h k))
+      yields_bind _ _ (slot_yields _ _ (Some i) slot)
+      (λ item k. items_yield term state slot n (i +ℤ pos 1) (items ++ item ∷ []) (push_within size items item h k))
 
-  pub item_yields : (p : Place) (own : Values) (from to : ℕ) (sym : Sym) → IsInterval size from to → Yields (StandsOn size from to) (item_on call f p own from to sym).answer
+  pub item_yields : (p : Place) (own : Values) (from to : ℕ) (sym : Sym) → IsInterval size from to
+      → Yields (StandsOn size from to) (item_on call f p own from to sym).answer
   unfolding item_on
   item_yields p own from to sym i =
       yields_bind _ _ (yields_some (item_end from to sym)) (λ end e.
       let j = item_interval from end to sym i e in yields_wider (symbol_yields p own from end sym j.0) j.1)
 
-  many_yields : (p : Place) (own : Values) (sym : Sym) (n from to : ℕ) (items : List Kid) → IsInterval size from to → AllByRecursion (KidWithin size) items → Yields (AllByRecursion (KidWithin size)) (many_on call f p own sym n from to items).answer
+  many_yields : (p : Place) (own : Values) (sym : Sym) (n from to : ℕ) (items : List Kid) → IsInterval size from to → AllByRecursion (KidWithin size) items
+      → Yields (AllByRecursion (KidWithin size)) (many_on call f p own sym n from to items).answer
   unfolding many_on
   many_yields p own sym zero from to items i h = yields_finish items h
   many_yields p own sym (suc n) from to items i h =
       yields_kept _ items _ h (λ item e t.
       let on = (item_yields p own from to sym i).holds item e in
-      many_yields p own sym n (ends_of item).end to (items ++ item ∷ []) (record { valid = on.ends; inside = i.inside }) (push_within size items item h on.within))
+      many_yields p own sym n (ends_of item).end to (items ++ item ∷ []) (record { valid = on.ends; inside = i.inside })
+      (push_within size items item h on.within))
 
-  pick_yields : (p : Place) (state : State) (cases : List (CoreExpr × CoreSlot)) (other : CoreSlot) → Yields (KidWithin size) (pick_on call f p state cases other).answer
+  pick_yields : (p : Place) (state : State) (cases : List (CoreExpr × CoreSlot)) (other : CoreSlot)
+      → Yields (KidWithin size) (pick_on call f p state cases other).answer
   unfolding pick_on
   pick_yields p state [] other = slot_yields p state None other
   pick_yields p state (c ∷ cases) other =
-      yields_then _ _ (λ x _. yields_chosen (is_zero x) _ _ (λ _. pick_yields (record p { branch = p.branch + 1 }) state cases other) (λ _. slot_yields p state None c.1))
+      yields_then _ _ (λ x _. yields_chosen (is_zero x) _ _ (λ _. pick_yields (record p { branch = p.branch + 1 }) state cases other)
+      (λ _. slot_yields p state None c.1))
 
   abbrev StateWithin : State → Type 0
   StateWithin state = AllByRecursion (DoneWithin size) state.done
@@ -304,7 +331,8 @@ rule_yields call calls f (Some rule) = alts_yield call calls f rule.alts
 pub den_within : (g : Grammar) (h : ℕ) → WithinCalls (den g h)
 unfolding den rule_on
 den_within g zero = record { within = λ r s outer. yields_err Deep }
-den_within g (suc h) = record { within = λ r s outer. rule_yields (den g h) (den_within g h) (record { grammar = g; rule = r; alt = 0; bytes = s; outer = outer }) (rule_at g r) }
+den_within g (suc h) =
+    record { within = λ r s outer. rule_yields (den g h) (den_within g h) (record { grammar = g; rule = r; alt = 0; bytes = s; outer = outer }) (rule_at g r) }
 
 pub lies_within : LiesWithin
 lies_within g h r s outer tree e = ((den_within g h).within r s outer).holds tree e

@@ -35,19 +35,23 @@ unfolding finish stop
 yields_some (Some a) = yields_ok a refl
 yields_some None = yields_err NoTree
 
-yields_go : {A B : Type 0} {Q : B → Type 0} (answer : Result A Stop) (go : A → Run B) → ((a : A) → answer ≡ Ok a → Yields Q (go a).answer) → Yields Q (go_on answer go).answer
+yields_go : {A B : Type 0} {Q : B → Type 0} (answer : Result A Stop) (go : A → Run B) → ((a : A) → answer ≡ Ok a → Yields Q (go a).answer)
+    → Yields Q (go_on answer go).answer
 unfolding go_on stop
 yields_go (Ok a) go k = k a refl
 yields_go (Err why) go k = yields_err why
 
-pub yields_then : {A B : Type 0} {Q : B → Type 0} (run : Run A) (go : A → Run B) → ((a : A) → run.answer ≡ Ok a → Yields Q (go a).answer) → Yields Q (run >>= go).answer
+pub yields_then : {A B : Type 0} {Q : B → Type 0} (run : Run A) (go : A → Run B) → ((a : A) → run.answer ≡ Ok a → Yields Q (go a).answer)
+    → Yields Q (run >>= go).answer
 unfolding ◌>>=◌ after
 yields_then run go k = yields_go run.answer go k
 
-pub yields_bind : {A B : Type 0} {P : A → Type 0} {Q : B → Type 0} (run : Run A) (go : A → Run B) → Yields P run.answer → ((a : A) → P a → Yields Q (go a).answer) → Yields Q (run >>= go).answer
+pub yields_bind : {A B : Type 0} {P : A → Type 0} {Q : B → Type 0} (run : Run A) (go : A → Run B) → Yields P run.answer
+    → ((a : A) → P a → Yields Q (go a).answer) → Yields Q (run >>= go).answer
 yields_bind run go h k = yields_then run go (λ a e. k a (h.holds a e))
 
-yields_next : {A : Type 0} {P : A → Type 0} (answer : Result A Stop) (next : Run A) → Yields P answer → Yields P next.answer → Yields P (or_next answer next).answer
+yields_next : {A : Type 0} {P : A → Type 0} (answer : Result A Stop) (next : Run A) → Yields P answer → Yields P next.answer
+    → Yields P (or_next answer next).answer
 unfolding or_next stop finish
 yields_next (Ok a) next h k = h
 yields_next (Err NoTree) next h k = k
@@ -58,13 +62,15 @@ pub yields_else : {A : Type 0} {P : A → Type 0} (run next : Run A) → Yields 
 unfolding or_else after
 yields_else run next h k = yields_next run.answer next h k
 
-pub yields_chosen : {A : Type 0} {P : A → Type 0} (b : Bool) (x y : Run A) → (b ≡ true → Yields P x.answer) → (b ≡ false → Yields P y.answer) → Yields P (if b then x else y).answer
+pub yields_chosen : {A : Type 0} {P : A → Type 0} (b : Bool) (x y : Run A) → (b ≡ true → Yields P x.answer) → (b ≡ false → Yields P y.answer)
+    → Yields P (if b then x else y).answer
 yields_chosen true x y h k = h refl
 yields_chosen false x y h k = k refl
 
 -- an item that touches is kept, and the run goes on behind it
 yields_keep : {P : List Kid → Type 0} (answer : Result Kid Stop) (items : List Kid) (go : ℕ → List Kid → Run (List Kid)) → P items
-    → ((item : Kid) → answer ≡ Ok item → touches (ends_of item) ≡ true → Yields P (go (ends_of item).end (items ++ item ∷ [])).answer) → Yields P (kept answer items go).answer
+    → ((item : Kid) → answer ≡ Ok item → touches (ends_of item) ≡ true → Yields P (go (ends_of item).end (items ++ item ∷ [])).answer)
+    → Yields P (kept answer items go).answer
 unfolding kept stop finish
 yields_keep (Ok item) items go p k = yields_chosen (touches (ends_of item)) _ _ (λ t. k item refl t) (λ t. yields_ok items p)
 yields_keep (Err NoTree) items go p k = yields_ok items p

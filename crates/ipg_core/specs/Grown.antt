@@ -51,7 +51,8 @@ pub record ComesTo (g : Grammar) (holder : ℕ × ℕ) (callee : ℕ) (s : List 
 -- a local rule leads to one of the same holder: to itself, or through calls of local rules
 pub data LeadsTo (g : Grammar) (holder : ℕ × ℕ) (first : ℕ) : ℕ → Type 0 where
   itself : LeadsTo g holder first first
-  further : (r callee : ℕ) (term : CoreTerm) → LeadsTo g holder first r → TermOf g r term → Contains (term_syms term) (Rule callee) → holder_of (rule_at g callee) ≡ Some holder → LeadsTo g holder first callee
+  further : (r callee : ℕ) (term : CoreTerm) → LeadsTo g holder first r → TermOf g r term → Contains (term_syms term) (Rule callee)
+      → holder_of (rule_at g callee) ≡ Some holder → LeadsTo g holder first callee
 
 -- a local rule of the holder: one that the holder calls leads to it
 pub record GrownLocal (g : Grammar) (holder : ℕ × ℕ) (r : ℕ) (s : List ℕ) (outer : Values) : Type 0 where

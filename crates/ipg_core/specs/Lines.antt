@@ -1,5 +1,6 @@
 -- The printed tree: a line for each node, terminal, number, raw bytes, array and repetition, in preorder.
-use Rattle.std.specs.Prelude.{ℕ, ◌+◌, ◌-◌, ◌/◌, ◌%◌, List, [], ◌∷◌, ◌++◌, map, flat_map, take, length, nat_le, if◌then◌else◌, decimal, codes, slice_index, ℤ, Option, Some, None}
+use Rattle.std.specs.Prelude.{ℕ, ◌+◌, ◌-◌, ◌/◌, ◌%◌, List, [], ◌∷◌, ◌++◌, map, flat_map, take, length, nat_le}
+use Rattle.std.specs.Prelude.{if◌then◌else◌, decimal, codes, slice_index, ℤ, Option, Some, None}
 use Rattle.std.specs.Fmt.{signed_decimal}
 use Rattle.ipg_core.specs.declared.grammar.Primitive.{Primitive}
 use Rattle.ipg_core.specs.declared.grammar.Primitive.TheVariants.{U8, U16LE, U16BE, U32LE, U32BE, U64LE, U64BE, Bytes}

@@ -1,5 +1,6 @@
 -- What a grammar means: the tree that a rule has on a part, found to a height.
-use Rattle.std.specs.Prelude.{◌≡◌, ◌≢◌, ℕ, zero, suc, ◌+◌, List, [], ◌∷◌, ◌++◌, Result, Ok, Err, Option, Some, None, Bool, true, false, ℤ, pos, negsuc, ◌+ℤ◌, ◌-ℤ◌, ◌-◌, drop, length, replicate, nat_lt, nat_le, bytes_eq, take, if◌then◌else◌, slice_get, slice_set}
+use Rattle.std.specs.Prelude.{◌≡◌, ◌≢◌, ℕ, zero, suc, ◌+◌, List, [], ◌∷◌, ◌++◌, Result, Ok, Err, Option, Some, None, Bool, true, false, ℤ, pos, negsuc}
+use Rattle.std.specs.Prelude.{◌+ℤ◌, ◌-ℤ◌, ◌-◌, drop, length, replicate, nat_lt, nat_le, bytes_eq, take, if◌then◌else◌, slice_get, slice_set}
 use Rattle.std.specs.Int.{w8, w16, w32, from_le_bytes, from_be_bytes}
 use Rattle.ipg_core.specs.declared.grammar.Primitive.{Primitive}
 use Rattle.ipg_core.specs.declared.grammar.Primitive.TheVariants.{U8, U16LE, U16BE, U32LE, U32BE, U64LE, U64BE, Bytes}

@@ -34,7 +34,8 @@ pub record TermOf (g : Grammar) (r : ℕ) (term : CoreTerm) : Type 0 where
 -- the local rule r reads the holder's attribute, itself or through other local rules that it calls
 pub data Reads (g : Grammar) (attr : ℕ) : ℕ → Type 0 where
   itself : (r : ℕ) (term : CoreTerm) → TermOf g r term → Contains (term_mentions term) (OuterOf attr) → Reads g attr r
-  through : (r callee : ℕ) (holder : ℕ × ℕ) (term : CoreTerm) → TermOf g r term → Contains (term_syms term) (Rule callee) → holder_of (rule_at g callee) ≡ Some holder → Reads g attr callee → Reads g attr r
+  through : (r callee : ℕ) (holder : ℕ × ℕ) (term : CoreTerm) → TermOf g r term → Contains (term_syms term) (Rule callee)
+      → holder_of (rule_at g callee) ≡ Some holder → Reads g attr callee → Reads g attr r
 
 -- a term calls a local rule of the alternative at hand, which reads an attribute that the term v sets
 pub record Passes (g : Grammar) (at : ℕ × ℕ) (terms : List CoreTerm) (term : CoreTerm) (v : ℕ) : Type 0 where

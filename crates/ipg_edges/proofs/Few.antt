@@ -25,8 +25,10 @@ module _ (g : Grammar) (good : Good g) (r : ℕ) (rule : CoreRule) (is : rule_at
   few_slots : (a : ℕ) (alt : CoreAlt) → slice_get rule.alts a ≡ Some alt → (u : ℕ) (term : CoreTerm) → slice_get alt.terms u ≡ Some term → FewSlots term
   few_slots a alt e u term f =
       let x : slots_in term ≤ sum_by slots_in alt.terms = part_of_sum slots_in alt.terms u term f in
-      let y : sum_by slots_in alt.terms ≤ sum_by (λ alt. sum_by slots_in alt.terms) rule.alts = part_of_sum (λ (alt : CoreAlt). sum_by slots_in alt.terms) rule.alts a alt e in
-      let z : sum_by (λ alt. sum_by slots_in alt.terms) rule.alts ≤ slots_of g = part_of_sum (λ (rule : CoreRule). sum_by (λ (alt : CoreAlt). sum_by slots_in alt.terms) rule.alts) g.rules r rule is in
+      let y : sum_by slots_in alt.terms ≤ sum_by (λ alt. sum_by slots_in alt.terms) rule.alts =
+      part_of_sum (λ (alt : CoreAlt). sum_by slots_in alt.terms) rule.alts a alt e in
+      let z : sum_by (λ alt. sum_by slots_in alt.terms) rule.alts ≤ slots_of g =
+      part_of_sum (λ (rule : CoreRule). sum_by (λ (alt : CoreAlt). sum_by slots_in alt.terms) rule.alts) g.rules r rule is in
       let w : slots_of g < 2 ^ 32 = good.well_formed.few_slots in
       omega arith
 

@@ -90,7 +90,8 @@ fn add_branches(
     other: &Sym,
 ) -> Result<(), AllocError>
     requires { length cases.now + 1 < 2 ^ 32 }
-    ensures { OnOk result (edges.new.items ≡ edges.old.items ++ (cases_edges at.rule at.alt at.term 0 cases.now ++ call at.rule at.alt at.term (length cases.now) other.now)) }
+    ensures { OnOk result
+        (edges.new.items ≡ edges.old.items ++ (cases_edges at.rule at.alt at.term 0 cases.now ++ call at.rule at.alt at.term (length cases.now) other.now)) }
 {
     for (branch, case) in cases.iter().enumerate() {
         add_call(edges, at, branch as u32, &case.1.sym)?;

@@ -19,9 +19,11 @@ use Rattle.ipg_facts.specs.Keep.{opening, before, caller_facts}
 use Rattle.ipg_facts.proofs.Parts.{at_item}
 
 module _ (scope : Scope) (term : ℕ) (other : CoreSlot) where
-  pub branches_more : (cases : List (CoreExpr × CoreSlot)) (i : ℕ) (c : CoreExpr × CoreSlot) (made earlier all : List Fact) → i < length cases → c ≡ get_or cases i c
+  pub branches_more : (cases : List (CoreExpr × CoreSlot)) (i : ℕ) (c : CoreExpr × CoreSlot) (made earlier all : List Fact) → i < length cases
+      → c ≡ get_or cases i c
       → made ++ branches scope term earlier (drop i cases) other ≡ all
-      → (made ++ All (earlier ++ ((read scope c.0).holds ++ slot_members scope term c.1)) ∷ []) ++ branches scope term (earlier ++ (read scope c.0).fails) (drop (i + 1) cases) other ≡ all
+      → (made ++ All (earlier ++ ((read scope c.0).holds ++ slot_members scope term c.1)) ∷ [])
+      ++ branches scope term (earlier ++ (read scope c.0).fails) (drop (i + 1) cases) other ≡ all
   unfolding branches
   branches_more cases i c made earlier all within is h =
       append_assoc made _ _ ∙ sym (ap (λ cs. made ++ branches scope term earlier cs other) (at_item cases i c is within)) ∙ h
@@ -32,7 +34,8 @@ module _ (scope : Scope) (term : ℕ) (other : CoreSlot) where
   branches_all cases i made earlier all past h = sym (ap (λ cs. made ++ branches scope term earlier cs other) (drop_all i cases past)) ∙ h
 
 module _ (scope : Scope) (other : CoreSlot) where
-  pub takes_here : (cases : List (CoreExpr × CoreSlot)) (i b : ℕ) (c : CoreExpr × CoreSlot) (made all : List Fact) → i < length cases → c ≡ get_or cases i c → i ≡ b
+  pub takes_here : (cases : List (CoreExpr × CoreSlot)) (i b : ℕ) (c : CoreExpr × CoreSlot) (made all : List Fact) → i < length cases → c ≡ get_or cases i c
+      → i ≡ b
       → made ++ takes scope (drop i cases) other (b - i) ≡ all → made ++ ((read scope c.0).holds ++ is_whole scope c.1.from c.1.to) ≡ all
   unfolding takes
   takes_here cases i b c made all within is e h =
@@ -40,7 +43,8 @@ module _ (scope : Scope) (other : CoreSlot) where
       ap (λ n. made ++ takes scope (c ∷ drop (i + 1) cases) other n) z
       ∙ sym (ap (λ cs. made ++ takes scope cs other (b - i)) (at_item cases i c is within)) ∙ h
 
-  pub takes_more : (cases : List (CoreExpr × CoreSlot)) (i b : ℕ) (c : CoreExpr × CoreSlot) (made all : List Fact) → i < length cases → c ≡ get_or cases i c → i < b
+  pub takes_more : (cases : List (CoreExpr × CoreSlot)) (i b : ℕ) (c : CoreExpr × CoreSlot) (made all : List Fact) → i < length cases → c ≡ get_or cases i c
+      → i < b
       → made ++ takes scope (drop i cases) other (b - i) ≡ all → (made ++ (read scope c.0).fails) ++ takes scope (drop (i + 1) cases) other (b - (i + 1)) ≡ all
   unfolding takes
   takes_more cases i b c made all within is e h =
@@ -60,12 +64,14 @@ at_nat xs i within =
     drop-cons xs i 0 within ∙ ap (λ j. get_or xs i 0 ∷ drop j xs) next
 
 pub terms_more : (scope : Scope) (order : List ℕ) (i : ℕ) (made all : List Fact) → i < length order
-    → made ++ terms_members scope (drop i order) ≡ all → (made ++ members scope (get_or order i 0) (slice_get scope.terms (get_or order i 0))) ++ terms_members (passed scope (get_or order i 0)) (drop (i + 1) order) ≡ all
+    → made ++ terms_members scope (drop i order) ≡ all → (made ++ members scope (get_or order i 0) (slice_get scope.terms (get_or order i 0)))
+    ++ terms_members (passed scope (get_or order i 0)) (drop (i + 1) order) ≡ all
 unfolding terms_members
 terms_more scope order i made all within h =
     append_assoc made _ _ ∙ sym (ap (λ us. made ++ terms_members scope us) (at_nat order i within)) ∙ h
 
-pub terms_all : (scope : Scope) (order : List ℕ) (i : ℕ) (made all : List Fact) → length order ≤ i → made ++ terms_members scope (drop i order) ≡ all → made ≡ all
+pub terms_all : (scope : Scope) (order : List ℕ) (i : ℕ) (made all : List Fact) → length order ≤ i → made ++ terms_members scope (drop i order) ≡ all
+    → made ≡ all
 unfolding terms_members
 terms_all scope order i made all past h = sym (append-nil made) ∙ sym (ap (λ us. made ++ terms_members scope us) (drop_all i order past)) ∙ h
 
@@ -86,4 +92,5 @@ caller_made g marks e caller scope done order old mid new is_scope is_order is_m
     is_new ∙ ap (λ m. m ++ own_at done e.term e.branch) is_mid ∙ append_assoc old (terms_members scope order) (own_at done e.term e.branch)
     ∙ ap (λ d. old ++ (terms_members scope order ++ own_at d e.term e.branch)) is_done
     ∙ ap (λ s. old ++ (terms_members s order ++ own_at (passed_all s order) e.term e.branch)) is_scope
-    ∙ ap (λ o. old ++ (terms_members (opening g marks caller_side caller) o ++ own_at (passed_all (opening g marks caller_side caller) o) e.term e.branch)) is_order
+    ∙ ap (λ o. old ++ (terms_members (opening g marks caller_side caller) o ++ own_at (passed_all (opening g marks caller_side caller) o) e.term e.branch))
+    is_order

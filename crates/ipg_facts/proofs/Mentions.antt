@@ -34,7 +34,8 @@ no_fields ask Start = refl
 no_fields ask End = refl
 
 pub any_fields : (ask : Ask) (field : CoreField) (xs : List Mention) → list_any (answers ask) (xs ++ field_mentions field) ≡ list_any (answers ask) xs
-any_fields ask field xs = any_append (answers ask) xs (field_mentions field) ∙ ap (λ b. list_any (answers ask) xs || b) (no_fields ask field) ∙ or_false (list_any (answers ask) xs)
+any_fields ask field xs = any_append (answers ask) xs (field_mentions field) ∙ ap (λ b. list_any (answers ask) xs || b) (no_fields ask field)
+    ∙ or_false (list_any (answers ask) xs)
 
 pub any_flat : {A B : Type 0} (p : B → Bool) (f : A → List B) (xs : List A) → list_any p (flat_map f xs) ≡ list_any (λ x. list_any p (f x)) xs
 any_flat p f [] = refl

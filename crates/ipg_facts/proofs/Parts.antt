@@ -37,7 +37,8 @@ at_item xs i x is within =
     let next : suc i ≡ i + 1 = omega arith in
     drop-cons xs i x within ∙ ap (λ y. y ∷ drop (suc i) xs) (sym is) ∙ ap (λ j. x ∷ drop j xs) next
 
-pub parts_more : (ps qs : List Part) (i : ℕ) (q : Part) (all : List Part) → i < length qs → q ≡ get_or qs i q → add_parts ps (drop i qs) ≡ all → add_parts (add_part ps q) (drop (i + 1) qs) ≡ all
+pub parts_more : (ps qs : List Part) (i : ℕ) (q : Part) (all : List Part) → i < length qs → q ≡ get_or qs i q → add_parts ps (drop i qs) ≡ all
+    → add_parts (add_part ps q) (drop (i + 1) qs) ≡ all
 unfolding add_parts
 parts_more ps qs i q all within is h = sym (ap (add_parts ps) (at_item qs i q is within)) ∙ h
 

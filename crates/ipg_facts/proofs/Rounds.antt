@@ -8,7 +8,8 @@ use Rattle.ipg_core.specs.Grammar.{Grammar}
 use Rattle.ipg_facts.specs.Holder.{readers, reads_next}
 
 -- one round more
-pub round_more : (g : Grammar) (attr k : ℕ) (marks next : List Bool) → marks ≡ readers g attr k → next ≡ map (reads_next g attr marks) g.rules → next ≡ readers g attr (k + 1)
+pub round_more : (g : Grammar) (attr k : ℕ) (marks next : List Bool) → marks ≡ readers g attr k → next ≡ map (reads_next g attr marks) g.rules
+    → next ≡ readers g attr (k + 1)
 unfolding readers
 round_more g attr k marks next e f =
     f ∙ ap (λ ms. map (reads_next g attr ms) g.rules) e ∙ ap (readers g attr) (let h : suc k ≡ k + 1 = omega arith in h)
@@ -20,7 +21,8 @@ stays g attr k (suc d) e =
     ap (readers g attr) (let h : k + suc d ≡ suc (k + d) = omega arith in h)
     ∙ ap (λ ms. map (reads_next g attr ms) g.rules) (stays g attr k d e) ∙ e
 
-pub settled : (g : Grammar) (attr k n : ℕ) (marks next : List Bool) → k ≤ n → marks ≡ readers g attr k → next ≡ map (reads_next g attr marks) g.rules → next ≡ marks → marks ≡ readers g attr n
+pub settled : (g : Grammar) (attr k n : ℕ) (marks next : List Bool) → k ≤ n → marks ≡ readers g attr k → next ≡ map (reads_next g attr marks) g.rules
+    → next ≡ marks → marks ≡ readers g attr n
 settled g attr k n marks next le e f same =
     let last : readers g attr (suc k) ≡ readers g attr k =
     ap (readers g attr) (let h : suc k ≡ k + 1 = omega arith in h) ∙ sym (round_more g attr k marks next e f) ∙ same ∙ e in

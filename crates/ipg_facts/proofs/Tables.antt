@@ -1,5 +1,6 @@
 -- The table of keys, as the list of them.
-use Rattle.std.proofs.Common.{◌≡◌, ℕ, ◌+◌, ◌||◌, ◌≤◌, Bool, true, false, cond, not, List, [], ◌∷◌, ◌++◌, map, length, None, Some, refl, ap, ◌∙◌, sym, arith, nat_lt}
+use Rattle.std.proofs.Common.{◌≡◌, ℕ, ◌+◌, ◌||◌, ◌≤◌, Bool, true, false, cond, not, List, [], ◌∷◌}
+use Rattle.std.proofs.Common.{◌++◌, map, length, None, Some, refl, ap, ◌∙◌, sym, arith, nat_lt}
 use Rattle.std.specs.Prelude.{bytes_eq, if◌then◌else◌, flat_map, get_or, drop, suc, ◌<◌}
 use Rattle.std.proofs.Math.Seq.{drop-cons}
 use Rattle.ipg_facts.specs.declared.fact.Fact.{Fact, fold-roll-Fact}
@@ -27,7 +28,8 @@ shown_more : (keys : List (Bor (List ℕ))) (key : Bor (List ℕ)) → shown (ke
 shown_more [] key = refl
 shown_more (k ∷ keys) key = ap (λ names. k.now ∷ names) (shown_more keys key)
 
-chosen : (b : Bool) (keys : List (Bor (List ℕ))) (key : Bor (List ℕ)) → shown (if b then keys else keys ++ key ∷ []) ≡ (if b then shown keys else shown keys ++ key.now ∷ [])
+chosen : (b : Bool) (keys : List (Bor (List ℕ))) (key : Bor (List ℕ))
+    → shown (if b then keys else keys ++ key ∷ []) ≡ (if b then shown keys else shown keys ++ key.now ∷ [])
 chosen true keys key = refl
 chosen false keys key = shown_more keys key
 

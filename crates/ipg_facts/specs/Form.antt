@@ -1,5 +1,6 @@
 -- Linear forms over variables that carry their own facts, and the facts that such forms make.
-use Rattle.std.specs.Prelude.{◌^◌, List, [], ◌∷◌, ◌++◌, length, flat_map, map, Bool, false, not, ◌&&◌, ◌||◌, nat_le, nat_lt, bytes_eq, ℤ, pos, negsuc, ◌+ℤ◌, ◌*ℤ◌, if◌then◌else◌}
+use Rattle.std.specs.Prelude.{◌^◌, List, [], ◌∷◌, ◌++◌, length, flat_map, map, Bool, false, not, ◌&&◌, ◌||◌}
+use Rattle.std.specs.Prelude.{nat_le, nat_lt, bytes_eq, ℤ, pos, negsuc, ◌+ℤ◌, ◌*ℤ◌, if◌then◌else◌}
 use Rattle.std.specs.List.{list_all, filter}
 use Rattle.std.specs.Int.RustNames.{unsigned_abs}
 use Rattle.ipg_facts.specs.declared.fact.Part.{Part}

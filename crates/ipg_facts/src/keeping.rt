@@ -117,7 +117,8 @@ fn put_held(
     at: (u32, u32),
     caller: &CoreAlt,
 ) -> Result<(), AllocError>
-    ensures { OnOk result (out.new.items ≡ out.old.items ++ spec.held ground.entry.grammar.now ground.entry.marks.now at (spec.alt_at ground.entry.grammar.now at) caller.now) }
+    ensures { OnOk result
+        (out.new.items ≡ out.old.items ++ spec.held ground.entry.grammar.now ground.entry.marks.now at (spec.alt_at ground.entry.grammar.now at) caller.now) }
 {
     match alt_at(ground.grammar, at) {
         None => Ok(()),
@@ -175,7 +176,8 @@ fn put_rule_facts(
     edge: Edge,
     rule: &CoreRule,
 ) -> Result<(), AllocError>
-    ensures { OnOk result (out.new.items ≡ out.old.items ++ spec.rule_facts ground.entry.grammar.now ground.entry.marks.now edge (Some rule.now) (slice_get rule.now.alts edge.alt)) }
+    ensures { OnOk result (out.new.items ≡ out.old.items ++ spec.rule_facts ground.entry.grammar.now ground.entry.marks.now edge (Some rule.now)
+        (slice_get rule.now.alts edge.alt)) }
 {
     match alt_of(rule, edge.alt) {
         None => Ok(()),

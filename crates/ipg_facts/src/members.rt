@@ -45,7 +45,9 @@ fn put_case(
     earlier: &[Fact],
     case: &(CoreExpr, CoreSlot),
 ) -> Result<(), AllocError>
-    ensures { OnOk result (out.new.items ≡ out.old.items ++ Fact.All (earlier.now ++ ((reading.read (scope_of scope.now) case.now.0).holds ++ spec.slot_members (scope_of scope.now) term case.now.1)) ∷ []) }
+    ensures { OnOk result
+        (out.new.items ≡ out.old.items
+        ++ Fact.All (earlier.now ++ ((reading.read (scope_of scope.now) case.now.0).holds ++ spec.slot_members (scope_of scope.now) term case.now.1)) ∷ []) }
 {
     let mut members = copy_members(alloc, earlier)?.into_vec();
     put_holds(alloc, &mut members, scope, &case.0)?;
@@ -113,7 +115,8 @@ fn put_set(
     attr: u32,
     value: &CoreExpr,
 ) -> Result<(), AllocError>
-    ensures { OnOk result (out.new.items ≡ out.old.items ++ forms.equal (forms.variable (keys.attribute scope.now.side attr) []) (reading.form (scope_of scope.now) value.now)) }
+    ensures { OnOk result
+        (out.new.items ≡ out.old.items ++ forms.equal (forms.variable (keys.attribute scope.now.side attr) []) (reading.form (scope_of scope.now) value.now)) }
 {
     let set = variable(alloc, attribute(alloc, scope.side, attr)?, List::new(alloc))?;
     put_equal(alloc, out, &set, &form_of(alloc, scope, value)?)
@@ -183,7 +186,11 @@ fn pass_array(
     first: &CoreExpr,
     last: &CoreExpr,
 ) -> Result<(), AllocError>
-    ensures { OnOk result (scope_of scope.new ≡ record (scope_of scope.old) { arrays = slice_set scope.old.arrays.items term (Some (record { first = reading.form (scope_of scope.old) first.now; last = reading.form (scope_of scope.old) last.now })) }) }
+    ensures { OnOk result
+        (scope_of scope.new ≡ record (scope_of scope.old) {
+          arrays = slice_set scope.old.arrays.items term
+              (Some (record { first = reading.form (scope_of scope.old) first.now; last = reading.form (scope_of scope.old) last.now }));
+        }) }
 {
     let bounds = Bounds {
         first: form_of(alloc, scope, first)?,
@@ -230,7 +237,8 @@ pub fn put_terms_members(
     scope: &mut Scope,
     order: &[u32],
 ) -> Result<(), AllocError>
-    ensures { OnOk result ((out.new.items ≡ out.old.items ++ spec.terms_members (scope_of scope.old) order.now) × (scope_of scope.new ≡ spec.passed_all (scope_of scope.old) order.now)) }
+    ensures { OnOk result ((out.new.items ≡ out.old.items ++ spec.terms_members (scope_of scope.old) order.now)
+        × (scope_of scope.new ≡ spec.passed_all (scope_of scope.old) order.now)) }
 {
     for term in order {
         put_members(alloc, out, scope, *term)?;
@@ -282,7 +290,9 @@ fn put_taken_case(
     scope: &Scope,
     case: &(CoreExpr, CoreSlot),
 ) -> Result<(), AllocError>
-    ensures { OnOk result (out.new.items ≡ out.old.items ++ ((reading.read (scope_of scope.now) case.now.0).holds ++ spec.is_whole (scope_of scope.now) case.now.1.from case.now.1.to)) }
+    ensures { OnOk result
+        (out.new.items ≡ out.old.items
+        ++ ((reading.read (scope_of scope.now) case.now.0).holds ++ spec.is_whole (scope_of scope.now) case.now.1.from case.now.1.to)) }
 {
     put_holds(alloc, out, scope, &case.0)?;
     put_is_whole(alloc, out, scope, &case.1.from, &case.1.to)

@@ -121,7 +121,8 @@ pub fn atom(alloc: Global, terms: &[(u64, i64)], constant: i64) -> Result<Formul
 }
 
 fn numbered_atom(alloc: Global, keys: &Keys<'_>, draft: &Draft) -> Result<Formula, AllocError>
-    ensures { IfOk result (λ atom. atom ≡ Formula.Atom (record { terms = spec.numbered (keys_shown keys.now) draft.now.terms; constant = draft.now.constant })) }
+    ensures { IfOk result
+        (λ atom. atom ≡ Formula.Atom (record { terms = spec.numbered (keys_shown keys.now) draft.now.terms; constant = draft.now.constant })) }
 {
     let terms = numbered(alloc, keys, draft.terms.as_slice())?;
     atom(alloc, terms.as_slice(), draft.constant)

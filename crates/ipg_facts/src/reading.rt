@@ -216,7 +216,10 @@ fn item_form(
     term: u32,
     field: CoreField,
 ) -> Result<Form, AllocError>
-    ensures { IfOk result (λ form. form ≡ forms.variable (keys.value scope.now.side (spec.read (scope_of scope.now) e.now).words) (spec.item_facts (scope_of scope.now) (spec.item_at (scope_of scope.now) term) field (spec.opaque (scope_of scope.now) (spec.read (scope_of scope.now) e.now).words))) }
+    ensures { IfOk result
+        (λ form. form ≡ forms.variable (keys.value scope.now.side (spec.read (scope_of scope.now) e.now).words)
+        (spec.item_facts (scope_of scope.now) (spec.item_at (scope_of scope.now) term) field
+        (spec.opaque (scope_of scope.now) (spec.read (scope_of scope.now) e.now).words))) }
 {
     let mut facts = Vec::new(alloc);
     let known = opaque(alloc, scope, e)?;
@@ -238,7 +241,10 @@ fn after_form(
     term: u32,
     left: &Form,
 ) -> Result<Form, AllocError>
-    ensures { IfOk result (λ form. form ≡ forms.variable (keys.value scope.now.side (spec.read (scope_of scope.now) e.now).words) (spec.after_facts (scope_of scope.now) (spec.touching (scope_of scope.now) term) (spec.opaque (scope_of scope.now) (spec.read (scope_of scope.now) e.now).words) left.now)) }
+    ensures { IfOk result
+        (λ form. form ≡ forms.variable (keys.value scope.now.side (spec.read (scope_of scope.now) e.now).words)
+        (spec.after_facts (scope_of scope.now) (spec.touching (scope_of scope.now) term)
+        (spec.opaque (scope_of scope.now) (spec.read (scope_of scope.now) e.now).words) left.now)) }
 {
     let mut facts = Vec::new(alloc);
     let known = opaque(alloc, scope, e)?;
@@ -312,7 +318,10 @@ fn cond_form(
     taken: Case,
     other: Case,
 ) -> Result<Form, AllocError>
-    ensures { IfOk result (λ form. form ≡ forms.variable (keys.value scope.now.side (spec.read (scope_of scope.now) e.now).words) (forms.choice (taken.facts.items ++ forms.equal (spec.opaque (scope_of scope.now) (spec.read (scope_of scope.now) e.now).words) taken.form) (other.facts.items ++ forms.equal (spec.opaque (scope_of scope.now) (spec.read (scope_of scope.now) e.now).words) other.form))) }
+    ensures { IfOk result
+        (λ form. form ≡ forms.variable (keys.value scope.now.side (spec.read (scope_of scope.now) e.now).words)
+        (forms.choice (taken.facts.items ++ forms.equal (spec.opaque (scope_of scope.now) (spec.read (scope_of scope.now) e.now).words) taken.form)
+        (other.facts.items ++ forms.equal (spec.opaque (scope_of scope.now) (spec.read (scope_of scope.now) e.now).words) other.form))) }
 {
     let known = opaque(alloc, scope, e)?;
     let mut one = taken.facts;

@@ -12,7 +12,8 @@ first-lower k v low place other h = record {
   here = h.here;
 }
 
-pub linked-none : (k : Keys) (firsts nexts : List ℕ) → length k.keys < 2 ^ 32 → length firsts ≡ k.limit → length nexts ≡ length k.keys → ((v : ℕ) → v < k.limit → get_or firsts v 0 ≡ length k.keys) → IsLinked k firsts nexts (length k.keys)
+pub linked-none : (k : Keys) (firsts nexts : List ℕ) → length k.keys < 2 ^ 32 → length firsts ≡ k.limit → length nexts ≡ length k.keys
+    → ((v : ℕ) → v < k.limit → get_or firsts v 0 ≡ length k.keys) → IsLinked k firsts nexts (length k.keys)
 linked-none k firsts nexts small f n none = record {
   small = small;
   firsts_len = f;
@@ -40,7 +41,8 @@ linked-past k firsts nexts at past h = record {
 }
 
 -- a place with a key
-pub linked-at : (k : Keys) (firsts nexts : List ℕ) (at v : ℕ) → at < length k.keys → key k at ≡ v → v < k.limit → IsLinked k firsts nexts (at + 1) → IsLinked k (set firsts v at) (set nexts at (get_or firsts v 0)) at
+pub linked-at : (k : Keys) (firsts nexts : List ℕ) (at v : ℕ) → at < length k.keys → key k at ≡ v → v < k.limit → IsLinked k firsts nexts (at + 1)
+    → IsLinked k (set firsts v at) (set nexts at (get_or firsts v 0)) at
 linked-at k firsts nexts at v inside is below h =
     let vin : v < length firsts = omega (arith, h.firsts_len) in
     let ain : at < length nexts = omega (arith, h.nexts_len) in
@@ -58,7 +60,8 @@ linked-at k firsts nexts at v inside is below h =
         | inr ne ↦ rw (get_or-set_other firsts v w at 0 ne) (first-lower k w at _ (λ same. ne (omega (arith, same, is))) (h.first w under))
       ];
       next = λ i from under is_key. elim (cases_eq i at) [
-        | inl e ↦ subst (λ j. IsFirst k (key k j) (j + 1) (get_or (set nexts at (get_or firsts v 0)) j 0)) (sym e) (rw (get_or-set_same nexts at (get_or firsts v 0) 0 ain, is) (h.first v below))
+        | inl e ↦ subst (λ j. IsFirst k (key k j) (j + 1) (get_or (set nexts at (get_or firsts v 0)) j 0)) (sym e)
+            (rw (get_or-set_same nexts at (get_or firsts v 0) 0 ain, is) (h.first v below))
         | inr ne ↦ rw (get_or-set_other nexts at i (get_or firsts v 0) 0 ne) (h.next i (omega arith) under is_key)
       ];
     }

@@ -1,5 +1,6 @@
 -- What a search closes is a simple cycle, and each simple cycle is closed.
-use Rattle.std.proofs.Common.{◌≡◌, ◌≢◌, ℕ, zero, suc, ◌<◌, ◌≤◌, ◌⊎◌, List, [], ◌∷◌, map, Bool, true, false, length, get_or, set, refl, sym, ap, ◌∙◌, subst, inl, inr, arith, length-set, get_or-set_other}
+use Rattle.std.proofs.Common.{◌≡◌, ◌≢◌, ℕ, zero, suc, ◌<◌, ◌≤◌, ◌⊎◌, List, [], ◌∷◌, map, Bool, true, false, length, get_or}
+use Rattle.std.proofs.Common.{set, refl, sym, ap, ◌∙◌, subst, inl, inr, arith, length-set, get_or-set_other}
 use Rattle.std.proofs.lemmas.List.{length-replicate, get_or-replicate}
 use Rattle.std.specs.List.{All}
 use Rattle.std.proofs.lemmas.List.Elements.{All-nil, All-cons, All-head, All-tail, All-weaker, All-map}
@@ -9,7 +10,8 @@ use Rattle.ipg_graph.specs.Cycle.{LeadsTo, AreApart, IsSimpleCycle}
 use Rattle.ipg_graph.specs.Marks.{IsUnseen}
 use Rattle.ipg_graph.specs.Walk.{Fresh, Open, Closed, Lost, blank, enter, step, run, Closes}
 use Rattle.ipg_graph.proofs.MarksLemmas.{unseen-in, grows-set}
-use Rattle.ipg_graph.proofs.WalkLemmas.{run-lost, run-closed, kinds, Closing, Opening, Losing, step-at, step-off, step-first, step-dead, enter-closed, enter-open}
+use Rattle.ipg_graph.proofs.WalkLemmas.{run-lost, run-closed, kinds, Closing, Opening, Losing, step-at}
+use Rattle.ipg_graph.proofs.WalkLemmas.{step-off, step-first, step-dead, enter-closed, enter-open}
 
 -- f leads on from a vertex that may still be visited
 abbrev Ahead : Graph → ℕ → List Bool → ℕ → Type 0
@@ -36,7 +38,8 @@ set-taken [] v = refl
 set-taken (b ∷ seen) zero = refl
 set-taken (b ∷ seen) (suc v) = set-taken seen v
 
-rest : (g : Graph) (start : ℕ) (c : List ℕ) (e tip : ℕ) (seen : List Bool) → length seen ≡ g.rules → tip < g.rules → IsTaken start tip seen → run g (Open start tip seen) (e ∷ c) ≡ Closed → Rest g start tip seen e c
+rest : (g : Graph) (start : ℕ) (c : List ℕ) (e tip : ℕ) (seen : List Bool) → length seen ≡ g.rules → tip < g.rules → IsTaken start tip seen
+    → run g (Open start tip seen) (e ∷ c) ≡ Closed → Rest g start tip seen e c
 unfolding run
 rest g start [] e tip seen flags inside taken h =
     elim (cases_eq (caller g e) tip) [
@@ -78,7 +81,8 @@ rest g start (f ∷ c) e tip seen flags inside taken h =
                   ahead = ahead;
                   apart = (
                     All-map (λ y. caller g e ≢ y) (caller g) (f ∷ c)
-                        (All-weaker (Ahead g start seen) (λ k. caller g e ≢ caller g k) (λ k a same. taken-apart g start tip seen k taken a (sym at ∙ same)) (f ∷ c) ahead),
+                        (All-weaker (Ahead g start seen) (λ k. caller g e ≢ caller g k) (λ k a same. taken-apart g start tip seen k taken a (sym at ∙ same))
+                        (f ∷ c) ahead),
                     r.apart,
                   );
                 }
@@ -86,7 +90,8 @@ rest g start (f ∷ c) e tip seen flags inside taken h =
     ]
 
 -- the edges ahead stay so, as the vertex v of none of them is visited
-ahead-on : (g : Graph) (start : ℕ) (seen : List Bool) (v : ℕ) (c : List ℕ) → All (Ahead g start seen) c → All (λ y. v ≢ y) (map (caller g) c) → All (Ahead g start (set seen v true)) c
+ahead-on : (g : Graph) (start : ℕ) (seen : List Bool) (v : ℕ) (c : List ℕ) → All (Ahead g start seen) c → All (λ y. v ≢ y) (map (caller g) c)
+    → All (Ahead g start (set seen v true)) c
 ahead-on g start seen v [] ahead apart = All-nil (Ahead g start (set seen v true))
 ahead-on g start seen v (f ∷ c) ahead apart =
     let a = All-head (Ahead g start seen) f c ahead in
@@ -95,7 +100,8 @@ ahead-on g start seen v (f ∷ c) ahead apart =
     (a.0, get_or-set_other seen v (caller g f) true true (λ same. ne (sym same)) ∙ a.1)
     (ahead-on g start seen v c (All-tail (Ahead g start seen) f c ahead) (All-tail (λ y. v ≢ y) (caller g f) (map (caller g) c) apart))
 
-closing : (g : Graph) (start : ℕ) (c : List ℕ) (e : ℕ) (seen : List Bool) → LeadsTo g start (e ∷ c) → AreApart (map (caller g) (e ∷ c)) → All (Ahead g start seen) c → run g (Open start (caller g e) seen) (e ∷ c) ≡ Closed
+closing : (g : Graph) (start : ℕ) (c : List ℕ) (e : ℕ) (seen : List Bool) → LeadsTo g start (e ∷ c) → AreApart (map (caller g) (e ∷ c))
+    → All (Ahead g start seen) c → run g (Open start (caller g e) seen) (e ∷ c) ≡ Closed
 unfolding run
 closing g start [] e seen walk apart ahead = step-at g start (caller g e) seen e refl ∙ enter-closed g start seen (callee g e) walk
 closing g start (f ∷ c) e seen walk apart ahead =
@@ -106,14 +112,16 @@ closing g start (f ∷ c) e seen walk apart ahead =
     subst (λ s. run g s (f ∷ c) ≡ Closed) (sym goes)
     (closing g start c f (set seen v true) walk.1 apart.1 (ahead-on g start seen v c (All-tail (Ahead g start seen) f c ahead) apart.1.0))
 
-ahead-first : (g : Graph) (start : ℕ) (c : List ℕ) → All (IsLive g) c → All (λ f. start ≤ caller g f) c → All (λ y. start ≢ y) (map (caller g) c) → All (Ahead g start (blank g)) c
+ahead-first : (g : Graph) (start : ℕ) (c : List ℕ) → All (IsLive g) c → All (λ f. start ≤ caller g f) c → All (λ y. start ≢ y) (map (caller g) c)
+    → All (Ahead g start (blank g)) c
 ahead-first g start [] live least apart = All-nil (Ahead g start (blank g))
 ahead-first g start (f ∷ c) live least apart =
     let le : start ≤ caller g f = All-head (λ k. start ≤ caller g k) f c least in
     let ne : start ≢ caller g f = All-head (λ y. start ≢ y) (caller g f) (map (caller g) c) apart in
     All-cons (Ahead g start (blank g)) f c
     (omega arith, get_or-replicate g.rules (caller g f) false true (All-head (IsLive g) f c live))
-    (ahead-first g start c (All-tail (IsLive g) f c live) (All-tail (λ k. start ≤ caller g k) f c least) (All-tail (λ y. start ≢ y) (caller g f) (map (caller g) c) apart))
+    (ahead-first g start c (All-tail (IsLive g) f c live) (All-tail (λ k. start ≤ caller g k) f c least)
+    (All-tail (λ y. start ≢ y) (caller g f) (map (caller g) c) apart))
 
 -- the first edge, from its own caller
 begin : (g : Graph) (e : ℕ) → IsLive g e → step g (Open (caller g e) (caller g e) (blank g)) e ≡ step g Fresh e

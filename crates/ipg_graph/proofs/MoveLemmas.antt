@@ -1,7 +1,8 @@
 -- A search's moves, one after another.
 use Rattle.std.proofs.Common.{◌≡◌, ◌<◌, ℕ, List, [], ◌∷◌, ◌++◌, refl, sym, ap, ◌∙◌, subst}
 use Rattle.ipg_graph.specs.Place.{IsSame}
-use Rattle.ipg_graph.specs.Search.{place, left_of, Aims, GoesOn, ClosesAt, IsFound, Finds, FindsNone, Resumes, IsKept, KeepsIn, IsNextFound, HasNothing, spot, spot_in, left_in, left_path, listing}
+use Rattle.ipg_graph.specs.Search.{place, left_of, Aims, GoesOn, ClosesAt, IsFound, Finds, FindsNone, Resumes, IsKept}
+use Rattle.ipg_graph.specs.Search.{KeepsIn, IsNextFound, HasNothing, spot, spot_in, left_in, left_path, listing}
 use Rattle.ipg_graph.specs.declared.search.State.TheVariants as state
 use Rattle.ipg_graph.specs.Answers.{Start, At, End, IsAfter, IsNext, last_of, IsNextAnswer, IsLastAnswer}
 use Rattle.ipg_graph.specs.Cycle.{StandsUpTo}
@@ -90,7 +91,8 @@ next-found old mid new is r f =
       state = f.state;
       kept = kept-found new f.state f.found;
       closes = closes;
-      after = subst (λ t. IsAfter t new.path.items) (sym (spot-found old is)) (r.behind.back new.path.items closes (same.back new.path.items closes (upto-refl new.path.items)));
+      after = subst (λ t. IsAfter t new.path.items) (sym (spot-found old is))
+          (r.behind.back new.path.items closes (same.back new.path.items closes (upto-refl new.path.items)));
       first = λ d is_cycle after. same.on d is_cycle (r.behind.on d is_cycle (subst (λ t. IsAfter t d) (spot-found old is) after));
       less = less-in old new (left_path old) (ap (λ t. left_in t old) is) f.state (omega (arith, f.less, r.less));
     }
@@ -99,7 +101,8 @@ pub none-found : (old mid new : Search) → old.state ≡ state.Found → Resume
 none-found old mid new is r f = record {
   links = f.links ∙ r.links;
   state = f.state;
-  none = λ d closes after. f.none d (subst (λ (g : Graph). Closes g d) (sym r.links) closes) (r.behind.on d closes (subst (λ t. IsAfter t d) (spot-found old is) after));
+  none = λ d closes after. f.none d (subst (λ (g : Graph). Closes g d) (sym r.links) closes)
+      (r.behind.on d closes (subst (λ t. IsAfter t d) (spot-found old is) after));
 }
 
 pub none-end : (old : Search) → old.state ≡ state.End → HasNothing old old

@@ -18,7 +18,8 @@ upto-refl [] = tt
 upto-refl (x ∷ c) = inr (refl, upto-refl c)
 
 -- from k to k' at the end of p, over edges from which nothing closes
-skip-on : (g : Graph) (k k' : ℕ) → (p c : List ℕ) (now : Now) → ((j : ℕ) → k ≤ j → j < k' → IsBarren g (step g (run g now p) j)) → run g now c ≡ Closed → StandsUpTo (p ++ k ∷ []) c → StandsUpTo (p ++ k' ∷ []) c
+skip-on : (g : Graph) (k k' : ℕ) → (p c : List ℕ) (now : Now) → ((j : ℕ) → k ≤ j → j < k' → IsBarren g (step g (run g now p) j)) → run g now c ≡ Closed
+    → StandsUpTo (p ++ k ∷ []) c → StandsUpTo (p ++ k' ∷ []) c
 unfolding run
 skip-on g k k' [] [] now barren closed h = h
 skip-on g k k' [] (y ∷ c) now barren closed h =
@@ -43,14 +44,16 @@ skip-back k k' le [] (y ∷ c) h = elim h [
 skip-back k k' le (x ∷ p) [] h = h
 skip-back k k' le (x ∷ p) (y ∷ c) h = elim h [ inl lt ↦ inl lt | inr e ↦ inr (e.0, skip-back k k' le p c e.1) ]
 
-pub same-skip : (g : Graph) (p : List ℕ) (k k' : ℕ) → k ≤ k' → ((j : ℕ) → k ≤ j → j < k' → IsBarren g (step g (run g Fresh p) j)) → IsSame g (p ++ k ∷ []) (p ++ k' ∷ [])
+pub same-skip : (g : Graph) (p : List ℕ) (k k' : ℕ) → k ≤ k' → ((j : ℕ) → k ≤ j → j < k' → IsBarren g (step g (run g Fresh p) j))
+    → IsSame g (p ++ k ∷ []) (p ++ k' ∷ [])
 same-skip g p k k' le barren = record {
   on = λ c closed h. skip-on g k k' p c Fresh barren closed h;
   back = λ c closed h. skip-back k k' le p c h;
 }
 
 -- behind the edge k, which does not close
-push-on : (g : Graph) (k : ℕ) → (p c : List ℕ) (now : Now) → (step g (run g now p) k ≡ Closed → ⊥) → run g now c ≡ Closed → StandsUpTo (p ++ k ∷ []) c → StandsUpTo (p ++ (k ∷ 0 ∷ [])) c
+push-on : (g : Graph) (k : ℕ) → (p c : List ℕ) (now : Now) → (step g (run g now p) k ≡ Closed → ⊥) → run g now c ≡ Closed → StandsUpTo (p ++ k ∷ []) c
+    → StandsUpTo (p ++ (k ∷ 0 ∷ [])) c
 unfolding run
 push-on g k [] [] now goes closed h = h
 push-on g k [] (y ∷ []) now goes closed h = elim h [
@@ -73,7 +76,8 @@ push-back k k' [] (y ∷ c) h = elim h [ inl lt ↦ inl lt | inr e ↦ inr (e.0,
 push-back k k' (x ∷ p) [] h = h
 push-back k k' (x ∷ p) (y ∷ c) h = elim h [ inl lt ↦ inl lt | inr e ↦ inr (e.0, push-back k k' p c e.1) ]
 
-pub same-push : (g : Graph) (p : List ℕ) (k k' : ℕ) → (step g (run g Fresh p) k ≡ Closed → ⊥) → ((j : ℕ) → j < k' → IsBarren g (step g (run g Fresh (p ++ k ∷ [])) j)) → IsSame g (p ++ k ∷ []) ((p ++ k ∷ []) ++ k' ∷ [])
+pub same-push : (g : Graph) (p : List ℕ) (k k' : ℕ) → (step g (run g Fresh p) k ≡ Closed → ⊥)
+    → ((j : ℕ) → j < k' → IsBarren g (step g (run g Fresh (p ++ k ∷ [])) j)) → IsSame g (p ++ k ∷ []) ((p ++ k ∷ []) ++ k' ∷ [])
 same-push g p k k' goes barren =
     same-trans g _ _ _
     (record {
@@ -83,7 +87,8 @@ same-push g p k k' goes barren =
     (same-skip g (p ++ k ∷ []) 0 k' (omega arith) (λ j _ below. barren j below))
 
 -- back from behind the edge j, where nothing from k on closes
-pop-on : (g : Graph) (j k : ℕ) → (p c : List ℕ) (now : Now) → ((i : ℕ) → k ≤ i → IsBarren g (step g (run g now (p ++ j ∷ [])) i)) → run g now c ≡ Closed → StandsUpTo (p ++ (j ∷ k ∷ [])) c → StandsUpTo (p ++ (j + 1) ∷ []) c
+pop-on : (g : Graph) (j k : ℕ) → (p c : List ℕ) (now : Now) → ((i : ℕ) → k ≤ i → IsBarren g (step g (run g now (p ++ j ∷ [])) i)) → run g now c ≡ Closed
+    → StandsUpTo (p ++ (j ∷ k ∷ [])) c → StandsUpTo (p ++ (j + 1) ∷ []) c
 unfolding run
 pop-on g j k [] [] now barren closed h = h
 pop-on g j k [] (y ∷ c) now barren closed h = elim h [
@@ -108,7 +113,8 @@ pop-back j k [] (y ∷ c) h = elim h [ inl lt ↦ inl (omega arith) | inr e ↦ 
 pop-back j k (x ∷ p) [] h = h
 pop-back j k (x ∷ p) (y ∷ c) h = elim h [ inl lt ↦ inl lt | inr e ↦ inr (e.0, pop-back j k p c e.1) ]
 
-pub same-pop : (g : Graph) (p : List ℕ) (j k k' : ℕ) → j < k' → ((i : ℕ) → k ≤ i → IsBarren g (step g (run g Fresh (p ++ j ∷ [])) i)) → ((i : ℕ) → j < i → i < k' → IsBarren g (step g (run g Fresh p) i)) → IsSame g ((p ++ j ∷ []) ++ k ∷ []) (p ++ k' ∷ [])
+pub same-pop : (g : Graph) (p : List ℕ) (j k k' : ℕ) → j < k' → ((i : ℕ) → k ≤ i → IsBarren g (step g (run g Fresh (p ++ j ∷ [])) i))
+    → ((i : ℕ) → j < i → i < k' → IsBarren g (step g (run g Fresh p) i)) → IsSame g ((p ++ j ∷ []) ++ k ∷ []) (p ++ k' ∷ [])
 same-pop g p j k k' after barren skipped =
     same-trans g _ _ _
     (record {
@@ -118,7 +124,8 @@ same-pop g p j k k' after barren skipped =
     (same-skip g p (j + 1) k' (omega arith) (λ i from below. skipped i (omega arith) below))
 
 -- behind a cycle, the next place at its end
-next-on : (g : Graph) (j : ℕ) → (p c : List ℕ) (now : Now) → step g (run g now p) j ≡ Closed → run g now c ≡ Closed → StandsBefore (p ++ j ∷ []) c → StandsUpTo (p ++ (j + 1) ∷ []) c
+next-on : (g : Graph) (j : ℕ) → (p c : List ℕ) (now : Now) → step g (run g now p) j ≡ Closed → run g now c ≡ Closed → StandsBefore (p ++ j ∷ []) c
+    → StandsUpTo (p ++ (j + 1) ∷ []) c
 unfolding run
 next-on g j [] [] now found closed h = h
 next-on g j [] (y ∷ c) now found closed h = elim h [
@@ -141,7 +148,8 @@ next-back j [] (y ∷ c) h = elim h [ inl lt ↦ inl (omega arith) | inr e ↦ i
 next-back j (x ∷ p) [] h = h
 next-back j (x ∷ p) (y ∷ c) h = elim h [ inl lt ↦ inl lt | inr e ↦ inr (e.0, next-back j p c e.1) ]
 
-pub behind-found : (g : Graph) (p : List ℕ) (j k' : ℕ) → step g (run g Fresh p) j ≡ Closed → j < k' → ((i : ℕ) → j < i → i < k' → IsBarren g (step g (run g Fresh p) i)) → IsBehind g (p ++ j ∷ []) (p ++ k' ∷ [])
+pub behind-found : (g : Graph) (p : List ℕ) (j k' : ℕ) → step g (run g Fresh p) j ≡ Closed → j < k'
+    → ((i : ℕ) → j < i → i < k' → IsBarren g (step g (run g Fresh p) i)) → IsBehind g (p ++ j ∷ []) (p ++ k' ∷ [])
 behind-found g p j k' found after skipped =
     let skip : IsSame g (p ++ (j + 1) ∷ []) (p ++ k' ∷ []) = same-skip g p (j + 1) k' (omega arith) (λ i from below. skipped i (omega arith) below) in
     record {

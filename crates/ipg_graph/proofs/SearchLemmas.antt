@@ -1,5 +1,6 @@
 -- The search's moves, over plain walks.
-use Rattle.std.proofs.Common.{◌≡◌, ℕ, ◌<◌, ◌≤◌, ◌⊎◌, List, [], ◌∷◌, ◌++◌, Bool, true, false, not, ◌&&◌, ltb, length, get_or, set, replicate, refl, sym, ap, ◌∙◌, subst, inl, inr, arith}
+use Rattle.std.proofs.Common.{◌≡◌, ℕ, ◌<◌, ◌≤◌, ◌⊎◌, List, [], ◌∷◌, ◌++◌, Bool, true, false, not, ◌&&◌, ltb}
+use Rattle.std.proofs.Common.{length, get_or, set, replicate, refl, sym, ap, ◌∙◌, subst, inl, inr, arith}
 use Rattle.std.proofs.lemmas.Bool.{cases_eq, cases_lt, false≢true, and_cases, and_from, lt-ltb, not_from_false}
 use Rattle.std.proofs.lemmas.List.{get_or_past, length_push}
 use Rattle.ipg_graph.specs.Graph.{Graph, caller, callee, IsLive, IsWhole}
@@ -11,7 +12,8 @@ use Rattle.ipg_graph.specs.Place.{IsSame, IsBehind}
 use Rattle.ipg_graph.specs.Reach.{IsClosed}
 use Rattle.ipg_graph.proofs.MarksLemmas.{set-back, grows-set, marked-set}
 use Rattle.ipg_graph.proofs.GraphLemmas.{live-in}
-use Rattle.ipg_graph.proofs.WalkLemmas.{run-push, run-lost, barren-lost, barren-is, kinds, Closing, Opening, Losing, step-at, step-off, step-first, step-dead, no-way}
+use Rattle.ipg_graph.proofs.WalkLemmas.{run-push, run-lost, barren-lost, barren-is, kinds, Closing, Opening}
+use Rattle.ipg_graph.proofs.WalkLemmas.{Losing, step-at, step-off, step-first, step-dead, no-way}
 use Rattle.ipg_graph.proofs.PlaceLemmas.{same-skip, same-push, same-pop, behind-found}
 
 pub state-open : (p : List ℕ) (start tip : ℕ) (seen : List Bool) → 0 < length p → state_of p start tip seen ≡ Open start tip seen
@@ -40,7 +42,8 @@ record Entered (start : ℕ) (seen : List Bool) (v to tip : ℕ) (flags : List B
   pub unseen : IsUnseen seen tip
   pub flags_are : flags ≡ set seen tip true
 
-entered : (g : Graph) (start : ℕ) (seen : List Bool) (v to tip : ℕ) (flags : List Bool) → enter g start seen v ≡ Open to tip flags → Entered start seen v to tip flags
+entered : (g : Graph) (start : ℕ) (seen : List Bool) (v to tip : ℕ) (flags : List Bool) → enter g start seen v ≡ Open to tip flags
+    → Entered start seen v to tip flags
 entered g start seen v to tip flags h = elim (kinds g start seen v) [
   | Closing _ is ↦ cc
   | Losing is ↦ cc
@@ -124,25 +127,30 @@ came g p e start tip flags h =
       runs = shorter p b.seen back b.was;
     }
   where
-    shorter : (p : List ℕ) (seen : List Bool) → set flags tip false ≡ seen → (run g Fresh p ≡ Open start (caller g e) seen) ⊎ (run g Fresh p ≡ Fresh) → run g Fresh p ≡ state_of p start (caller g e) (set flags tip false)
+    shorter : (p : List ℕ) (seen : List Bool) → set flags tip false ≡ seen → (run g Fresh p ≡ Open start (caller g e) seen) ⊎ (run g Fresh p ≡ Fresh)
+        → run g Fresh p ≡ state_of p start (caller g e) (set flags tip false)
     shorter [] seen back was = refl
     shorter (x ∷ p) seen back (inl is) = is ∙ ap (Open start (caller g e)) (sym back)
     shorter (x ∷ p) seen back (inr is) = absurd (run-begun g p (step g Fresh x) (step-begun g Fresh x) is)
 
 -- the moves pass no cycle
-pub same-past : (g : Graph) (p : List ℕ) (x : Now) (k k' : ℕ) → run g Fresh p ≡ x → k < k' → IsBarren g (step g x k) → ((j : ℕ) → k < j → j < k' → step g x j ≡ Lost) → IsSame g (p ++ k ∷ []) (p ++ k' ∷ [])
+pub same-past : (g : Graph) (p : List ℕ) (x : Now) (k k' : ℕ) → run g Fresh p ≡ x → k < k' → IsBarren g (step g x k)
+    → ((j : ℕ) → k < j → j < k' → step g x j ≡ Lost) → IsSame g (p ++ k ∷ []) (p ++ k' ∷ [])
 same-past g p x k k' runs lt barren skipped = same-skip g p k k' (omega arith) (λ j from below.
     elim (cases_eq j k) [
       | inl e ↦ rw (runs, e) barren
       | inr ne ↦ rw runs (barren-is g _ _ (skipped j (omega arith) below) (barren-lost g))
     ])
 
-pub same-enter : (g : Graph) (p : List ℕ) (k k' start tip : ℕ) (seen : List Bool) → run g Fresh (p ++ k ∷ []) ≡ Open start tip seen → IsFirst (callers_of g) tip 0 k' → IsSame g (p ++ k ∷ []) ((p ++ k ∷ []) ++ k' ∷ [])
+pub same-enter : (g : Graph) (p : List ℕ) (k k' start tip : ℕ) (seen : List Bool) → run g Fresh (p ++ k ∷ []) ≡ Open start tip seen
+    → IsFirst (callers_of g) tip 0 k' → IsSame g (p ++ k ∷ []) ((p ++ k ∷ []) ++ k' ∷ [])
 same-enter g p k k' start tip seen runs first = same-push g p k k'
     (λ closed. let is : Closed ≡ Open start tip seen = sym closed ∙ (sym (run-push g Fresh p k) ∙ runs) in cc)
     (λ j below. rw runs (barren-is g _ _ (step-off g start tip seen j (first.none j (omega arith) below)) (barren-lost g)))
 
-pub same-back : (g : Graph) (p : List ℕ) (x : Now) (j k k' start tip : ℕ) (seen : List Bool) → run g Fresh (p ++ j ∷ []) ≡ Open start tip seen → tip < g.rules → ((i : ℕ) → k ≤ i → caller g i ≡ g.rules) → run g Fresh p ≡ x → j < k' → ((i : ℕ) → j < i → i < k' → step g x i ≡ Lost) → IsSame g ((p ++ j ∷ []) ++ k ∷ []) (p ++ k' ∷ [])
+pub same-back : (g : Graph) (p : List ℕ) (x : Now) (j k k' start tip : ℕ) (seen : List Bool) → run g Fresh (p ++ j ∷ []) ≡ Open start tip seen → tip < g.rules
+    → ((i : ℕ) → k ≤ i → caller g i ≡ g.rules) → run g Fresh p ≡ x → j < k' → ((i : ℕ) → j < i → i < k' → step g x i ≡ Lost)
+    → IsSame g ((p ++ j ∷ []) ++ k ∷ []) (p ++ k' ∷ [])
 same-back g p x j k k' start tip seen long inside past runs lt skipped = same-pop g p j k k' lt
     (λ i from. rw long (barren-is g _ _ (step-off g start tip seen i (λ is. omega (arith, past i from, is, inside))) (barren-lost g)))
     (λ i from below. rw runs (barren-is g _ _ (skipped i from below) (barren-lost g)))
@@ -156,7 +164,8 @@ none-past g k past (y ∷ c) closes h =
     run-lost g c (subst (λ s. run g s c ≡ Closed) (step-dead g y (omega (arith, past y from))) closes)
 
 -- at the root the flags are blank, and the first edge sets the start
-pub tries-first : (g : Graph) (p : List ℕ) (start tip : ℕ) (seen : List Bool) (e : ℕ) → p ≡ [] → length p ≡ marked seen → length seen ≡ g.rules → IsLive g e → caller g e ≡ start → step g (state_of p start tip seen) e ≡ enter g start seen (callee g e)
+pub tries-first : (g : Graph) (p : List ℕ) (start tip : ℕ) (seen : List Bool) (e : ℕ) → p ≡ [] → length p ≡ marked seen → length seen ≡ g.rules → IsLive g e
+    → caller g e ≡ start → step g (state_of p start tip seen) e ≡ enter g start seen (callee g e)
 tries-first g p start tip seen e root count flags live is =
     let none : marked seen ≡ 0 = sym count ∙ ap length root in
     let clear : blank g ≡ seen = ap (λ n. replicate n false) (sym flags) ∙ sym (unmarked seen none) in
@@ -168,7 +177,8 @@ unfolding run
 runs-first g p start tip seen root = subst (λ l. run g Fresh l ≡ state_of l start tip seen) (sym root) refl
 
 -- an edge over which nothing closes
-pub barren-past : (g : Graph) (start : ℕ) (seen marks : List Bool) (v : ℕ) → IsClosed g start seen marks → (v ≡ start → ⊥) → (is_free start seen v && get_or marks v false) ≡ false → IsBarren g (enter g start seen v)
+pub barren-past : (g : Graph) (start : ℕ) (seen marks : List Bool) (v : ℕ) → IsClosed g start seen marks → (v ≡ start → ⊥)
+    → (is_free start seen v && get_or marks v false) ≡ false → IsBarren g (enter g start seen v)
 barren-past g start seen marks v closed ne test = elim (kinds g start seen v) [
   | Closing e _ ↦ absurd (ne e)
   | Losing is ↦ barren-is g _ _ is (barren-lost g)
@@ -183,7 +193,8 @@ barren-past g start seen marks v closed ne test = elim (kinds g start seen v) [
 ]
 
 -- a dead edge is tried at the root alone
-pub dead-lost : (g : Graph) (p : List ℕ) (start tip : ℕ) (seen : List Bool) (e : ℕ) → (0 < length p → caller g e ≡ tip) → (0 < length p → tip < g.rules) → g.rules ≤ caller g e → step g (state_of p start tip seen) e ≡ Lost
+pub dead-lost : (g : Graph) (p : List ℕ) (start tip : ℕ) (seen : List Bool) (e : ℕ) → (0 < length p → caller g e ≡ tip) → (0 < length p → tip < g.rules)
+    → g.rules ≤ caller g e → step g (state_of p start tip seen) e ≡ Lost
 dead-lost g [] start tip seen e at inside dead = step-dead g e dead
 dead-lost g (x ∷ p) start tip seen e at inside dead = absurd (omega (arith, at (omega arith), inside (omega arith)))
 
@@ -198,7 +209,8 @@ pub record WalksBack (g : Graph) (p : List ℕ) (e start tip : ℕ) (flags : Lis
   pub runs : run g Fresh p ≡ state_of p start (caller g e) (set flags tip false)
   pub count : length p ≡ marked (set flags tip false)
 
-pub walks-back : (g : Graph) (path p : List ℕ) (e start tip : ℕ) (flags : List Bool) → IsWhole g → path ≡ p ++ e ∷ [] → run g Fresh path ≡ state_of path start tip flags → length path ≡ marked flags → tip < g.rules → WalksBack g p e start tip flags
+pub walks-back : (g : Graph) (path p : List ℕ) (e start tip : ℕ) (flags : List Bool) → IsWhole g → path ≡ p ++ e ∷ []
+    → run g Fresh path ≡ state_of path start tip flags → length path ≡ marked flags → tip < g.rules → WalksBack g p e start tip flags
 walks-back g path p e start tip flags whole popped runs count inside =
     let long : run g Fresh (p ++ e ∷ []) ≡ Open start tip flags =
     subst (λ l. run g Fresh l ≡ state_of l start tip flags) popped runs ∙ state-push p e start tip flags in
@@ -213,7 +225,8 @@ walks-back g path p e start tip flags whole popped runs count inside =
     }
 
 -- behind a found cycle, on the walk without its last edge
-pub same-behind : (g : Graph) (p : List ℕ) (x : Now) (e next : ℕ) → run g Fresh p ≡ x → step g x e ≡ Closed → e < next → ((j : ℕ) → e < j → j < next → step g x j ≡ Lost) → IsBehind g (p ++ e ∷ []) (p ++ next ∷ [])
+pub same-behind : (g : Graph) (p : List ℕ) (x : Now) (e next : ℕ) → run g Fresh p ≡ x → step g x e ≡ Closed → e < next
+    → ((j : ℕ) → e < j → j < next → step g x j ≡ Lost) → IsBehind g (p ++ e ∷ []) (p ++ next ∷ [])
 same-behind g p x e next runs closes after skipped = behind-found g p e next
     (ap (λ y. step g y e) runs ∙ closes) after
     (λ j from below. rw runs (barren-is g _ _ (skipped j from below) (barren-lost g)))

@@ -1,5 +1,6 @@
 -- Walks edge by edge: what a step does, what can never close, and what a step came from.
-use Rattle.std.proofs.Common.{◌≡◌, ℕ, ◌<◌, ◌≤◌, ◌⊎◌, List, [], ◌∷◌, ◌++◌, Bool, true, false, cond, not, ◌&&◌, ltb, get_or, set, refl, sym, ap, ◌∙◌, subst, inl, inr, arith}
+use Rattle.std.proofs.Common.{◌≡◌, ℕ, ◌<◌, ◌≤◌, ◌⊎◌, List, [], ◌∷◌, ◌++◌, Bool, true, false, cond, not}
+use Rattle.std.proofs.Common.{◌&&◌, ltb, get_or, set, refl, sym, ap, ◌∙◌, subst, inl, inr, arith}
 use Rattle.std.proofs.lemmas.Bool.{cases_eq, cases_lt, cases_Bool, cond-true, cond-false, eq-eqb, ne_eqb, lt-ltb, le-ltb, and_from, not_from_false, false≢true}
 use Rattle.ipg_graph.specs.Graph.{Graph, caller, callee, IsLive}
 use Rattle.ipg_graph.specs.Marks.{IsUnseen, IsMarked, Grows}
@@ -97,7 +98,8 @@ unfolding step
 step-dead g e past = cond-false _ _ _ (le-ltb (caller g e) g.rules past)
 
 -- no way leads back from a vertex that is not marked
-pub no-way : (g : Graph) (start : ℕ) (seen marks : List Bool) → IsClosed g start seen marks → (c : List ℕ) (v : ℕ) (later : List Bool) → Grows seen later → start < v → IsUnseen seen v → get_or marks v false ≡ false → run g (Open start v later) c ≡ Closed → ⊥
+pub no-way : (g : Graph) (start : ℕ) (seen marks : List Bool) → IsClosed g start seen marks → (c : List ℕ) (v : ℕ) (later : List Bool) → Grows seen later
+    → start < v → IsUnseen seen v → get_or marks v false ≡ false → run g (Open start v later) c ≡ Closed → ⊥
 unfolding run
 no-way g start seen marks closed [] v later grows above unseen unmarked h = cc
 no-way g start seen marks closed (e ∷ c) v later grows above unseen unmarked h =

@@ -20,7 +20,8 @@ impl Model for Links {
 
     ghost view = { λ l. record { rules = l.rules; callers = l.callers.keys; callees = l.callees.keys } };
 
-    ghost invariant = { λ l. IsWhole (record { rules = l.rules; callers = l.callers.keys; callees = l.callees.keys }) × ((l.callers.limit ≡ l.rules) × (l.callees.limit ≡ l.rules)) };
+    ghost invariant = { λ l. IsWhole (record { rules = l.rules; callers = l.callers.keys; callees = l.callees.keys })
+        × ((l.callers.limit ≡ l.rules) × (l.callees.limit ≡ l.rules)) };
 }
 
 /// A dead edge has the number of no rule at its end.

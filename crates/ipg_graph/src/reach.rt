@@ -1,4 +1,5 @@
-ghost use Rattle.std.specs.Prelude.{◌≡◌, ℕ, ◌+◌, ◌<◌, ◌≤◌, All, length, IfOk, vec_len, vec_capacity, slice_index_or, slice_set, true, false, not, ◌&&◌, ◌++◌, ◌∷◌, []};
+ghost use Rattle.std.specs.Prelude.{◌≡◌, ℕ, ◌+◌, ◌<◌, ◌≤◌, All, length, IfOk, vec_len, vec_capacity, slice_index_or};
+ghost use Rattle.std.specs.Prelude.{slice_set, true, false, not, ◌&&◌, ◌++◌, ◌∷◌, []};
 ghost use Rattle.ipg_graph.specs.Marks.{marked, IsUnseen};
 ghost use Rattle.ipg_graph.specs.Walk.{is_free};
 ghost use Rattle.ipg_graph.specs.Reach.{IsSized, IsClosed, IsScanned, Spreads};

@@ -1,8 +1,10 @@
-ghost use Rattle.std.specs.Prelude.{◌≡◌, ℕ, ◌+◌, ◌<◌, ◌≤◌, ◌⊎◌, List, [], ◌∷◌, ◌++◌, not, ◌&&◌, true, false, length, IfOk, slice_index_or, vec_len, vec_capacity};
+ghost use Rattle.std.specs.Prelude.{◌≡◌, ℕ, ◌+◌, ◌<◌, ◌≤◌, ◌⊎◌, List, [], ◌∷◌, ◌++◌, not, ◌&&◌, true};
+ghost use Rattle.std.specs.Prelude.{false, length, IfOk, slice_index_or, vec_len, vec_capacity};
 ghost use Rattle.ipg_graph.specs.Graph.{caller, callee, IsLive, IsWhole};
 ghost use Rattle.ipg_graph.specs.Marks.{IsUnseen};
 ghost use Rattle.ipg_graph.specs.Walk.{is_free, enter, step, Now, Open, Closed, IsBarren};
-ghost use Rattle.ipg_graph.specs.Search.{now, place, IsWalk, IsChoice, IsReady, IsFollowing, GoesOn, IsTrying, Aims, HasMore, IsFound, ClosesAt, Resumes, Finds, FindsNone, IsKept, IsNextFound, HasNothing, spot};
+ghost use Rattle.ipg_graph.specs.Search.{now, place, IsWalk, IsChoice, IsReady, IsFollowing, GoesOn, IsTrying, Aims, HasMore, IsFound};
+ghost use Rattle.ipg_graph.specs.Search.{ClosesAt, Resumes, Finds, FindsNone, IsKept, IsNextFound, HasNothing, spot};
 ghost use Rattle.ipg_graph.specs.Answers.{last_of};
 
 use crate::links::Links;

@@ -1,5 +1,6 @@
 -- For each node the trail by which its level was found: stops, the last one first.
-use Rattle.std.specs.Prelude.{◌≡◌, ℕ, ◌*◌, ◌^◌, ◌<◌, ◌≤◌, Bool, true, false, nat_eq, ℤ, pos, ◌+ℤ◌, ◌≤ℤ◌, int_lt, List, [], ◌∷◌, map, length, slice_index_or, Option, None, Some}
+use Rattle.std.specs.Prelude.{◌≡◌, ℕ, ◌*◌, ◌^◌, ◌<◌, ◌≤◌, Bool, true, false, nat_eq, ℤ, pos, ◌+ℤ◌, ◌≤ℤ◌}
+use Rattle.std.specs.Prelude.{int_lt, List, [], ◌∷◌, map, length, slice_index_or, Option, None, Some}
 use Rattle.std.specs.Int.RustNames.{unsigned_abs}
 use Rattle.std.specs.List.{AllByRecursion, IsDistinct, sum_by}
 use Rattle.ipg_levels.specs.declared.edge.Edge.{Edge}
@@ -46,7 +47,8 @@ abbrev pub IsTrail : List Edge → List Stop → Type 0
 IsTrail edges [] = Unit {0}
 IsTrail edges (stop ∷ []) = Unit {0}
 IsTrail edges (stop ∷ before ∷ trail) =
-    (stop.edge < length edges) × ((edge_at edges stop.edge).to ≡ stop.node) × ((edge_at edges stop.edge).from ≡ before.node) × (before.level ≡ stop.level +ℤ (edge_at edges stop.edge).fall) × IsTrail edges (before ∷ trail)
+    (stop.edge < length edges) × ((edge_at edges stop.edge).to ≡ stop.node) × ((edge_at edges stop.edge).from ≡ before.node)
+    × (before.level ≡ stop.level +ℤ (edge_at edges stop.edge).fall) × IsTrail edges (before ∷ trail)
 
 -- a node's level is now at most what it was at the stop
 abbrev pub IsAbove : List ℤ → Stop → Type 0

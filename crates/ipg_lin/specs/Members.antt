@@ -9,7 +9,8 @@ use Rattle.ipg_lin.specs.declared.formula.Formula.TheOpen.{Formula-F}
 use Rattle.ipg_lin.specs.declared.formula.Formula.TheOpen.Formula-F.{Atom, All, Any}
 use Rattle.ipg_lin.specs.declared.formula.Formula.TheFolds.{fold-Formula, fold-roll-Formula, ind-Formula}
 
-module _ (P : Formula → Type 0) (atom : (form : Form) → P (formula.Atom form)) (all : (fs : List Formula) → AllByRecursion P fs → P (formula.All fs)) (any : (fs : List Formula) → AllByRecursion P fs → P (formula.Any fs)) where
+module _ (P : Formula → Type 0) (atom : (form : Form) → P (formula.Atom form)) (all : (fs : List Formula) → AllByRecursion P fs → P (formula.All fs))
+    (any : (fs : List Formula) → AllByRecursion P fs → P (formula.Any fs)) where
   abbrev Proved : Type 0
   Proved = (f : Formula) × P f
 

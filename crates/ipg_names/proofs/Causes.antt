@@ -15,9 +15,11 @@ use Rattle.ipg_ast.specs.declared.grammar.Expr.TheOpen.{Expr-F}
 use Rattle.ipg_ast.specs.declared.grammar.Expr.TheFolds.{ind-Expr, fold-roll-Expr}
 use Rattle.ipg_names.specs.declared.fault.NameFault.{NameFault}
 use Rattle.ipg_names.specs.Scope.{Scope, inside}
-use Rattle.ipg_names.specs.Faults.{Faults, faults_step, expr_faults, ends_faults, place_faults, what_fault, slot_faults, case_faults, term_faults, rule_fault, name_fault, reference_fault, set_fault, var_fault}
+use Rattle.ipg_names.specs.Faults.{Faults, faults_step, expr_faults, ends_faults, place_faults, what_fault, slot_faults, case_faults}
+use Rattle.ipg_names.specs.Faults.{term_faults, rule_fault, name_fault, reference_fault, set_fault, var_fault}
 use Rattle.ipg_names.specs.Told.{Stands}
-use Rattle.ipg_names.specs.Uses.{Use, Bare, Part, Item, Symbol, uses_step, expr_uses, place_exprs, slot_exprs, case_exprs, uses_in, item_uses, what_symbols, slot_symbols, case_symbols, parsed_by, set_by, loop_of}
+use Rattle.ipg_names.specs.Uses.{Use, Bare, Part, Item, Symbol, uses_step, expr_uses, place_exprs, slot_exprs, case_exprs, uses_in}
+use Rattle.ipg_names.specs.Uses.{item_uses, what_symbols, slot_symbols, case_symbols, parsed_by, set_by, loop_of}
 use Rattle.ipg_names.proofs.Stands.{left, right, either, of_either}
 
 abbrev pub use_faults : Scope → Use → Faults

@@ -1,5 +1,6 @@
 -- There are no more names than identifiers.
-use Rattle.std.proofs.Common.{ℕ, ◌+◌, ◌^◌, ◌<◌, ◌≤◌, Bool, true, false, List, [], ◌∷◌, ◌++◌, length, flat_map, ap, subst, cond, bytes_eq, arith, sum_by, length-append}
+use Rattle.std.proofs.Common.{ℕ, ◌+◌, ◌^◌, ◌<◌, ◌≤◌, Bool, true, false, List, [], ◌∷◌, ◌++◌, length}
+use Rattle.std.proofs.Common.{flat_map, ap, subst, cond, bytes_eq, arith, sum_by, length-append}
 use Rattle.std.specs.List.{list_any}
 use Rattle.std.proofs.lemmas.List.Sums.{sum_by-cons}
 use Rattle.ipg_ast.specs.declared.grammar.Grammar.{Grammar}
@@ -16,8 +17,10 @@ use Rattle.ipg_ast.specs.declared.grammar.Field.TheVariants.{Id as Attribute, St
 use Rattle.ipg_ast.specs.declared.grammar.Expr.{Expr, roll-Expr, map-Expr}
 use Rattle.ipg_ast.specs.declared.grammar.Expr.TheOpen.{Expr-F}
 use Rattle.ipg_ast.specs.declared.grammar.Expr.TheFolds.{ind-Expr, fold-roll-Expr}
-use Rattle.ipg_names.specs.Names.{NameList, field_names, names_step, expr_names, place_names, slot_names, case_names, term_names, terms_names, local_alt_names, local_names, alt_names, rule_names, once, attr_names}
-use Rattle.ipg_names.specs.Readable.{field_count, count_step, expr_count, place_count, slot_count, case_count, term_count, local_alt_count, local_count, alt_count, rule_count, IsReadable}
+use Rattle.ipg_names.specs.Names.{NameList, field_names, names_step, expr_names, place_names, slot_names, case_names, term_names}
+use Rattle.ipg_names.specs.Names.{terms_names, local_alt_names, local_names, alt_names, rule_names, once, attr_names}
+use Rattle.ipg_names.specs.Readable.{field_count, count_step, expr_count, place_count, slot_count, case_count, term_count}
+use Rattle.ipg_names.specs.Readable.{local_alt_count, local_count, alt_count, rule_count, IsReadable}
 
 -- ---- expressions
 

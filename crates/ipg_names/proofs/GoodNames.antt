@@ -1,5 +1,6 @@
 -- A text whose names have no fault resolves to a grammar that is good but for the order of its terms.
-use Rattle.std.proofs.Common.{◌≡◌, ℕ, suc, ◌+◌, ◌<◌, ◌≤◌, List, [], ◌∷◌, ◌++◌, length, map, flat_map, Option, Some, None, slice_get, refl, sym, ap, subst, ◌∙◌, bytes_eq, sum_by, arith, true≢false, append_assoc, length-append}
+use Rattle.std.proofs.Common.{◌≡◌, ℕ, suc, ◌+◌, ◌<◌, ◌≤◌, List, [], ◌∷◌, ◌++◌, length, map, flat_map, Option, Some, None, slice_get}
+use Rattle.std.proofs.Common.{refl, sym, ap, subst, ◌∙◌, bytes_eq, sum_by, arith, true≢false, append_assoc, length-append}
 use Rattle.std.specs.List.{AllByRecursion, IsDistinct, position_or_len}
 use Rattle.std.proofs.lemmas.List.{length-map}
 use Rattle.std.proofs.lemmas.List.Sums.{sum_by-cons}
@@ -22,7 +23,8 @@ use Rattle.ipg_names.specs.Resolved.{terms_from, term_in, case_in, alt_scopes, a
 use Rattle.ipg_names.specs.Fault.{earlier, first_of}
 use Rattle.ipg_names.specs.Faults.{Faults, alt_faults, alts_faults, rules_faults, head_faults, faults_of}
 use Rattle.ipg_names.specs.Bare.{bare, bare_term, bare_case, bare_alt, bare_rule}
-use Rattle.ipg_names.specs.Readable.{IsReadable, IsReadableRule, IsReadableAlt, IsReadableLocal, IsReadableLocalAlt, case_count, term_count, local_alt_count, local_count, alt_count, rule_count}
+use Rattle.ipg_names.specs.Readable.{IsReadable, IsReadableRule, IsReadableAlt, IsReadableLocal, IsReadableLocalAlt}
+use Rattle.ipg_names.specs.Readable.{case_count, term_count, local_alt_count, local_count, alt_count, rule_count}
 use Rattle.ipg_names.specs.declared.fault.NameFault.{NameFault}
 use Rattle.ipg_names.proofs.Rosters.{roster_length}
 use Rattle.ipg_names.proofs.Families.{all_append, all_left, all_right, all_of_all, all_map, HasFamily, HasLocals, roster_all}

@@ -1,5 +1,6 @@
 -- The terms of an alternative whose names have no fault are good.
-use Rattle.std.proofs.Common.{◌≡◌, ℕ, zero, suc, ◌+◌, ◌<◌, Bool, true, false, ◌||◌, inl, inr, List, [], ◌∷◌, length, map, take, flat_map, Option, Some, None, is_some, slice_get, refl, sym, ap, subst, ◌∙◌, cond, bytes_eq, nat_eq, nat_lt, arith, true≢false}
+use Rattle.std.proofs.Common.{◌≡◌, ℕ, zero, suc, ◌+◌, ◌<◌, Bool, true, false, ◌||◌, inl, inr, List, [], ◌∷◌, length, map, take, flat_map, Option}
+use Rattle.std.proofs.Common.{Some, None, is_some, slice_get, refl, sym, ap, subst, ◌∙◌, cond, bytes_eq, nat_eq, nat_lt, arith, true≢false}
 use Rattle.std.specs.List.{AllByRecursion, position_or_len}
 use Rattle.std.proofs.lemmas.List.{length-map}
 use Rattle.std.proofs.lemmas.Bool.{eqb-true, and_parts}
@@ -30,7 +31,8 @@ use Rattle.ipg_names.specs.Primitives.{primitive_of}
 use Rattle.ipg_names.specs.Scope.{Scope, home_of, is_visible, entry_visible, rule_named, rule_sym, sym_else, sym_named, scope_of}
 use Rattle.ipg_names.specs.Names.{NameList, term_names, terms_names}
 use Rattle.ipg_names.specs.Resolved.{sym_or_empty, symbol, what_symbol, case_in, expr_in, term_in, terms_from, rule_in, rules_from}
-use Rattle.ipg_names.specs.Faults.{rule_fault, what_fault, slot_faults, case_faults, place_faults, expr_faults, ends_faults, set_fault, var_fault, when, term_faults, terms_faults}
+use Rattle.ipg_names.specs.Faults.{rule_fault, what_fault, slot_faults, case_faults, place_faults, expr_faults}
+use Rattle.ipg_names.specs.Faults.{ends_faults, set_fault, var_fault, when, term_faults, terms_faults}
 use Rattle.ipg_names.specs.Bare.{bare, bare_term, bare_case, bare_rule}
 use Rattle.ipg_names.proofs.Bytes.{same_bytes, bytes_same}
 use Rattle.ipg_names.proofs.Families.{all_left, all_right}

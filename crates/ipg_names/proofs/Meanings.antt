@@ -1,5 +1,6 @@
 -- What a name means where no rule's name is taken.
-use Rattle.std.proofs.Common.{◌≡◌, ℕ, ◌+◌, ◌<◌, Bool, true, false, ◌⊎◌, inl, inr, nat_lt, nat_eq, ◌&&◌, List, Option, Some, None, is_some, slice_get, refl, sym, ap, ◌∙◌, cond, bytes_eq, arith, true≢false}
+use Rattle.std.proofs.Common.{◌≡◌, ℕ, ◌+◌, ◌<◌, Bool, true, false, ◌⊎◌, inl, inr, nat_lt, nat_eq, ◌&&◌, List, Option, Some}
+use Rattle.std.proofs.Common.{None, is_some, slice_get, refl, sym, ap, ◌∙◌, cond, bytes_eq, arith, true≢false}
 use Rattle.std.proofs.lemmas.Bool.Decides.{nat_tests}
 use Rattle.ipg_ast.specs.declared.grammar.Grammar.{Grammar}
 use Rattle.ipg_core.specs.declared.grammar.Primitive.{Primitive}

@@ -1,5 +1,6 @@
 -- What a term with its names resolved mentions, where its names have no fault.
-use Rattle.std.proofs.Common.{◌≡◌, ℕ, Bool, true, false, ◌||◌, List, [], ◌∷◌, ◌++◌, map, flat_map, Option, Some, None, is_some, refl, sym, ap, subst, ◌∙◌, cond, bytes_eq, true≢false, ℤ, pos}
+use Rattle.std.proofs.Common.{◌≡◌, ℕ, Bool, true, false, ◌||◌, List, [], ◌∷◌, ◌++◌, map, flat_map, Option, Some}
+use Rattle.std.proofs.Common.{None, is_some, refl, sym, ap, subst, ◌∙◌, cond, bytes_eq, true≢false, ℤ, pos}
 use Rattle.std.specs.List.{AllByRecursion}
 use Rattle.ipg_num.specs.declared.op.Op2.{Op2}
 use Rattle.ipg_ast.specs.declared.grammar.Term as written
@@ -16,15 +17,19 @@ use Rattle.ipg_ast.specs.declared.grammar.Expr.TheFolds.{ind-Expr, fold-roll-Exp
 use Rattle.ipg_core.specs.declared.grammar.Sym.{Sym}
 use Rattle.ipg_core.specs.declared.grammar.CoreField.{CoreField}
 use Rattle.ipg_core.specs.declared.grammar.CoreExpr.{CoreExpr}
-use Rattle.ipg_core.specs.declared.grammar.CoreExpr.TheVariants.{Num, Eoi, Own, Outer, Loop, Seen, Item, Neg, Not, Two, Both, Either, Cond, rolls-Num, rolls-Eoi, rolls-Own, rolls-Outer, rolls-Loop, rolls-Seen, rolls-Item, rolls-Neg, rolls-Not, rolls-Two, rolls-Both, rolls-Either, rolls-Cond}
+use Rattle.ipg_core.specs.declared.grammar.CoreExpr.TheVariants.{Num, Eoi, Own, Outer, Loop, Seen, Item, Neg, Not, Two, Both, Either, Cond, rolls-Num}
+use Rattle.ipg_core.specs.declared.grammar.CoreExpr.TheVariants.{rolls-Eoi, rolls-Own, rolls-Outer, rolls-Loop, rolls-Seen, rolls-Item, rolls-Neg}
+use Rattle.ipg_core.specs.declared.grammar.CoreExpr.TheVariants.{rolls-Not, rolls-Two, rolls-Both, rolls-Either, rolls-Cond}
 use Rattle.ipg_core.specs.declared.grammar.CoreExpr.TheOpen.{CoreExpr-F}
 use Rattle.ipg_core.specs.declared.grammar.CoreExpr.TheFolds.{fold-roll-CoreExpr}
-use Rattle.ipg_core.specs.Mention.{Mention, SeenOf, ItemOf, OwnOf, OuterOf, FieldOf, LoopOf, field_mentions, mentions, mentions_step, slot_mentions, case_mentions, term_mentions}
+use Rattle.ipg_core.specs.Mention.{Mention, SeenOf, ItemOf, OwnOf, OuterOf, FieldOf, LoopOf, field_mentions}
+use Rattle.ipg_core.specs.Mention.{mentions, mentions_step, slot_mentions, case_mentions, term_mentions}
 use Rattle.ipg_core.specs.Good.{HasItems}
 use Rattle.ipg_names.specs.Scope.{Scope, attr_number, is_var, inside}
 use Rattle.ipg_names.specs.Names.{NameList, names_step, field_names, expr_names, place_names, slot_names, case_names, term_names}
 use Rattle.ipg_names.specs.Resolved.{resolved_step, expr_in, name_in, seen_at, item_at, symbol, sym_or_empty, field_in, place_in, slot_in, case_in, term_in}
-use Rattle.ipg_names.specs.Faults.{Faults, faults_step, expr_faults, ends_faults, place_faults, slot_faults, case_faults, term_faults, is_known, rule_fault, what_fault, occurrence_fault, unless, set_fault, var_fault}
+use Rattle.ipg_names.specs.Faults.{Faults, faults_step, expr_faults, ends_faults, place_faults, slot_faults, case_faults, term_faults}
+use Rattle.ipg_names.specs.Faults.{is_known, rule_fault, what_fault, occurrence_fault, unless, set_fault, var_fault}
 use Rattle.ipg_names.specs.declared.fault.NameFault.{NameFault}
 use Rattle.ipg_names.specs.Bare.{bare_from, bare_to, bare_slot, bare_case, bare_term}
 use Rattle.ipg_names.proofs.Families.{all_append, all_left, all_right}

@@ -1,5 +1,6 @@
 -- Names put into a set one after another.
-use Rattle.std.proofs.Common.{◌≡◌, ℕ, ◌+◌, ◌<◌, Bool, true, false, ◌||◌, List, [], ◌∷◌, ◌++◌, length, drop, get_or, flat_map, Result, OnOk, Some, None, ◌≤◌, not, nat_lt, arith, map, refl, sym, ap, ◌∙◌, cond, bytes_eq}
+use Rattle.std.proofs.Common.{◌≡◌, ℕ, ◌+◌, ◌<◌, Bool, true, false, ◌||◌, List, [], ◌∷◌, ◌++◌, length, drop, get_or, flat_map}
+use Rattle.std.proofs.Common.{Result, OnOk, Some, None, ◌≤◌, not, nat_lt, arith, map, refl, sym, ap, ◌∙◌, cond, bytes_eq}
 use Rattle.std.specs.List.{list_any, position, position_or_len}
 use Rattle.std.proofs.lemmas.List.Sums.{prefix_len-le-length}
 use Rattle.std.proofs.lemmas.Bool.Decides.{nat_tests}

@@ -1,5 +1,6 @@
 -- The faults of a text are those that hold of their places, and the first of them is told.
-use Rattle.std.proofs.Common.{◌≡◌, ◌↔◌, ℕ, ◌≤◌, Bool, true, false, ◌||◌, ◌&&◌, ◌⊎◌, inl, inr, nat_lt, nat_eq, List, [], ◌∷◌, ◌++◌, take, map, flat_map, Option, Some, None, is_some, slice_get, refl, sym, ap, subst, ◌∙◌, cond, bytes_eq, arith, true≢false}
+use Rattle.std.proofs.Common.{◌≡◌, ◌↔◌, ℕ, ◌≤◌, Bool, true, false, ◌||◌, ◌&&◌, ◌⊎◌, inl, inr, nat_lt, nat_eq, List, [], ◌∷◌, ◌++◌, take, map, flat_map}
+use Rattle.std.proofs.Common.{Option, Some, None, is_some, slice_get, refl, sym, ap, subst, ◌∙◌, cond, bytes_eq, arith, true≢false}
 use Rattle.std.specs.List.{AllByRecursion, list_any, list_all}
 use Rattle.std.proofs.lemmas.Bool.Decides.{nat_tests}
 use Rattle.ipg_ast.specs.declared.grammar.Grammar.{Grammar}
@@ -21,10 +22,14 @@ use Rattle.ipg_names.specs.Nearest.{nearest}
 use Rattle.ipg_names.specs.Names.{attr_names}
 use Rattle.ipg_names.specs.Scope.{Scope, is_named, is_var, sym_named, alt_sets, alts_at}
 use Rattle.ipg_names.specs.Fault.{number_of, place_of, is_before, first_of}
-use Rattle.ipg_names.specs.Faults.{Faults, head_faults, rules_faults, unless, rule_fault, occurrence_fault, field_fault, attr_fault, reference_fault, is_known, set_fault, var_fault, faults_of}
+use Rattle.ipg_names.specs.Faults.{Faults, head_faults, rules_faults, unless, rule_fault, occurrence_fault, field_fault}
+use Rattle.ipg_names.specs.Faults.{attr_fault, reference_fault, is_known, set_fault, var_fault, faults_of}
 use Rattle.ipg_names.specs.Told.{Stands, IsFirst}
-use Rattle.ipg_names.specs.Uses.{Use, Bare, Part, Item, Symbol, symbol_of, Read, set_by, loop_of, uses_in, item_uses, all_uses, parsed_by, referred_by, symbols_in, field_reads, read_by, reads_in}
-use Rattle.ipg_names.specs.Refusals.{TermOf, terms_around, where_of, IsRuleFor, IsPrimitive, IsEarlierName, IsDuplicateRule, IsUnknownRule, IsDuplicateAttr, IsLoop, IsFreeName, IsUnknownName, IsPrimitiveWithout, IsRuleWithout, IsUnknownField, IsUnknownAttr, IsPartAttr, IsPartOfNone, IsFreeItem, IsItemOfNone, IsNoOccurrence, IsRefusal, IsFirstRefusal}
+use Rattle.ipg_names.specs.Uses.{Use, Bare, Part, Item, Symbol, symbol_of, Read, set_by, loop_of, uses_in, item_uses}
+use Rattle.ipg_names.specs.Uses.{all_uses, parsed_by, referred_by, symbols_in, field_reads, read_by, reads_in}
+use Rattle.ipg_names.specs.Refusals.{TermOf, terms_around, where_of, IsRuleFor, IsPrimitive, IsEarlierName, IsDuplicateRule, IsUnknownRule, IsDuplicateAttr}
+use Rattle.ipg_names.specs.Refusals.{IsLoop, IsFreeName, IsUnknownName, IsPrimitiveWithout, IsRuleWithout, IsUnknownField, IsUnknownAttr, IsPartAttr}
+use Rattle.ipg_names.specs.Refusals.{IsPartOfNone, IsFreeItem, IsItemOfNone, IsNoOccurrence, IsRefusal, IsFirstRefusal}
 use Rattle.ipg_names.proofs.Bytes.{same_bytes, bytes_same}
 use Rattle.ipg_names.proofs.Lists.{any_map}
 use Rattle.ipg_names.proofs.Found.{any_found, any_at, get_take, take_get}

@@ -1,5 +1,6 @@
 -- The scope that tables say is the scope of the text.
-use Rattle.std.proofs.Common.{◌≡◌, ℕ, zero, suc, ◌+◌, Bool, true, false, ◌||◌, ◌&&◌, List, [], ◌∷◌, map, take, Option, Some, None, is_some, slice_get, refl, sym, ap, subst, ◌∙◌, cond}
+use Rattle.std.proofs.Common.{◌≡◌, ℕ, zero, suc, ◌+◌, Bool, true, false, ◌||◌, ◌&&◌, List, [], ◌∷◌, map, take}
+use Rattle.std.proofs.Common.{Option, Some, None, is_some, slice_get, refl, sym, ap, subst, ◌∙◌, cond}
 use Rattle.std.specs.List.{list_any, list_all}
 use denote.Ref.{Bor}
 use Rattle.ipg_ast.specs.declared.grammar.Term.{Term}
@@ -20,7 +21,8 @@ use Rattle.ipg_names.specs.View.{entries_view}
 use Rattle.ipg_names.specs.Lookup.{shown}
 use Rattle.ipg_names.specs.Fields.{alts_set, rows_set, row_of}
 use Rattle.ipg_names.specs.Marks.{look, nearest_spot, spots_of, spots_from}
-use Rattle.ipg_names.specs.Site.{spot_scope, site_scope, rule_if, rule_visible, rule_callee, row_at, some_of, all_of, has_left, scopes_at, AreTables, AreMarks, IsOuter}
+use Rattle.ipg_names.specs.Site.{spot_scope, site_scope, rule_if, rule_visible, rule_callee, row_at, some_of}
+use Rattle.ipg_names.specs.Site.{all_of, has_left, scopes_at, AreTables, AreMarks, IsOuter}
 use Rattle.ipg_names.proofs.Spots.{nearest_is, spots_any, none_before}
 
 -- outside of item intervals

@@ -19,9 +19,12 @@ use Rattle.ipg_ast.specs.declared.grammar.Field.TheVariants.{Id as Attribute, St
 use Rattle.ipg_ast.specs.declared.grammar.Expr.{Expr, roll-Expr, map-Expr}
 use Rattle.ipg_ast.specs.declared.grammar.Expr.TheOpen.{Expr-F}
 use Rattle.ipg_ast.specs.declared.grammar.Expr.TheFolds.{ind-Expr, fold-roll-Expr}
-use Rattle.ipg_ast.specs.Spelling.{Tokens, field_tokens, sign_of, expr_step, expr_tokens, place_tokens, slot_tokens, case_tokens, cases_tokens, term_tokens, terms_tokens, local_alts_from, local_alts_tokens, local_tokens, locals_tokens, where_tokens, alt_tokens, alts_from, alts_tokens, rule_tokens, rules_tokens, grammar_tokens}
+use Rattle.ipg_ast.specs.Spelling.{Tokens, field_tokens, sign_of, expr_step, expr_tokens, place_tokens, slot_tokens, case_tokens, cases_tokens}
+use Rattle.ipg_ast.specs.Spelling.{term_tokens, terms_tokens, local_alts_from, local_alts_tokens, local_tokens, locals_tokens, where_tokens}
+use Rattle.ipg_ast.specs.Spelling.{alt_tokens, alts_from, alts_tokens, rule_tokens, rules_tokens, grammar_tokens}
 use Rattle.ipg_ast.specs.Shape.{IsFormed, IsFormedRule, IsFormedAlt, IsFormedLocal, IsFormedLocalAlt}
-use Rattle.ipg_names.specs.Readable.{field_count, count_step, expr_count, place_count, what_count, slot_count, case_count, term_count, local_alt_count, local_count, alt_count, rule_count, IsReadable, IsReadableRule, IsReadableAlt, IsReadableLocal, IsReadableLocalAlt}
+use Rattle.ipg_names.specs.Readable.{field_count, count_step, expr_count, place_count, what_count, slot_count, case_count, term_count, local_alt_count}
+use Rattle.ipg_names.specs.Readable.{local_count, alt_count, rule_count, IsReadable, IsReadableRule, IsReadableAlt, IsReadableLocal, IsReadableLocalAlt}
 use Rattle.ipg_names.proofs.Families.{all_of_all}
 
 -- ---- expressions

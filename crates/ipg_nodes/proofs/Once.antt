@@ -21,7 +21,8 @@ head_same : {A : Type 0} (a b : A) → (let xs : List A = a ∷ [] in let ys : L
 head_same a b e = cc
 
 -- the nodes are one, and so all that hangs on them
-node_same : (st : Stored) (id : RunId) (h k : Head) (m n : ℕ) (a b : List (ℕ × ℤ)) (x y : List Kid) (one : HasNode st id h m a x) (other : HasNode st id k n b y)
+node_same : (st : Stored) (id : RunId) (h k : Head) (m n : ℕ) (a b : List (ℕ × ℤ)) (x y : List Kid) (one : HasNode st id h m a x)
+    (other : HasNode st id k n b y)
     → one.node ≡ other.node
 node_same st id h k m n a b x y one other = head_same _ _ (some_same (slice_get st.nodes id.place) _ _ one.is_node other.is_node)
 

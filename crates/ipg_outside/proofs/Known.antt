@@ -1,5 +1,6 @@
 -- Known bytes of readers and writers over several calls.
-use Rattle.std.proofs.Common.{◌≡◌, ℕ, ◌+◌, ◌≤◌, ◌⊎◌, inl, inr, List, [], ◌++◌, length, take, drop, Option, None, Some, refl, sym, ap, subst, ◌∙◌, arith, append_assoc, append-nil, take-append-drop}
+use Rattle.std.proofs.Common.{◌≡◌, ℕ, ◌+◌, ◌≤◌, ◌⊎◌, inl, inr, List, [], ◌++◌, length, take, drop, Option, None, Some}
+use Rattle.std.proofs.Common.{refl, sym, ap, subst, ◌∙◌, arith, append_assoc, append-nil, take-append-drop}
 use Rattle.std.proofs.lemmas.Grind.{common_steps}
 use Rattle.std.specs.Io.KnownBytes.{Keeps, Appends, Consumes, IsAtEnd}
 use Rattle.ipg_outside.specs.Sink.{AppendsPart}
@@ -24,8 +25,11 @@ Split before after piece rest = (done : List ℕ) × (piece ≡ done ++ rest) ×
 
 -- one write more
 pub split-more : (a b c : Option (List ℕ)) (piece rest : List ℕ) (n : ℕ) → Split a b piece rest → Appends b c (take n rest) → Split a c piece (drop n rest)
-split-more a b c piece rest n s q =
-    (s.0 ++ take n rest, s.1 ∙ ap (λ t. s.0 ++ t) (sym (take-append-drop n rest)) ∙ sym (append_assoc s.0 (take n rest) (drop n rest)), appends-more a b c _ _ s.2 q)
+split-more a b c piece rest n s q = (
+  s.0 ++ take n rest,
+  s.1 ∙ ap (λ t. s.0 ++ t) (sym (take-append-drop n rest)) ∙ sym (append_assoc s.0 (take n rest) (drop n rest)),
+  appends-more a b c _ _ s.2 q,
+)
 
 -- a write that failed
 pub split-same : (a b c : Option (List ℕ)) (piece rest : List ℕ) → Split a b piece rest → Keeps b c → Split a c piece rest

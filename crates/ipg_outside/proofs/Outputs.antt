@@ -16,9 +16,14 @@ tells-broken piece (Some a) None h = absurd h
 tells-broken piece (Some a) (Some b) h = breaks-longer piece a b h
 
 -- what a sink that holds nothing wrote of a piece
-pub breaks-at : (bytes piece new : List ℕ) (n : ℕ) → new ≡ bytes ++ take n piece → Breaks piece (record { written = bytes; held = [] }) (record { written = new; held = [] })
+pub breaks-at : (bytes piece new : List ℕ) (n : ℕ) → new ≡ bytes ++ take n piece
+    → Breaks piece (record { written = bytes; held = [] }) (record { written = new; held = [] })
 breaks-at bytes piece new n e = record {
-  part = (drop n piece, ap (λ t. t ++ piece) (append-nil bytes) ∙ sym (ap (λ t. t ++ drop n piece) e ∙ append_assoc bytes (take n piece) (drop n piece) ∙ ap (λ t. bytes ++ t) (take-append-drop n piece)));
+  part = (
+    drop n piece,
+    ap (λ t. t ++ piece) (append-nil bytes)
+        ∙ sym (ap (λ t. t ++ drop n piece) e ∙ append_assoc bytes (take n piece) (drop n piece) ∙ ap (λ t. bytes ++ t) (take-append-drop n piece)),
+  );
   kept = (take n piece, e);
   none_held = refl;
 }

@@ -1,5 +1,6 @@
 -- What a list of files tells.
-use Rattle.std.proofs.Common.{◌≡◌, ℕ, suc, ◌+◌, ◌<◌, Bool, true, false, cond, List, [], ◌∷◌, ◌++◌, length, get_or, drop, map, refl, sym, ap, subst, ◌∙◌, add-one, drop-cons}
+use Rattle.std.proofs.Common.{◌≡◌, ℕ, suc, ◌+◌, ◌<◌, Bool, true, false, cond, List, [], ◌∷◌, ◌++◌, length}
+use Rattle.std.proofs.Common.{get_or, drop, map, refl, sym, ap, subst, ◌∙◌, add-one, drop-cons}
 use Rattle.std.specs.Str.{bytes_eq}
 use Rattle.std.specs.String.{string_bytes}
 use Rattle.ipg_outside.specs.Files.{Told, absent, holds}
@@ -8,7 +9,8 @@ use Rattle.ipg_outside.specs.Stored.{name_and_bytes}
 use Rattle.ipg_outside.specs.declared.stored.StoredFile.{StoredFile}
 
 -- the last file goes first
-pub told-append : (name : List ℕ) (others : Told) (files : List (List ℕ × List ℕ)) (file : List ℕ × List ℕ) → told_in_from name others (files ++ file ∷ []) ≡ told_after name (told_in_from name others files) file
+pub told-append : (name : List ℕ) (others : Told) (files : List (List ℕ × List ℕ)) (file : List ℕ × List ℕ)
+    → told_in_from name others (files ++ file ∷ []) ≡ told_after name (told_in_from name others files) file
 told-append name others [] file = refl
 told-append name others (f ∷ files) file = told-append name (told_after name others f) files file
 
@@ -28,14 +30,16 @@ bytes-added name before after file e = ap bytes_told (told-added name before aft
 
 -- one file more is read
 pub told-step : (name : List ℕ) (others : Told) (files : List StoredFile) (i : ℕ) (file : StoredFile) → i < length files → file ≡ get_or files i file
-    → told_in_from name others (map name_and_bytes (drop i files)) ≡ told_in_from name (told_after name others (name_and_bytes file)) (map name_and_bytes (drop (i + 1) files))
+    → told_in_from name others (map name_and_bytes (drop i files))
+    ≡ told_in_from name (told_after name others (name_and_bytes file)) (map name_and_bytes (drop (i + 1) files))
 told-step name others files i file h e =
     ap (λ t. told_in_from name others (map name_and_bytes t)) (drop-cons files i file h)
     ∙ ap (λ t. told_in_from name (told_after name others (name_and_bytes t)) (map name_and_bytes (drop (suc i) files))) (sym e)
     ∙ ap (λ k. told_in_from name (told_after name others (name_and_bytes file)) (map name_and_bytes (drop k files))) (sym (add-one i))
 
 -- it has the name
-pub told-found : (name bytes : List ℕ) (others told : Told) (files : List StoredFile) (i : ℕ) (file : StoredFile) → i < length files → file ≡ get_or files i file
+pub told-found : (name bytes : List ℕ) (others told : Told) (files : List StoredFile) (i : ℕ) (file : StoredFile) → i < length files
+    → file ≡ get_or files i file
     → bytes_eq name (string_bytes file.name) ≡ true → bytes ≡ file.bytes.items
     → told_in_from name others (map name_and_bytes (drop i files)) ≡ told → told_in_from name (holds bytes) (map name_and_bytes (drop (i + 1) files)) ≡ told
 told-found name bytes others told files i file h e same b t =

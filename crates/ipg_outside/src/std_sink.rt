@@ -45,8 +45,10 @@ impl<W: io::Write + Drop> StdSink<W> {
     }
 
     fn hand_on(&mut self) -> Result<(), SinkFault>
-        ensures handed_on { OnOk result (Tells (output_with (W.contents self.old.out) self.old.held.items) (output_with (W.contents self.new.out) self.new.held.items) HandsOn) }
-        ensures broken { OnErr result (Tells (output_with (W.contents self.old.out) self.old.held.items) (output_with (W.contents self.new.out) self.new.held.items) (Breaks [])) }
+        ensures handed_on { OnOk result
+            (Tells (output_with (W.contents self.old.out) self.old.held.items) (output_with (W.contents self.new.out) self.new.held.items) HandsOn) }
+        ensures broken { OnErr result
+            (Tells (output_with (W.contents self.old.out) self.old.held.items) (output_with (W.contents self.new.out) self.new.held.items) (Breaks [])) }
         ensures none_held { self.new.held.items ≡ [] }
         ensures failed { OnErr result (Rose self.old.faults self.new.faults) }
         ensures counts { self.old.faults ≤ self.new.faults }
@@ -58,8 +60,10 @@ impl<W: io::Write + Drop> StdSink<W> {
 
     fn pass_on(&mut self, piece: &[u8]) -> Result<(), SinkFault>
         requires { self.old.held.items ≡ [] }
-        ensures taken { OnOk result (Tells (output_with (W.contents self.old.out) self.old.held.items) (output_with (W.contents self.new.out) self.new.held.items) (Takes piece.now)) }
-        ensures broken { OnErr result (Tells (output_with (W.contents self.old.out) self.old.held.items) (output_with (W.contents self.new.out) self.new.held.items) (Breaks piece.now)) }
+        ensures taken { OnOk result
+            (Tells (output_with (W.contents self.old.out) self.old.held.items) (output_with (W.contents self.new.out) self.new.held.items) (Takes piece.now)) }
+        ensures broken { OnErr result
+            (Tells (output_with (W.contents self.old.out) self.old.held.items) (output_with (W.contents self.new.out) self.new.held.items) (Breaks piece.now)) }
         ensures failed { OnErr result (Rose self.old.faults self.new.faults) }
         ensures counts { self.old.faults ≤ self.new.faults }
     {
@@ -71,8 +75,10 @@ impl<W: io::Write + Drop> StdSink<W> {
     #[cold]
     #[inline(never)]
     fn write_past(&mut self, piece: &[u8]) -> Result<(), SinkFault>
-        ensures taken { OnOk result (Tells (output_with (W.contents self.old.out) self.old.held.items) (output_with (W.contents self.new.out) self.new.held.items) (Takes piece.now)) }
-        ensures broken { OnErr result (Tells (output_with (W.contents self.old.out) self.old.held.items) (output_with (W.contents self.new.out) self.new.held.items) (Breaks piece.now)) }
+        ensures taken { OnOk result
+            (Tells (output_with (W.contents self.old.out) self.old.held.items) (output_with (W.contents self.new.out) self.new.held.items) (Takes piece.now)) }
+        ensures broken { OnErr result
+            (Tells (output_with (W.contents self.old.out) self.old.held.items) (output_with (W.contents self.new.out) self.new.held.items) (Breaks piece.now)) }
         ensures failed { OnErr result (Rose self.old.faults self.new.faults) }
         ensures counts { self.old.faults ≤ self.new.faults }
     {

@@ -15,7 +15,8 @@ Counted c (Ok rows) (Ok r) = (notes rows c).seen ≡ r.log
 Counted c (Err m) (Err n) = m ≡ n
 Counted c x y = ⊥
 
-counted_then : (rows : List Row) (c : Counts) (x : Result (List Row) ℕ) (y : Result (M.Read counters) ℕ) → Counted (notes rows c) x y → Counted c (A.rows_then rows x) y
+counted_then : (rows : List Row) (c : Counts) (x : Result (List Row) ℕ) (y : Result (M.Read counters) ℕ) → Counted (notes rows c) x y
+    → Counted c (A.rows_then rows x) y
 counted_then rows c (Ok more) (Ok r) counted = ap (λ c. c.seen) (notes_append rows more c) ∙ counted
 counted_then rows c (Ok more) (Err n) counted = absurd counted
 counted_then rows c (Err m) (Ok r) counted = absurd counted
@@ -49,6 +50,8 @@ module _ (ts : List Tok) (at : ℕ) where
       (subst (λ d. Counted (notes rows p) (A.run (at + 1) d ts) (M.verdict counters (at + 1) s ts)) (sym agrees.0)
       (subst (λ q. Counted q (A.run (at + 1) (pos_due s.pos) ts) (M.verdict counters (at + 1) s ts)) (sym agrees.1) (later s)))
 
-pub runs_count : (ts : List Tok) (at : ℕ) (log : Seen) (pos : M.Pos counters) → Counted (counts_at log pos) (A.run at (pos_due pos) ts) (M.verdict counters at (record { log = log; pos = pos }) ts)
+pub runs_count : (ts : List Tok) (at : ℕ) (log : Seen) (pos : M.Pos counters)
+    → Counted (counts_at log pos) (A.run at (pos_due pos) ts) (M.verdict counters at (record { log = log; pos = pos }) ts)
 runs_count [] at log pos = ended_counts at log pos
-runs_count (t ∷ ts) at log pos = one_more ts at (counts_at log pos) (A.advance at t (pos_due pos)) (M.move counters at log pos t) (move_agrees at log pos t) (λ s. runs_count ts (at + 1) s.log s.pos)
+runs_count (t ∷ ts) at log pos = one_more ts at (counts_at log pos) (A.advance at t (pos_due pos)) (M.move counters at log pos t) (move_agrees at log pos t)
+    (λ s. runs_count ts (at + 1) s.log s.pos)

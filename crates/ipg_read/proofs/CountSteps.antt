@@ -94,7 +94,8 @@ later rows c (moved more due) (Some s) agrees = (agrees.0, notes_append rows mor
 
 -- ---- after a term
 
-tail_agrees : (at : ℕ) (log : Seen) (site : M.Site counters) (ts : ℕ) (t : Tok) → Agrees (within site ts log []) (advance at t (site_due site)) (M.after_term_move counters at log site ts t)
+tail_agrees : (at : ℕ) (log : Seen) (site : M.Site counters) (ts : ℕ) (t : Tok)
+    → Agrees (within site ts log []) (advance at t (site_due site)) (M.after_term_move counters at log site ts t)
 tail_agrees at log (M.global h) ts (C.sign (C.op Div)) = (refl, refl)
 tail_agrees at log (M.local h outer ls n las) ts (C.sign (C.op Div)) = (refl, refl)
 tail_agrees at log (M.global h) ts C.semicolon = (refl, refl)
@@ -138,7 +139,8 @@ module _ (at : ℕ) (site : M.Site counters) (ts : ℕ) where
   over : (log log' : Seen) (rows : List Row) (ds ds' : List ℕ) (s : Step) (t : Tok) (turn : Option (M.Turn counters))
       → notes rows (within site ts log ds) ≡ within site ts log' ds' → Turns log' ds' s t turn → Turns log ds (after_rows rows s) t turn
   over log log' rows ds ds' s t turn same agrees =
-      later rows (within site ts log ds) s (M.turned counters at site ts t turn) (subst (λ c. Agrees c s (M.turned counters at site ts t turn)) (sym same) agrees)
+      later rows (within site ts log ds) s (M.turned counters at site ts t turn)
+      (subst (λ c. Agrees c s (M.turned counters at site ts t turn)) (sym same) agrees)
 
   cases_agree : (log : Seen) (span : Span) (t : Tok) → Turns log [] (advance at t (D.Cases span ∷ site_due site)) t (M.case_move counters log span tt t)
   cases_agree log span C.case_word = (refl, refl)
@@ -152,12 +154,15 @@ module _ (at : ℕ) (site : M.Site counters) (ts : ℕ) where
   passed_agrees : (log : Seen) (u : M.SlotUse counters) (t : Tok)
       → Turns log [] (after_rows (R.placed Extent.Open (use_role u) ∷ []) (advance at t (use_due u (site_due site)))) t (M.slot_passed counters log u tt t)
   passed_agrees log M.alone t =
-      later (R.placed Extent.Open Use.Term ∷ []) (within site ts log []) (advance at t (site_due site)) (M.after_term_move counters at log site (more Terms ts) t)
+      later (R.placed Extent.Open Use.Term ∷ []) (within site ts log []) (advance at t (site_due site))
+      (M.after_term_move counters at log site (more Terms ts) t)
       (tail_agrees at log site (more Terms ts) t)
   passed_agrees log (M.chosen span cs c) t =
-      over log log (R.placed Extent.Open Use.Case ∷ []) [] [] (advance at t (D.Cases span ∷ site_due site)) t (M.case_move counters log span tt t) refl (cases_agree log span t)
+      over log log (R.placed Extent.Open Use.Case ∷ []) [] [] (advance at t (D.Cases span ∷ site_due site)) t (M.case_move counters log span tt t) refl
+      (cases_agree log span t)
   passed_agrees log (M.other span cs) t =
-      over log log (R.placed Extent.Open Use.Other ∷ []) [] [] (advance at t (D.PickEnd span ∷ site_due site)) t (M.close_move counters log span tt tt t) refl (pick_agrees log span t)
+      over log log (R.placed Extent.Open Use.Other ∷ []) [] [] (advance at t (D.PickEnd span ∷ site_due site)) t (M.close_move counters log span tt tt t) refl
+      (pick_agrees log span t)
 
   slot_agrees : (log : Seen) (u : M.SlotUse counters) (w : What) (span : Span) (t : Tok)
       → Turns log [] (advance at t (part_due (M.slot_named u w span) (site_due site))) t (M.slot_move counters at log u w span t)
@@ -168,7 +173,8 @@ module _ (at : ℕ) (site : M.Site counters) (ts : ℕ) where
       → Turns log [] (advance at t (D.Place (Use.Many span) ∷ site_due site)) t (M.many_move counters at log span i t)
   many_agrees log span i C.left_bracket = (refl, refl)
   many_agrees log span i t =
-      later (R.placed Extent.Open (Use.Many span) ∷ []) (within site ts log []) (advance at t (site_due site)) (M.after_term_move counters at log site (more Terms ts) t)
+      later (R.placed Extent.Open (Use.Many span) ∷ []) (within site ts log []) (advance at t (site_due site))
+      (M.after_term_move counters at log site (more Terms ts) t)
       (tail_agrees at log site (more Terms ts) t)
 
   opening_agrees : (log : Seen) (u : M.SlotUse counters) (t : Tok)
@@ -179,7 +185,8 @@ module _ (at : ℕ) (site : M.Site counters) (ts : ℕ) where
 
   -- ---- expressions
 
-  ended_agrees : (log : Seen) (base : M.Base counters) (e : ℕ) (t : Tok) → Turns log [] (advance at t (base_due base (site_due site))) t (M.ended counters at log base e t)
+  ended_agrees : (log : Seen) (base : M.Base counters) (e : ℕ) (t : Tok)
+      → Turns log [] (advance at t (base_due base (site_due site))) t (M.ended counters at log base e t)
   ended_agrees log (M.length_or_left M.alone w span) e C.right_bracket = (refl, refl)
   ended_agrees log (M.length_or_left (M.chosen x cs c) w span) e C.right_bracket = (refl, refl)
   ended_agrees log (M.length_or_left (M.other x cs) w span) e C.right_bracket = (refl, refl)
@@ -227,19 +234,25 @@ module _ (at : ℕ) (site : M.Site counters) (ts : ℕ) where
     -- the same, after an entry that makes no row
     unmade : (rows : List Row) (ds : List ℕ) (fs : Frames) (e : ℕ) (t : Tok) → notes rows (within site ts log ds) ≡ within site ts log (e ∷ frames_depths fs)
         → at_have fs e t → Turns log ds (after_rows [] (after_rows rows (advance at t (frames_due fs rest_due)))) t (had fs e t)
-    unmade rows ds fs e t same agrees = over log log [] ds ds (after_rows rows (advance at t (frames_due fs rest_due))) t (had fs e t) refl (closed rows ds fs e t same agrees)
+    unmade rows ds fs e t same agrees = over log log [] ds ds (after_rows rows (advance at t (frames_due fs rest_due))) t (had fs e t) refl
+        (closed rows ds fs e t same agrees)
 
     abbrev loosest : Bool → Infix → A.Answer
     loosest b i = cond b (A.onward (D.Operand ∷ D.Rest (level i + 1) ∷ D.Two (coded_infix i) ∷ D.Rest 0 ∷ [])) (A.passed [])
 
     -- where all operators go on
     zero_sign : (below : List Due) (p : List ℕ) (i : Infix) (turn : Option (M.Turn counters))
-        → Turns log p (A.settled (loosest true i) below (advance at (C.sign i) below)) (C.sign i) turn → Turns log p (A.settled (A.operator 0 i) below (advance at (C.sign i) below)) (C.sign i) turn
-    zero_sign below p i turn agrees = subst (λ b. Turns log p (A.settled (loosest b i) below (advance at (C.sign i) below)) (C.sign i) turn) (sym (above_zero i)) agrees
+        → Turns log p (A.settled (loosest true i) below (advance at (C.sign i) below)) (C.sign i) turn
+        → Turns log p (A.settled (A.operator 0 i) below (advance at (C.sign i) below)) (C.sign i) turn
+    zero_sign below p i turn agrees = subst (λ b. Turns log p (A.settled (loosest b i) below (advance at (C.sign i) below)) (C.sign i) turn)
+        (sym (above_zero i)) agrees
 
     left_other : (p : List ℕ) (s : Step) (fs : Frames) (j : Infix) (a e : ℕ) (t : Tok)
-        → Turns log p s t (M.finished counters at log base first (M.close counters 0 fs (counters.two j a e)) t) → Turns log p s t (M.finished counters at log base first (M.close counters 0 (M.left j a ∷ fs) e) t)
-    left_other p s fs j a e t agrees = subst (λ b. Turns log p s t (M.finished counters at log base first (cond b (M.close counters 0 fs (counters.two j a e)) (record { frames = M.left j a ∷ fs; operand = e })) t))
+        → Turns log p s t (M.finished counters at log base first (M.close counters 0 fs (counters.two j a e)) t)
+        → Turns log p s t (M.finished counters at log base first (M.close counters 0 (M.left j a ∷ fs) e) t)
+    left_other p s fs j a e t agrees =
+        subst (λ b. Turns log p s t
+        (M.finished counters at log base first (cond b (M.close counters 0 fs (counters.two j a e)) (record { frames = M.left j a ∷ fs; operand = e })) t))
         (sym (above_zero j)) agrees
 
     left_sign : (fs : Frames) (j : Infix) (a e : ℕ) (i : Infix) → at_have fs (counters.two j a e) (C.sign i) → at_have (M.left j a ∷ fs) e (C.sign i)
@@ -256,14 +269,16 @@ module _ (at : ℕ) (site : M.Site counters) (ts : ℕ) where
 
         by : Bool → Bool → Type 0
         by b c = Turns log (e ∷ a ∷ frames_depths fs)
-            (A.settled (cond b (A.onward (D.Operand ∷ D.Rest (level i + 1) ∷ D.Two (coded_infix i) ∷ D.Rest (level j + 1) ∷ [])) (A.passed [])) below (advance at (C.sign i) below))
+            (A.settled (cond b (A.onward (D.Operand ∷ D.Rest (level i + 1) ∷ D.Two (coded_infix i) ∷ D.Rest (level j + 1) ∷ [])) (A.passed [])) below
+            (advance at (C.sign i) below))
             (C.sign i) (Some (M.still log (M.expr base first (M.with_left i (cond c above stopped)))))
 
         go : (c : Bool) → by (not c) c
         go true = unmade (R.two (infix_of (coded_infix j)) ∷ []) (e ∷ a ∷ frames_depths fs) fs (counters.two j a e) (C.sign i) refl agrees
         go false = (refl, refl)
 
-    left_question : (fs : Frames) (j : Infix) (a e : ℕ) (span : Span) → at_have fs (counters.two j a e) (C.question span) → at_have (M.left j a ∷ fs) e (C.question span)
+    left_question : (fs : Frames) (j : Infix) (a e : ℕ) (span : Span) → at_have fs (counters.two j a e) (C.question span)
+        → at_have (M.left j a ∷ fs) e (C.question span)
     left_question fs j a e span agrees =
         subst (λ answer. by answer (nat_le 1 (level j))) (sym (no_question j)) (subst (λ b. by (A.passed []) b) (sym (above_one j))
         (unmade (R.two (infix_of (coded_infix j)) ∷ []) (e ∷ a ∷ frames_depths fs) fs (counters.two j a e) (C.question span) refl agrees))
@@ -273,18 +288,23 @@ module _ (at : ℕ) (site : M.Site counters) (ts : ℕ) where
 
         by : A.Answer → Bool → Type 0
         by answer c = Turns log (e ∷ a ∷ frames_depths fs) (A.settled answer below (advance at (C.question span) below)) (C.question span)
-            (Some (M.still log (M.expr base first (M.with_test span (cond c (M.close counters 1 fs (counters.two j a e)) (record { frames = M.left j a ∷ fs; operand = e }))))))
+            (Some (M.still log (M.expr base first
+            (M.with_test span (cond c (M.close counters 1 fs (counters.two j a e)) (record { frames = M.left j a ∷ fs; operand = e }))))))
 
     else_sign : (fs : Frames) (c : ℕ) (q : Span) (a e : ℕ) (i : Infix) → at_have (M.else_of c q a ∷ fs) e (C.sign i)
-    else_sign fs c q a e i = subst by (sym (above_none i)) (zero_sign (D.Cond ∷ frames_due fs rest_due) (e ∷ frames_depths (M.else_of c q a ∷ fs)) i (stops false) (refl, refl))
+    else_sign fs c q a e i =
+        subst by (sym (above_none i)) (zero_sign (D.Cond ∷ frames_due fs rest_due) (e ∷ frames_depths (M.else_of c q a ∷ fs)) i (stops false) (refl, refl))
       where
         stops : Bool → Option (M.Turn counters)
-        stops b = Some (M.still log (M.expr base first (M.with_left i (cond b (M.close counters (level i) fs (counters.choose c q a e)) (record { frames = M.else_of c q a ∷ fs; operand = e })))))
+        stops b = Some (M.still log
+            (M.expr base first (M.with_left i
+            (cond b (M.close counters (level i) fs (counters.choose c q a e)) (record { frames = M.else_of c q a ∷ fs; operand = e })))))
 
         by : Bool → Type 0
         by b = Turns log (e ∷ frames_depths (M.else_of c q a ∷ fs)) (advance at (C.sign i) (frames_due (M.else_of c q a ∷ fs) rest_due)) (C.sign i) (stops b)
 
-    whole_agrees : (e : ℕ) (t : Tok) → Turns log (e ∷ []) (after_rows [] (after_rows (R.whole first ∷ []) (advance at t (base_due base (site_due site))))) t (M.finish counters at log base first [] e t)
+    whole_agrees : (e : ℕ) (t : Tok) → Turns log (e ∷ []) (after_rows [] (after_rows (R.whole first ∷ []) (advance at t (base_due base (site_due site))))) t
+        (M.finish counters at log base first [] e t)
     whole_agrees e t =
         let told : Seen = counters.saw_expr e first log in
         let s : Step = advance at t (base_due base (site_due site)) in
@@ -295,26 +315,34 @@ module _ (at : ℕ) (site : M.Site counters) (ts : ℕ) where
     have_agrees [] e (C.sign i) = zero_sign rest_due (e ∷ frames_depths ([])) i (had ([]) e (C.sign i)) (refl, refl)
     have_agrees [] e (C.question span) = (refl, refl)
     have_agrees [] e t = whole_agrees e t
-    have_agrees (M.neg ∷ fs) e (C.sign i) = closed (R.neg ∷ []) (e ∷ frames_depths fs) fs (counters.neg e) (C.sign i) refl (have_agrees fs (counters.neg e) (C.sign i))
-    have_agrees (M.neg ∷ fs) e (C.question span) = closed (R.neg ∷ []) (e ∷ frames_depths fs) fs (counters.neg e) (C.question span) refl (have_agrees fs (counters.neg e) (C.question span))
+    have_agrees (M.neg ∷ fs) e (C.sign i) = closed (R.neg ∷ []) (e ∷ frames_depths fs) fs (counters.neg e) (C.sign i) refl
+        (have_agrees fs (counters.neg e) (C.sign i))
+    have_agrees (M.neg ∷ fs) e (C.question span) = closed (R.neg ∷ []) (e ∷ frames_depths fs) fs (counters.neg e) (C.question span) refl
+        (have_agrees fs (counters.neg e) (C.question span))
     have_agrees (M.neg ∷ fs) e t = closed (R.neg ∷ []) (e ∷ frames_depths fs) fs (counters.neg e) t refl (have_agrees fs (counters.neg e) t)
-    have_agrees (M.isnt ∷ fs) e (C.sign i) = closed (R.isnt ∷ []) (e ∷ frames_depths fs) fs (counters.isnt e) (C.sign i) refl (have_agrees fs (counters.isnt e) (C.sign i))
-    have_agrees (M.isnt ∷ fs) e (C.question span) = closed (R.isnt ∷ []) (e ∷ frames_depths fs) fs (counters.isnt e) (C.question span) refl (have_agrees fs (counters.isnt e) (C.question span))
+    have_agrees (M.isnt ∷ fs) e (C.sign i) = closed (R.isnt ∷ []) (e ∷ frames_depths fs) fs (counters.isnt e) (C.sign i) refl
+        (have_agrees fs (counters.isnt e) (C.sign i))
+    have_agrees (M.isnt ∷ fs) e (C.question span) = closed (R.isnt ∷ []) (e ∷ frames_depths fs) fs (counters.isnt e) (C.question span) refl
+        (have_agrees fs (counters.isnt e) (C.question span))
     have_agrees (M.isnt ∷ fs) e t = closed (R.isnt ∷ []) (e ∷ frames_depths fs) fs (counters.isnt e) t refl (have_agrees fs (counters.isnt e) t)
     have_agrees (M.left j a ∷ fs) e (C.sign i) = left_sign fs j a e i (have_agrees fs (counters.two j a e) (C.sign i))
     have_agrees (M.left j a ∷ fs) e (C.question span) = left_question fs j a e span (have_agrees fs (counters.two j a e) (C.question span))
     have_agrees (M.left j a ∷ fs) e t =
-        left_other (e ∷ frames_depths (M.left j a ∷ fs)) (after_rows [] (after_rows (R.two (infix_of (coded_infix j)) ∷ []) (advance at t (frames_due fs rest_due)))) fs j a e t
+        left_other (e ∷ frames_depths (M.left j a ∷ fs))
+        (after_rows [] (after_rows (R.two (infix_of (coded_infix j)) ∷ []) (advance at t (frames_due fs rest_due)))) fs j a e t
         (unmade (R.two (infix_of (coded_infix j)) ∷ []) (e ∷ a ∷ frames_depths fs) fs (counters.two j a e) t refl (have_agrees fs (counters.two j a e) t))
-    have_agrees (M.group ∷ fs) e (C.sign i) = zero_sign (D.GroupEnd ∷ frames_due fs rest_due) (e ∷ frames_depths (M.group ∷ fs)) i (had (M.group ∷ fs) e (C.sign i)) (refl, refl)
+    have_agrees (M.group ∷ fs) e (C.sign i) = zero_sign (D.GroupEnd ∷ frames_due fs rest_due) (e ∷ frames_depths (M.group ∷ fs)) i
+        (had (M.group ∷ fs) e (C.sign i)) (refl, refl)
     have_agrees (M.group ∷ fs) e (C.question span) = (refl, refl)
     have_agrees (M.group ∷ fs) e C.right_paren = (refl, refl)
     have_agrees (M.group ∷ fs) e t = tt
-    have_agrees (M.index x ∷ fs) e (C.sign i) = zero_sign (D.IndexEnd ∷ frames_due fs rest_due) (e ∷ frames_depths (M.index x ∷ fs)) i (had (M.index x ∷ fs) e (C.sign i)) (refl, refl)
+    have_agrees (M.index x ∷ fs) e (C.sign i) = zero_sign (D.IndexEnd ∷ frames_due fs rest_due) (e ∷ frames_depths (M.index x ∷ fs)) i
+        (had (M.index x ∷ fs) e (C.sign i)) (refl, refl)
     have_agrees (M.index x ∷ fs) e (C.question span) = (refl, refl)
     have_agrees (M.index x ∷ fs) e C.right_paren = (refl, refl)
     have_agrees (M.index x ∷ fs) e t = tt
-    have_agrees (M.then_of c q ∷ fs) e (C.sign i) = zero_sign (D.CondColon ∷ frames_due fs rest_due) (e ∷ frames_depths (M.then_of c q ∷ fs)) i (had (M.then_of c q ∷ fs) e (C.sign i)) (refl, refl)
+    have_agrees (M.then_of c q ∷ fs) e (C.sign i) = zero_sign (D.CondColon ∷ frames_due fs rest_due) (e ∷ frames_depths (M.then_of c q ∷ fs)) i
+        (had (M.then_of c q ∷ fs) e (C.sign i)) (refl, refl)
     have_agrees (M.then_of c q ∷ fs) e (C.question span) = (refl, refl)
     have_agrees (M.then_of c q ∷ fs) e C.colon = (refl, refl)
     have_agrees (M.then_of c q ∷ fs) e t = tt
@@ -354,7 +382,8 @@ module _ (at : ℕ) (site : M.Site counters) (ts : ℕ) where
 
   -- ---- terms
 
-  part_agrees : (log : Seen) (p : M.Part counters) (t : Tok) → Turns log (part_depths p) (advance at t (part_due p (site_due site))) t (M.part_move counters at log p t)
+  part_agrees : (log : Seen) (p : M.Part counters) (t : Tok)
+      → Turns log (part_depths p) (advance at t (part_due p (site_due site))) t (M.part_move counters at log p t)
   part_agrees log (M.slot_named u w span) t = slot_agrees log u w span t
   part_agrees log (M.expr base first inner) t = inner_agrees log base first inner t
   part_agrees log M.set_open (C.name x) = (refl, refl)
@@ -386,7 +415,8 @@ module _ (at : ℕ) (site : M.Site counters) (ts : ℕ) where
 
 -- ---- all positions
 
-pub move_agrees : (at : ℕ) (log : Seen) (pos : M.Pos counters) (t : Tok) → Agrees (counts_at log pos) (advance at t (pos_due pos)) (M.move counters at log pos t)
+pub move_agrees : (at : ℕ) (log : Seen) (pos : M.Pos counters) (t : Tok)
+    → Agrees (counts_at log pos) (advance at t (pos_due pos)) (M.move counters at log pos t)
 move_agrees at log M.start (C.name i) = (refl, refl)
 move_agrees at log M.start t = tt
 move_agrees at log (M.between rs) (C.name i) = (refl, refl)

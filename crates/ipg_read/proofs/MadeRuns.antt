@@ -49,6 +49,8 @@ module _ (ts : List Tok) (at : ℕ) where
       (subst (λ d. Makes (makes rows p) (A.run (at + 1) d ts) (M.verdict made (at + 1) s ts)) (sym agrees.0)
       (subst (λ q. Makes q (A.run (at + 1) (pos_due s.pos) ts) (M.verdict made (at + 1) s ts)) (sym agrees.1) (later s)))
 
-pub runs_made : (ts : List Tok) (at : ℕ) (pos : M.Pos made) → Makes (parts_at pos) (A.run at (pos_due pos) ts) (M.verdict made at (record { log = tt; pos = pos }) ts)
+pub runs_made : (ts : List Tok) (at : ℕ) (pos : M.Pos made)
+    → Makes (parts_at pos) (A.run at (pos_due pos) ts) (M.verdict made at (record { log = tt; pos = pos }) ts)
 runs_made [] at pos = ended_makes at pos
-runs_made (t ∷ ts) at pos = one_more ts at (parts_at pos) (A.advance at t (pos_due pos)) (M.move made at tt pos t) (move_agrees at pos t) (λ s. runs_made ts (at + 1) s.pos)
+runs_made (t ∷ ts) at pos = one_more ts at (parts_at pos) (A.advance at t (pos_due pos)) (M.move made at tt pos t) (move_agrees at pos t)
+    (λ s. runs_made ts (at + 1) s.pos)

@@ -172,7 +172,8 @@ at_part site ts p = within site ts [] (names_of site) [] []
 
 -- outside of alternatives
 abbrev outside : List Ident → List Term → List Rule → List Alt → List Rule → Parts
-outside ns outer ls alts rs = record { exprs = []; names = ns; slots = []; cases = []; terms = []; outer = outer; local_alts = []; locals = ls; alts = alts; rules = rs }
+outside ns outer ls alts rs =
+    record { exprs = []; names = ns; slots = []; cases = []; terms = []; outer = outer; local_alts = []; locals = ls; alts = alts; rules = rs }
 
 abbrev pub parts_at : M.Pos made → Parts
 parts_at M.start = outside [] [] [] [] []
@@ -205,7 +206,8 @@ later rows p (moved more due) (Some s) agrees = (agrees.0, makes_append rows mor
 
 -- ---- after a term
 
-tail_agrees : (at : ℕ) (site : M.Site made) (ts : List Term) (t : Tok) → Agrees (within site ts [] (names_of site) [] []) (advance at t (site_due site)) (M.after_term_move made at tt site ts t)
+tail_agrees : (at : ℕ) (site : M.Site made) (ts : List Term) (t : Tok)
+    → Agrees (within site ts [] (names_of site) [] []) (advance at t (site_due site)) (M.after_term_move made at tt site ts t)
 tail_agrees at (M.global h) ts (C.sign (C.op Div)) = (refl, refl)
 tail_agrees at (M.local h outer ls n las) ts (C.sign (C.op Div)) = (refl, refl)
 tail_agrees at (M.global h) ts C.semicolon = (refl, refl)
@@ -249,10 +251,13 @@ module _ (at : ℕ) (site : M.Site made) (ts : List Term) where
   Turns p s t turn = Agrees p s (M.turned made at site ts t turn)
 
   -- rows before the others
-  over : (rows : List Row) (p q : Parts) (s : Step) (t : Tok) (turn : Option (M.Turn made)) → makes rows p ≡ q → Turns q s t turn → Turns p (after_rows rows s) t turn
-  over rows p q s t turn same agrees = later rows p s (M.turned made at site ts t turn) (subst (λ c. Agrees c s (M.turned made at site ts t turn)) (sym same) agrees)
+  over : (rows : List Row) (p q : Parts) (s : Step) (t : Tok) (turn : Option (M.Turn made)) → makes rows p ≡ q → Turns q s t turn
+      → Turns p (after_rows rows s) t turn
+  over rows p q s t turn same agrees = later rows p s (M.turned made at site ts t turn)
+      (subst (λ c. Agrees c s (M.turned made at site ts t turn)) (sym same) agrees)
 
-  cases_agree : (span : Span) (cs : List Case) (t : Tok) → Turns (within site ts [] sn [] cs) (advance at t (D.Cases span ∷ site_due site)) t (M.case_move made tt span cs t)
+  cases_agree : (span : Span) (cs : List Case) (t : Tok) → Turns (within site ts [] sn [] cs) (advance at t (D.Cases span ∷ site_due site)) t
+      (M.case_move made tt span cs t)
   cases_agree span cs C.case_word = (refl, refl)
   cases_agree span cs C.else_word = (refl, refl)
   cases_agree span cs t = tt
@@ -263,18 +268,22 @@ module _ (at : ℕ) (site : M.Site made) (ts : List Term) where
   pick_agrees span cs s t = tt
 
   passed_agrees : (u : M.SlotUse made) (w : What) (at' : Span) (t : Tok)
-      → Turns (within site ts (use_exprs u) sn (slot w at' ∷ []) (use_cases u)) (after_rows (R.placed Extent.Open (use_role u) ∷ []) (advance at t (use_due u (site_due site)))) t
+      → Turns (within site ts (use_exprs u) sn (slot w at' ∷ []) (use_cases u))
+      (after_rows (R.placed Extent.Open (use_role u) ∷ []) (advance at t (use_due u (site_due site)))) t
       (M.slot_passed made tt u (made.slot w at' made.anywhere) t)
   passed_agrees M.alone w at' t =
       let term : Term = T.Slot (slot w at') in
-      later (R.placed Extent.Open Use.Term ∷ []) (within site ts [] sn (slot w at' ∷ []) []) (advance at t (site_due site)) (M.after_term_move made at tt site (last ts term) t)
+      later (R.placed Extent.Open Use.Term ∷ []) (within site ts [] sn (slot w at' ∷ []) []) (advance at t (site_due site))
+      (M.after_term_move made at tt site (last ts term) t)
       (tail_agrees at site (last ts term) t)
   passed_agrees (M.chosen span cs c) w at' t =
       let more : List Case = last cs (record { cond = c; slot = slot w at' }) in
-      over (R.placed Extent.Open Use.Case ∷ []) (within site ts (c ∷ []) sn (slot w at' ∷ []) cs) (within site ts [] sn [] more) (advance at t (D.Cases span ∷ site_due site)) t
+      over (R.placed Extent.Open Use.Case ∷ []) (within site ts (c ∷ []) sn (slot w at' ∷ []) cs) (within site ts [] sn [] more)
+      (advance at t (D.Cases span ∷ site_due site)) t
       (M.case_move made tt span more t) refl (cases_agree span more t)
   passed_agrees (M.other span cs) w at' t =
-      over (R.placed Extent.Open Use.Other ∷ []) (within site ts [] sn (slot w at' ∷ []) cs) (within site ts [] sn (slot w at' ∷ []) cs) (advance at t (D.PickEnd span ∷ site_due site)) t
+      over (R.placed Extent.Open Use.Other ∷ []) (within site ts [] sn (slot w at' ∷ []) cs) (within site ts [] sn (slot w at' ∷ []) cs)
+      (advance at t (D.PickEnd span ∷ site_due site)) t
       (M.close_move made tt span cs (slot w at') t) refl (pick_agrees span cs (slot w at') t)
 
   slot_agrees : (u : M.SlotUse made) (w : What) (span : Span) (t : Tok)
@@ -287,7 +296,8 @@ module _ (at : ℕ) (site : M.Site made) (ts : List Term) where
   many_agrees span i C.left_bracket = (refl, refl)
   many_agrees span i t =
       let term : Term = T.Many span i P.Open in
-      later (R.placed Extent.Open (Use.Many span) ∷ []) (at_part site ts (M.many_named span i)) (advance at t (site_due site)) (M.after_term_move made at tt site (last ts term) t)
+      later (R.placed Extent.Open (Use.Many span) ∷ []) (at_part site ts (M.many_named span i)) (advance at t (site_due site))
+      (M.after_term_move made at tt site (last ts term) t)
       (tail_agrees at site (last ts term) t)
 
   opening_agrees : (u : M.SlotUse made) (t : Tok)
@@ -350,9 +360,11 @@ module _ (at : ℕ) (site : M.Site made) (ts : List Term) where
     -- the same, after an entry that makes no row
     unmade : (rows : List Row) (p : Parts) (fs : Frames) (e : Expr) (t : Tok) → makes rows p ≡ having fs e
         → at_have fs e t → Turns p (after_rows [] (after_rows rows (advance at t (frames_due fs rest_due)))) t (had fs e t)
-    unmade rows p fs e t same agrees = over [] p p (after_rows rows (advance at t (frames_due fs rest_due))) t (had fs e t) refl (closed rows p fs e t same agrees)
+    unmade rows p fs e t same agrees = over [] p p (after_rows rows (advance at t (frames_due fs rest_due))) t (had fs e t) refl
+        (closed rows p fs e t same agrees)
 
-    two_made : (fs : Frames) (j : Infix) (a e : Expr) → makes (R.two (infix_of (coded_infix j)) ∷ []) (having (M.left j a ∷ fs) e) ≡ having fs (infix_expr j a e)
+    two_made : (fs : Frames) (j : Infix) (a e : Expr) → makes (R.two (infix_of (coded_infix j)) ∷ []) (having (M.left j a ∷ fs) e)
+        ≡ having fs (infix_expr j a e)
     two_made fs j a e = ap (λ k. having fs (infix_expr k a e)) (coded_back j)
 
     abbrev loosest : Bool → Infix → A.Answer
@@ -360,12 +372,17 @@ module _ (at : ℕ) (site : M.Site made) (ts : List Term) where
 
     -- where all operators go on
     zero_sign : (below : List Due) (p : Parts) (i : Infix) (turn : Option (M.Turn made))
-        → Turns p (A.settled (loosest true i) below (advance at (C.sign i) below)) (C.sign i) turn → Turns p (A.settled (A.operator 0 i) below (advance at (C.sign i) below)) (C.sign i) turn
-    zero_sign below p i turn agrees = subst (λ b. Turns p (A.settled (loosest b i) below (advance at (C.sign i) below)) (C.sign i) turn) (sym (above_zero i)) agrees
+        → Turns p (A.settled (loosest true i) below (advance at (C.sign i) below)) (C.sign i) turn
+        → Turns p (A.settled (A.operator 0 i) below (advance at (C.sign i) below)) (C.sign i) turn
+    zero_sign below p i turn agrees = subst (λ b. Turns p (A.settled (loosest b i) below (advance at (C.sign i) below)) (C.sign i) turn)
+        (sym (above_zero i)) agrees
 
     left_other : (p : Parts) (s : Step) (fs : Frames) (j : Infix) (a e : Expr) (t : Tok)
-        → Turns p s t (M.finished made at tt base first (M.close made 0 fs (infix_expr j a e)) t) → Turns p s t (M.finished made at tt base first (M.close made 0 (M.left j a ∷ fs) e) t)
-    left_other p s fs j a e t agrees = subst (λ b. Turns p s t (M.finished made at tt base first (cond b (M.close made 0 fs (infix_expr j a e)) (record { frames = M.left j a ∷ fs; operand = e })) t))
+        → Turns p s t (M.finished made at tt base first (M.close made 0 fs (infix_expr j a e)) t)
+        → Turns p s t (M.finished made at tt base first (M.close made 0 (M.left j a ∷ fs) e) t)
+    left_other p s fs j a e t agrees =
+        subst (λ b. Turns p s t
+        (M.finished made at tt base first (cond b (M.close made 0 fs (infix_expr j a e)) (record { frames = M.left j a ∷ fs; operand = e })) t))
         (sym (above_zero j)) agrees
 
     left_sign : (fs : Frames) (j : Infix) (a e : Expr) (i : Infix) → at_have fs (infix_expr j a e) (C.sign i) → at_have (M.left j a ∷ fs) e (C.sign i)
@@ -382,14 +399,16 @@ module _ (at : ℕ) (site : M.Site made) (ts : List Term) where
 
         by : Bool → Bool → Type 0
         by b c = Turns (having (M.left j a ∷ fs) e)
-            (A.settled (cond b (A.onward (D.Operand ∷ D.Rest (level i + 1) ∷ D.Two (coded_infix i) ∷ D.Rest (level j + 1) ∷ [])) (A.passed [])) below (advance at (C.sign i) below))
+            (A.settled (cond b (A.onward (D.Operand ∷ D.Rest (level i + 1) ∷ D.Two (coded_infix i) ∷ D.Rest (level j + 1) ∷ [])) (A.passed [])) below
+            (advance at (C.sign i) below))
             (C.sign i) (Some (M.still tt (M.expr base first (M.with_left i (cond c above stopped)))))
 
         go : (c : Bool) → by (not c) c
         go true = unmade (R.two (infix_of (coded_infix j)) ∷ []) (having (M.left j a ∷ fs) e) fs (infix_expr j a e) (C.sign i) (two_made fs j a e) agrees
         go false = (refl, refl)
 
-    left_question : (fs : Frames) (j : Infix) (a e : Expr) (span : Span) → at_have fs (infix_expr j a e) (C.question span) → at_have (M.left j a ∷ fs) e (C.question span)
+    left_question : (fs : Frames) (j : Infix) (a e : Expr) (span : Span) → at_have fs (infix_expr j a e) (C.question span)
+        → at_have (M.left j a ∷ fs) e (C.question span)
     left_question fs j a e span agrees =
         subst (λ answer. by answer (nat_le 1 (level j))) (sym (no_question j)) (subst (λ b. by (A.passed []) b) (sym (above_one j))
         (unmade (R.two (infix_of (coded_infix j)) ∷ []) (having (M.left j a ∷ fs) e) fs (infix_expr j a e) (C.question span) (two_made fs j a e) agrees))
@@ -399,18 +418,22 @@ module _ (at : ℕ) (site : M.Site made) (ts : List Term) where
 
         by : A.Answer → Bool → Type 0
         by answer c = Turns (having (M.left j a ∷ fs) e) (A.settled answer below (advance at (C.question span) below)) (C.question span)
-            (Some (M.still tt (M.expr base first (M.with_test span (cond c (M.close made 1 fs (infix_expr j a e)) (record { frames = M.left j a ∷ fs; operand = e }))))))
+            (Some (M.still tt (M.expr base first
+            (M.with_test span (cond c (M.close made 1 fs (infix_expr j a e)) (record { frames = M.left j a ∷ fs; operand = e }))))))
 
     else_sign : (fs : Frames) (c : Expr) (q : Span) (a e : Expr) (i : Infix) → at_have (M.else_of c q a ∷ fs) e (C.sign i)
-    else_sign fs c q a e i = subst by (sym (above_none i)) (zero_sign (D.Cond ∷ frames_due fs rest_due) (having (M.else_of c q a ∷ fs) e) i (stops false) (refl, refl))
+    else_sign fs c q a e i =
+        subst by (sym (above_none i)) (zero_sign (D.Cond ∷ frames_due fs rest_due) (having (M.else_of c q a ∷ fs) e) i (stops false) (refl, refl))
       where
         stops : Bool → Option (M.Turn made)
-        stops b = Some (M.still tt (M.expr base first (M.with_left i (cond b (M.close made (level i) fs (E.Cond c a e)) (record { frames = M.else_of c q a ∷ fs; operand = e })))))
+        stops b = Some (M.still tt
+            (M.expr base first (M.with_left i (cond b (M.close made (level i) fs (E.Cond c a e)) (record { frames = M.else_of c q a ∷ fs; operand = e })))))
 
         by : Bool → Type 0
         by b = Turns (having (M.else_of c q a ∷ fs) e) (advance at (C.sign i) (frames_due (M.else_of c q a ∷ fs) rest_due)) (C.sign i) (stops b)
 
-    whole_agrees : (e : Expr) (t : Tok) → Turns (having [] e) (after_rows [] (after_rows (R.whole first ∷ []) (advance at t (base_due base (site_due site))))) t (M.finish made at tt base first [] e t)
+    whole_agrees : (e : Expr) (t : Tok) → Turns (having [] e) (after_rows [] (after_rows (R.whole first ∷ []) (advance at t (base_due base (site_due site))))) t
+        (M.finish made at tt base first [] e t)
     whole_agrees e t =
         let s : Step = advance at t (base_due base (site_due site)) in
         over [] (having [] e) (having [] e) (after_rows (R.whole first ∷ []) s) t (M.ended made at tt base e t) refl
@@ -421,25 +444,33 @@ module _ (at : ℕ) (site : M.Site made) (ts : List Term) where
     have_agrees [] e (C.question span) = (refl, refl)
     have_agrees [] e t = whole_agrees e t
     have_agrees (M.neg ∷ fs) e (C.sign i) = closed (R.neg ∷ []) (having (M.neg ∷ fs) e) fs (made.neg e) (C.sign i) refl (have_agrees fs (made.neg e) (C.sign i))
-    have_agrees (M.neg ∷ fs) e (C.question span) = closed (R.neg ∷ []) (having (M.neg ∷ fs) e) fs (made.neg e) (C.question span) refl (have_agrees fs (made.neg e) (C.question span))
+    have_agrees (M.neg ∷ fs) e (C.question span) = closed (R.neg ∷ []) (having (M.neg ∷ fs) e) fs (made.neg e) (C.question span) refl
+        (have_agrees fs (made.neg e) (C.question span))
     have_agrees (M.neg ∷ fs) e t = closed (R.neg ∷ []) (having (M.neg ∷ fs) e) fs (made.neg e) t refl (have_agrees fs (made.neg e) t)
-    have_agrees (M.isnt ∷ fs) e (C.sign i) = closed (R.isnt ∷ []) (having (M.isnt ∷ fs) e) fs (made.isnt e) (C.sign i) refl (have_agrees fs (made.isnt e) (C.sign i))
-    have_agrees (M.isnt ∷ fs) e (C.question span) = closed (R.isnt ∷ []) (having (M.isnt ∷ fs) e) fs (made.isnt e) (C.question span) refl (have_agrees fs (made.isnt e) (C.question span))
+    have_agrees (M.isnt ∷ fs) e (C.sign i) = closed (R.isnt ∷ []) (having (M.isnt ∷ fs) e) fs (made.isnt e) (C.sign i) refl
+        (have_agrees fs (made.isnt e) (C.sign i))
+    have_agrees (M.isnt ∷ fs) e (C.question span) = closed (R.isnt ∷ []) (having (M.isnt ∷ fs) e) fs (made.isnt e) (C.question span) refl
+        (have_agrees fs (made.isnt e) (C.question span))
     have_agrees (M.isnt ∷ fs) e t = closed (R.isnt ∷ []) (having (M.isnt ∷ fs) e) fs (made.isnt e) t refl (have_agrees fs (made.isnt e) t)
     have_agrees (M.left j a ∷ fs) e (C.sign i) = left_sign fs j a e i (have_agrees fs (infix_expr j a e) (C.sign i))
     have_agrees (M.left j a ∷ fs) e (C.question span) = left_question fs j a e span (have_agrees fs (infix_expr j a e) (C.question span))
     have_agrees (M.left j a ∷ fs) e t =
-        left_other (having (M.left j a ∷ fs) e) (after_rows [] (after_rows (R.two (infix_of (coded_infix j)) ∷ []) (advance at t (frames_due fs rest_due)))) fs j a e t
-        (unmade (R.two (infix_of (coded_infix j)) ∷ []) (having (M.left j a ∷ fs) e) fs (infix_expr j a e) t (two_made fs j a e) (have_agrees fs (infix_expr j a e) t))
-    have_agrees (M.group ∷ fs) e (C.sign i) = zero_sign (D.GroupEnd ∷ frames_due fs rest_due) (having (M.group ∷ fs) e) i (had (M.group ∷ fs) e (C.sign i)) (refl, refl)
+        left_other (having (M.left j a ∷ fs) e) (after_rows [] (after_rows (R.two (infix_of (coded_infix j)) ∷ []) (advance at t (frames_due fs rest_due)))) fs
+        j a e t
+        (unmade (R.two (infix_of (coded_infix j)) ∷ []) (having (M.left j a ∷ fs) e) fs (infix_expr j a e) t (two_made fs j a e)
+        (have_agrees fs (infix_expr j a e) t))
+    have_agrees (M.group ∷ fs) e (C.sign i) = zero_sign (D.GroupEnd ∷ frames_due fs rest_due) (having (M.group ∷ fs) e) i (had (M.group ∷ fs) e (C.sign i))
+        (refl, refl)
     have_agrees (M.group ∷ fs) e (C.question span) = (refl, refl)
     have_agrees (M.group ∷ fs) e C.right_paren = (refl, refl)
     have_agrees (M.group ∷ fs) e t = tt
-    have_agrees (M.index x ∷ fs) e (C.sign i) = zero_sign (D.IndexEnd ∷ frames_due fs rest_due) (having (M.index x ∷ fs) e) i (had (M.index x ∷ fs) e (C.sign i)) (refl, refl)
+    have_agrees (M.index x ∷ fs) e (C.sign i) = zero_sign (D.IndexEnd ∷ frames_due fs rest_due) (having (M.index x ∷ fs) e) i
+        (had (M.index x ∷ fs) e (C.sign i)) (refl, refl)
     have_agrees (M.index x ∷ fs) e (C.question span) = (refl, refl)
     have_agrees (M.index x ∷ fs) e C.right_paren = (refl, refl)
     have_agrees (M.index x ∷ fs) e t = tt
-    have_agrees (M.then_of c q ∷ fs) e (C.sign i) = zero_sign (D.CondColon ∷ frames_due fs rest_due) (having (M.then_of c q ∷ fs) e) i (had (M.then_of c q ∷ fs) e (C.sign i)) (refl, refl)
+    have_agrees (M.then_of c q ∷ fs) e (C.sign i) = zero_sign (D.CondColon ∷ frames_due fs rest_due) (having (M.then_of c q ∷ fs) e) i
+        (had (M.then_of c q ∷ fs) e (C.sign i)) (refl, refl)
     have_agrees (M.then_of c q ∷ fs) e (C.question span) = (refl, refl)
     have_agrees (M.then_of c q ∷ fs) e C.colon = (refl, refl)
     have_agrees (M.then_of c q ∷ fs) e t = tt
@@ -454,7 +485,8 @@ module _ (at : ℕ) (site : M.Site made) (ts : List Term) where
     name_agrees fs i C.left_paren = (refl, refl)
     name_agrees fs i t = closed (R.own ∷ []) (at_inner site ts base (M.named fs i)) fs (E.Id i) t refl (have_agrees fs (E.Id i) t)
 
-    inner_agrees : (inner : M.Inner made) (t : Tok) → Turns (at_inner site ts base inner) (advance at t (inner_due inner rest_due)) t (M.expr_move made at tt base first inner t)
+    inner_agrees : (inner : M.Inner made) (t : Tok) → Turns (at_inner site ts base inner) (advance at t (inner_due inner rest_due)) t
+        (M.expr_move made at tt base first inner t)
     inner_agrees (M.want fs) (C.number z) = (refl, refl)
     inner_agrees (M.want fs) C.eoi_word = (refl, refl)
     inner_agrees (M.want fs) (C.name i) = (refl, refl)

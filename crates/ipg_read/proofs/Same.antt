@@ -19,15 +19,18 @@ use Rattle.ipg_read.proofs.CountRuns.{Counted, runs_count}
 use Rattle.ipg_read.proofs.MadeRuns.{Makes, runs_made}
 
 module _ (text : List ℕ) (ts : List Token) where
-  made_same : (rows : List Row) (w : Result (M.Read made) ℕ) → Makes blank (Ok rows) w → Ok (record { rules = (makes rows blank).rules }) ≡ made_answer text ts w
+  made_same : (rows : List Row) (w : Result (M.Read made) ℕ) → Makes blank (Ok rows) w
+      → Ok (record { rules = (makes rows blank).rules }) ≡ made_answer text ts w
   made_same rows (Ok r) same = ap (λ rules. Ok (record { rules = rules })) same
   made_same rows (Err n) same = absurd same
 
-  limit_same : (rows : List Row) (o : Option Over) → Makes blank (Ok rows) (M.verdict made 0 (M.start_state made) (classes ts)) → limit_answer text ts rows o ≡ within_answer text ts o
+  limit_same : (rows : List Row) (o : Option Over) → Makes blank (Ok rows) (M.verdict made 0 (M.start_state made) (classes ts))
+      → limit_answer text ts rows o ≡ within_answer text ts o
   limit_same rows (Some o) makes_same = refl
   limit_same rows None makes_same = made_same rows (M.verdict made 0 (M.start_state made) (classes ts)) makes_same
 
-  scan_same : (x : Result (List Row) ℕ) (v : Result (M.Read counters) ℕ) → Counted nothing x v → Makes blank x (M.verdict made 0 (M.start_state made) (classes ts))
+  scan_same : (x : Result (List Row) ℕ) (v : Result (M.Read counters) ℕ) → Counted nothing x v
+      → Makes blank x (M.verdict made 0 (M.start_state made) (classes ts))
       → scan_answer text ts x ≡ counted_answer text ts v
   scan_same (Ok rows) (Ok r) counted makes_same = ap (λ seen. limit_answer text ts rows seen.over) counted ∙ limit_same rows r.log.over makes_same
   scan_same (Ok rows) (Err n) counted makes_same = absurd counted

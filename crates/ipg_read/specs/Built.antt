@@ -60,19 +60,19 @@ blank = record { exprs = []; names = []; slots = []; cases = []; terms = []; out
 -- ---- one field
 
 abbrev pub put_exprs : List Expr → Parts → Parts
-put_exprs xs p = record { exprs = xs; names = p.names; slots = p.slots; cases = p.cases; terms = p.terms; outer = p.outer; local_alts = p.local_alts; locals = p.locals; alts = p.alts; rules = p.rules }
+put_exprs xs p = record p { exprs = xs }
 
 abbrev pub put_names : List Ident → Parts → Parts
-put_names xs p = record { exprs = p.exprs; names = xs; slots = p.slots; cases = p.cases; terms = p.terms; outer = p.outer; local_alts = p.local_alts; locals = p.locals; alts = p.alts; rules = p.rules }
+put_names xs p = record p { names = xs }
 
 abbrev pub put_slots : List Slot → Parts → Parts
-put_slots xs p = record { exprs = p.exprs; names = p.names; slots = xs; cases = p.cases; terms = p.terms; outer = p.outer; local_alts = p.local_alts; locals = p.locals; alts = p.alts; rules = p.rules }
+put_slots xs p = record p { slots = xs }
 
 abbrev pub put_cases : List Case → Parts → Parts
-put_cases xs p = record { exprs = p.exprs; names = p.names; slots = p.slots; cases = xs; terms = p.terms; outer = p.outer; local_alts = p.local_alts; locals = p.locals; alts = p.alts; rules = p.rules }
+put_cases xs p = record p { cases = xs }
 
 abbrev pub put_term : Term → Parts → Parts
-put_term t p = record { exprs = p.exprs; names = p.names; slots = p.slots; cases = p.cases; terms = last p.terms t; outer = p.outer; local_alts = p.local_alts; locals = p.locals; alts = p.alts; rules = p.rules }
+put_term t p = record p { terms = last p.terms t }
 
 -- ---- expressions
 

@@ -253,7 +253,8 @@ fn put_call<'a>(build: &mut Build, label: Label<'a>) -> Result<(), AllocError>
 }
 
 fn placed(build: &mut Build, extent: Extent, role: Role) -> Result<(), AllocError>
-    ensures { OnOk result (parts_of build.new ≡ B.filled role (B.place_of extent build.old.exprs) (B.put_exprs (B.left_by extent build.old.exprs) (parts_of build.old))) }
+    ensures { OnOk result
+        (parts_of build.new ≡ B.filled role (B.place_of extent build.old.exprs) (B.put_exprs (B.left_by extent build.old.exprs) (parts_of build.old))) }
 {
     let place = place(&mut build.exprs, extent);
     match role {

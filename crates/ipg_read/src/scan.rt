@@ -66,7 +66,8 @@ fn advance<'a>(
     token: Lexeme<'a>,
 ) -> Result<Step, AllocError>
     requires { at + 1 < 2 ^ 64 }
-    ensures { IfOk result (λ step. step_of step (rows_of rows.new.items) due.new ≡ A.after_rows (rows_of rows.old.items) (A.advance at (tok_of token.entry) due.old)) }
+    ensures { IfOk result
+        (λ step. step_of step (rows_of rows.new.items) due.new ≡ A.after_rows (rows_of rows.old.items) (A.advance at (tok_of token.entry) due.old)) }
 {
     while let Some(entry) = due.pop() {
         match ask(at, entry, token) {

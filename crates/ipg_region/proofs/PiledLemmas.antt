@@ -18,7 +18,8 @@ module _ {T A : Type 0} where
   put_on all blocks block top e own = ap items_of e ∙ items_last blocks block top own
 
   -- how many items come before the last block
-  pub counted_off : (all blocks : List (Full T A)) (block : Full T A) (before n : ℕ) → all ≡ blocks ++ block ∷ [] → before ≡ length (items_of all) → n ≡ length block.below.items
+  pub counted_off : (all blocks : List (Full T A)) (block : Full T A) (before n : ℕ) → all ≡ blocks ++ block ∷ [] → before ≡ length (items_of all)
+      → n ≡ length block.below.items
       → before ≡ length (items_of blocks) + (n + 1)
   counted_off all blocks block before n e counted own =
       let whole = block.below.items ++ block.last ∷ [] in

@@ -41,10 +41,13 @@ slice_get_over (x ∷ xs) ys zero h = absurd (omega arith)
 slice_get_over (x ∷ xs) ys (suc k) h = slice_get_over xs ys k (omega arith) ∙ ap (slice_get ys) (omega arith)
 
 -- the runs of the blocks up to one, and those of the next
-up_to : {T : Type 0} (blocks : List (Held T)) (block : Held T) (k : ℕ) → k < length blocks → block ≡ get_or blocks k block → flat (take (suc k) blocks) ≡ flat (take k blocks) ++ block.runs
-up_to blocks block k h e = ap flat (take-suc blocks k block h) ∙ flat_last (take k blocks) (get_or blocks k block) ∙ ap (λ b. flat (take k blocks) ++ b.runs) (sym e)
+up_to : {T : Type 0} (blocks : List (Held T)) (block : Held T) (k : ℕ) → k < length blocks → block ≡ get_or blocks k block
+    → flat (take (suc k) blocks) ≡ flat (take k blocks) ++ block.runs
+up_to blocks block k h e = ap flat (take-suc blocks k block h) ∙ flat_last (take k blocks) (get_or blocks k block)
+    ∙ ap (λ b. flat (take k blocks) ++ b.runs) (sym e)
 
-length_up_to : {T : Type 0} (blocks : List (Held T)) (block : Held T) (k : ℕ) → k < length blocks → block ≡ get_or blocks k block → length (flat (take (suc k) blocks)) ≡ length (flat (take k blocks)) + length block.runs
+length_up_to : {T : Type 0} (blocks : List (Held T)) (block : Held T) (k : ℕ) → k < length blocks → block ≡ get_or blocks k block
+    → length (flat (take (suc k) blocks)) ≡ length (flat (take k blocks)) + length block.runs
 length_up_to blocks block k h e = ap length (up_to blocks block k h e) ∙ length-append (flat (take k blocks)) block.runs
 
 -- where a block adds runs, it is there
@@ -56,7 +59,8 @@ is_there (block ∷ blocks) (suc k) h =
     omega (arith, is_there blocks k (omega (arith, length-append block.runs (flat (take k blocks)), length-append block.runs (flat (take (suc k) blocks)))))
 
 -- a run before the block at `at` is none of the blocks from there on: one step back
-pub earlier : {T : Type 0} (blocks : List (Held T)) (block : Held T) (at start place : ℕ) → at ≤ length blocks → start ≡ length (flat (take at blocks)) → place < start → block ≡ get_or blocks (at - 1) block
+pub earlier : {T : Type 0} (blocks : List (Held T)) (block : Held T) (at start place : ℕ) → at ≤ length blocks → start ≡ length (flat (take at blocks))
+    → place < start → block ≡ get_or blocks (at - 1) block
     → (length block.runs ≤ start) × (start - length block.runs ≡ length (flat (take (at - 1) blocks))) × (place < length (flat (take (suc (at - 1)) blocks)))
 earlier blocks block zero start place within e h here = absurd (omega (arith, e))
 earlier blocks block (suc k) start place within e h here =
@@ -67,11 +71,13 @@ earlier blocks block (suc k) start place within e h here =
     (omega (arith, e, n), omega (arith, e, n, same), omega (arith, e, n, next))
 
 -- the block that holds the run at a place
-pub holds : {T : Type 0} (blocks : List (Held T)) (block : Held T) (at start place : ℕ) → start ≡ length (flat (take at blocks)) → start ≤ place → place < length (flat (take (suc at) blocks)) → block ≡ get_or blocks at block
+pub holds : {T : Type 0} (blocks : List (Held T)) (block : Held T) (at start place : ℕ) → start ≡ length (flat (take at blocks)) → start ≤ place
+    → place < length (flat (take (suc at) blocks)) → block ≡ get_or blocks at block
     → place - start < length block.runs
 holds blocks block at start place e from to here = omega (arith, e, length_up_to blocks block at (is_there blocks at (omega (arith, e))) here)
 
-pub found : {T : Type 0} (blocks : List (Held T)) (block : Held T) (at start place : ℕ) → start ≡ length (flat (take at blocks)) → start ≤ place → place < length (flat (take (suc at) blocks)) → block ≡ get_or blocks at block
+pub found : {T : Type 0} (blocks : List (Held T)) (block : Held T) (at start place : ℕ) → start ≡ length (flat (take at blocks)) → start ≤ place
+    → place < length (flat (take (suc at) blocks)) → block ≡ get_or blocks at block
     → slice_get (flat blocks) place ≡ slice_get block.runs (place - start)
 found blocks block at start place e from to here =
     ap (λ all. slice_get (flat all) place) (sym (take-append-drop (suc at) blocks))
@@ -82,16 +88,19 @@ found blocks block at start place e from to here =
     ∙ ap (λ n. slice_get block.runs (place - n)) (sym e)
 
 -- how many runs come before the last block
-pub without_last : {T : Type 0} (all left : List (Held T)) (block : Held T) (start n : ℕ) → all ≡ left ++ block ∷ [] → start ≡ length (flat all) → n ≡ length block.runs → start ≡ length (flat left) + n
+pub without_last : {T : Type 0} (all left : List (Held T)) (block : Held T) (start n : ℕ) → all ≡ left ++ block ∷ [] → start ≡ length (flat all)
+    → n ≡ length block.runs → start ≡ length (flat left) + n
 without_last all left block start n e counted own = omega (arith, counted, own, ap (λ blocks. length (flat blocks)) e, length_last left block)
 
 -- a cut before the last block does not touch what it holds
-pub cut_without_last : {T : Type 0} (all left : List (Held T)) (block : Held T) (to : ℕ) → all ≡ left ++ block ∷ [] → to ≤ length (flat left) → take to (flat left) ≡ take to (flat all)
+pub cut_without_last : {T : Type 0} (all left : List (Held T)) (block : Held T) (to : ℕ) → all ≡ left ++ block ∷ [] → to ≤ length (flat left)
+    → take to (flat left) ≡ take to (flat all)
 cut_without_last all left block to e h =
     sym (take-append-le to (flat left) block.runs h) ∙ ap (take to) (sym (flat_last left block)) ∙ ap (λ blocks. take to (flat blocks)) (sym e)
 
 -- a cut within the last block
-pub cut_last : {T : Type 0} (all all' left : List (Held T)) (block kept : Held T) (start to : ℕ) → all ≡ left ++ block ∷ [] → all' ≡ left ++ kept ∷ [] → start ≡ length (flat left) → start ≤ to
+pub cut_last : {T : Type 0} (all all' left : List (Held T)) (block kept : Held T) (start to : ℕ) → all ≡ left ++ block ∷ [] → all' ≡ left ++ kept ∷ []
+    → start ≡ length (flat left) → start ≤ to
     → kept.runs ≡ take (to - start) block.runs → flat all' ≡ take to (flat all)
 cut_last all all' left block kept start to e e' counted h cut =
     ap flat e' ∙ flat_last left kept ∙ ap (λ runs. flat left ++ runs) cut ∙ ap (λ n. flat left ++ take (to - n) block.runs) counted
@@ -99,14 +108,17 @@ cut_last all all' left block kept start to e e' counted h cut =
     ∙ ap (take to) (sym (flat_last left block)) ∙ ap (λ blocks. take to (flat blocks)) (sym e)
 
 -- a cut in the full blocks leaves none of the last one
-pub cut_back : {T : Type 0} (full full' : List (Held T)) (last kept : List (List T)) (before to : ℕ) → before ≡ length (flat full) → to < before → flat full' ≡ take to (flat full) → kept ≡ take (to - to) last
+pub cut_back : {T : Type 0} (full full' : List (Held T)) (last kept : List (List T)) (before to : ℕ) → before ≡ length (flat full) → to < before
+    → flat full' ≡ take to (flat full) → kept ≡ take (to - to) last
     → flat full' ++ kept ≡ take to (flat full ++ last)
 cut_back full full' last kept before to counted h cut none =
     let no : to - to ≡ 0 = omega arith in
-    ap (λ runs. flat full' ++ runs) (none ∙ ap (λ n. take n last) no) ∙ append-nil (flat full') ∙ cut ∙ sym (take-append-le to (flat full) last (omega (arith, counted)))
+    ap (λ runs. flat full' ++ runs) (none ∙ ap (λ n. take n last) no) ∙ append-nil (flat full') ∙ cut
+    ∙ sym (take-append-le to (flat full) last (omega (arith, counted)))
 
 -- a cut in the last block leaves the full ones alone
-pub cut_on : {T : Type 0} (full : List (Held T)) (last kept : List (List T)) (before to : ℕ) → before ≡ length (flat full) → before ≤ to → kept ≡ take (to - before) last → flat full ++ kept ≡ take to (flat full ++ last)
+pub cut_on : {T : Type 0} (full : List (Held T)) (last kept : List (List T)) (before to : ℕ) → before ≡ length (flat full) → before ≤ to
+    → kept ≡ take (to - before) last → flat full ++ kept ≡ take to (flat full ++ last)
 cut_on full last kept before to counted h cut =
     ap (λ runs. flat full ++ runs) (cut ∙ ap (λ n. take (to - n) last) counted) ∙ sym (take_over (flat full) last to (omega (arith, counted)))
 

@@ -10,7 +10,8 @@ use Rattle.ipg_syntax.specs.Classes.{classes}
 use Rattle.ipg_syntax.specs.Written
 use Rattle.ipg_syntax.specs.Written.{Toks, ExprTree, TermTree}
 use Rattle.ipg_syntax.specs.Machine
-use Rattle.ipg_syntax.specs.Machine.{Frame, neg, isnt, left, group, index, then_of, else_of, Inner, want, have, named, dotted, indexed, index_dotted, Base, SlotUse, alone, chosen, other, Part, Site, global, local, Pos, State, in_term, after_term, expr, close, onward, verdict}
+use Rattle.ipg_syntax.specs.Machine.{Frame, neg, isnt, left, group, index, then_of, else_of, Inner, want, have, named, dotted, indexed, index_dotted, Base}
+use Rattle.ipg_syntax.specs.Machine.{SlotUse, alone, chosen, other, Part, Site, global, local, Pos, State, in_term, after_term, expr, close, onward, verdict}
 use Rattle.ipg_syntax.specs.Making.{trees}
 use Rattle.ipg_ast.specs.declared.grammar.Field.TheVariants.{Start}
 use Rattle.ipg_syntax.proofs.Frames.{Ends, tightness, close_left, close_else, name_ends}
@@ -211,7 +212,8 @@ module _ (site : Site trees) (ts : List TermTree) (first : ℕ) (base : Base tre
   at_inner inner = inside trees tt site ts base first inner
 
   alike_closed : (at : ℕ) (fs gs : List (Frame trees)) (e f : ExprTree) (toks : Toks) → Closes toks
-      → ((p : ℕ) → p ≤ 0 → close trees p fs e ≡ close trees p gs f) → verdict trees at (at_inner (have fs e)) toks ≡ verdict trees at (at_inner (have gs f)) toks
+      → ((p : ℕ) → p ≤ 0 → close trees p fs e ≡ close trees p gs f)
+      → verdict trees at (at_inner (have fs e)) toks ≡ verdict trees at (at_inner (have gs f)) toks
   alike_closed at fs gs e f [] closes same = refl
   alike_closed at fs gs e f (t ∷ toks) closes same = alike trees tt site ts base first at fs gs e f t toks (same (tightness t) closes.0)
 
@@ -219,7 +221,8 @@ module _ (site : Site trees) (ts : List TermTree) (first : ℕ) (base : Base tre
       → verdict trees at (at_inner (named fs i)) toks ≡ verdict trees at (at_inner (have fs (Written.own i))) toks
   named_closed at fs i [] closes = refl
   named_closed at fs i (t ∷ toks) closes =
-      ap (λ turn. onward at (Machine.turned trees at site ts t turn) (λ next. verdict trees (at + 1) next toks)) (name_ends trees at tt base first fs i t closes.1)
+      ap (λ turn. onward at (Machine.turned trees at site ts t turn) (λ next. verdict trees (at + 1) next toks))
+      (name_ends trees at tt base first fs i t closes.1)
 
   good_by : {v w : Result (Machine.Read trees) ℕ} → v ≡ w → IsGood w → IsGood v
   good_by same good = subst IsGood (sym same) good
@@ -241,7 +244,8 @@ module _ (site : Site trees) (ts : List TermTree) (first : ℕ) (base : Base tre
   frames_good (group ∷ fs) at e rest closes good = frames_good fs (at + 1) (Written.group e) rest closes good
   frames_good (index i ∷ fs) at e rest closes good = frames_good fs (at + 1 + 1 + 1) (Written.item i e Start) rest closes good
   frames_good (then_of c span ∷ fs) at e rest closes good =
-      good_by (alike_closed (at + 1 + 1) (else_of c span e ∷ fs) fs Written.eoi (Written.choose c span e Written.eoi) (classes (close_frames fs rest)) (frames_close fs rest closes)
+      good_by (alike_closed (at + 1 + 1) (else_of c span e ∷ fs) fs Written.eoi (Written.choose c span e Written.eoi) (classes (close_frames fs rest))
+      (frames_close fs rest closes)
       (λ p low. close_else trees p fs c span e Written.eoi low))
       (frames_good fs (at + 1 + 1) (Written.choose c span e Written.eoi) rest closes good)
   frames_good (else_of c span a ∷ fs) at e rest closes good =

@@ -1,13 +1,18 @@
 -- The counters hold the first limit that a grammar passes.
-use Rattle.std.proofs.Common.{◌≡◌, ℕ, ◌+◌, ◌<◌, ◌≤◌, min, max, Bool, true, false, cond, nat_lt, List, [], ◌∷◌, ◌++◌, length, Option, Some, None, refl, ap, ap₂, ◌∙◌, sym, arith, add-zero}
+use Rattle.std.proofs.Common.{◌≡◌, ℕ, ◌+◌, ◌<◌, ◌≤◌, min, max, Bool, true, false, cond, nat_lt, List, [], ◌∷◌}
+use Rattle.std.proofs.Common.{◌++◌, length, Option, Some, None, refl, ap, ap₂, ◌∙◌, sym, arith, add-zero}
 use Rattle.std.proofs.lemmas.Bool.{ltb-true, ltb-false, lt-ltb, le-ltb}
 use Rattle.ipg_tokens.specs.declared.fault.Which.{Which}
 use Rattle.ipg_tokens.specs.declared.fault.Which.TheVariants.{Rules, Alternatives, Terms, Depth}
-use Rattle.ipg_syntax.specs.Written.{ExprTree, num, eoi, own, part, item, group, neg, isnt, two, choose, PlaceTree, anywhere, long, ends, CaseTree, TermTree, slot_term, set_term, test_term, repeat_term, many_term, pick_term, LocalTree, AltTree, RuleTree, spell_expr, spell_case, spell_cases, spell_term, spell_terms, spell_local, spell_alt, spell_rule}
-use Rattle.ipg_syntax.specs.Limits.{Size, Over, past, depth, limit, is_over, first_over, expr_size, place_sizes, slot_sizes, case_sizes, cases_sizes, term_sizes, terms_sizes, local_alts_sizes, locals_sizes, alt_sizes, alts_sizes, locals_in, rules_sizes, sizes}
+use Rattle.ipg_syntax.specs.Written.{ExprTree, num, eoi, own, part, item, group, neg, isnt, two, choose, PlaceTree, anywhere, long, ends, CaseTree}
+use Rattle.ipg_syntax.specs.Written.{TermTree, slot_term, set_term, test_term, repeat_term, many_term, pick_term, LocalTree, AltTree, RuleTree}
+use Rattle.ipg_syntax.specs.Written.{spell_expr, spell_case, spell_cases, spell_term, spell_terms, spell_local, spell_alt, spell_rule}
+use Rattle.ipg_syntax.specs.Limits.{Size, Over, past, depth, limit, is_over, first_over, expr_size, place_sizes, slot_sizes, case_sizes, cases_sizes}
+use Rattle.ipg_syntax.specs.Limits.{term_sizes, terms_sizes, local_alts_sizes, locals_sizes, alt_sizes, alts_sizes, locals_in, rules_sizes, sizes}
 use Rattle.ipg_syntax.specs.Counting.{counters, more, Seen, first_kept}
 use Rattle.ipg_syntax.specs.Making.{expr_by}
-use Rattle.ipg_syntax.proofs.Logs.{log_expr, log_place, log_slot, log_case, log_cases, log_term, log_terms, log_local_alts, log_locals, log_alt, log_alts, log_rules}
+use Rattle.ipg_syntax.proofs.Logs.{log_expr, log_place, log_slot, log_case, log_cases, log_term, log_terms}
+use Rattle.ipg_syntax.proofs.Logs.{log_local_alts, log_locals, log_alt, log_alts, log_rules}
 
 -- a count as the counters hold it
 abbrev pub capped : Which → ℕ → ℕ
@@ -116,7 +121,8 @@ told_term at (pick_term span cs s) k o =
     ∙ told_place (mid + 1) s.place k (notes (cases_sizes (at + 1 + 1) cs) o)
     ∙ ap (seen k) (sym (notes_append (cases_sizes (at + 1 + 1) cs) (slot_sizes mid s) o))
 
-told_terms : (n at : ℕ) (ts : List TermTree) (k : ℕ) (o : Option Over) → log_terms counters (capped Terms n) at ts (seen k o) ≡ seen k (notes (terms_sizes n at ts) o)
+told_terms : (n at : ℕ) (ts : List TermTree) (k : ℕ) (o : Option Over)
+    → log_terms counters (capped Terms n) at ts (seen k o) ≡ seen k (notes (terms_sizes n at ts) o)
 told_terms n at [] k o = refl
 told_terms n at (t ∷ ts) k o =
     let next : ℕ = past at (spell_term t) in
@@ -134,7 +140,8 @@ told_local_alts n at (ts ∷ las) k o =
     let next : ℕ = past (at + 1) (spell_terms ts) in
     let kept : Option Over = first_kept o (record { which = Alternatives; count = n + 1; at = at + 1 }) in
     ap₂ (λ m s. log_local_alts counters m next las (log_terms counters 0 (at + 1) ts s)) (more_capped Alternatives n)
-    (ap (λ m. seen k (first_kept o (record { which = Alternatives; count = m; at = at + 1 }))) (more_capped Alternatives n) ∙ ap (seen k) (kept_capped o Alternatives (n + 1) (at + 1)))
+    (ap (λ m. seen k (first_kept o (record { which = Alternatives; count = m; at = at + 1 }))) (more_capped Alternatives n)
+    ∙ ap (seen k) (kept_capped o Alternatives (n + 1) (at + 1)))
     ∙ ap (log_local_alts counters (capped Alternatives (n + 1)) next las) (told_terms 0 (at + 1) ts k kept)
     ∙ told_local_alts (n + 1) next las k (notes (terms_sizes 0 (at + 1) ts) kept)
     ∙ ap (seen k) (sym (notes_append (terms_sizes 0 (at + 1) ts) (local_alts_sizes (n + 1) next las) kept))
@@ -143,7 +150,8 @@ told_local_alts n at (ts ∷ las) k o =
 told_rule : (at k : ℕ) (o : Option Over)
     → counters.saw_rule at (seen (capped Rules k) o) ≡ seen (capped Rules (k + 1)) (first_kept o (record { which = Rules; count = k + 1; at = at }))
 told_rule at k o =
-    ap (λ m. seen m (first_kept o (record { which = Rules; count = m; at = at }))) (more_capped Rules k) ∙ ap (seen (capped Rules (k + 1))) (kept_capped o Rules (k + 1) at)
+    ap (λ m. seen m (first_kept o (record { which = Rules; count = m; at = at }))) (more_capped Rules k)
+    ∙ ap (seen (capped Rules (k + 1))) (kept_capped o Rules (k + 1) at)
 
 told_locals : (k at : ℕ) (ls : List LocalTree) (o : Option Over)
     → log_locals counters at ls (seen (capped Rules k) o) ≡ seen (capped Rules (k + length ls)) (notes (locals_sizes k at ls) o)

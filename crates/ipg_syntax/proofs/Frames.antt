@@ -4,7 +4,8 @@ use Rattle.std.proofs.lemmas.Bool.{le-leb, lt-leb, true≢false}
 use Rattle.ipg_num.specs.declared.op.Op2.TheVariants.{Add, Sub, Mul, Div, Mod, Shl, Shr, BitAnd, BitOr, BitXor, Eq, Ne, Lt, Le, Gt, Ge}
 use Rattle.ipg_syntax.specs.Classes.{Infix, either, both, op, level, Tok, sign, question, dot, left_paren}
 use Rattle.ipg_syntax.specs.Written.{prefix_level}
-use Rattle.ipg_syntax.specs.Machine.{Acts, Frame, neg, isnt, left, group, index, then_of, else_of, close, Base, still, expr, with_left, with_test, finished, have_move, name_move}
+use Rattle.ipg_syntax.specs.Machine.{Acts, Frame, neg, isnt, left, group, index, then_of, else_of, close, Base}
+use Rattle.ipg_syntax.specs.Machine.{still, expr, with_left, with_test, finished, have_move, name_move}
 
 pub level_low : (i : Infix) → 1 ≤ level i
 level_low either = lit≤ tt
@@ -74,7 +75,8 @@ close_left A p fs i a b tight = ap (λ yes. cond yes (close A p fs (A.two i a b)
 
 pub close_else : (A : Acts) (p : ℕ) (fs : List (Frame A)) (c : A.Expr) (at : _) (a b : A.Expr) → p ≤ 0
     → close A p (else_of c at a ∷ fs) b ≡ close A p fs (A.choose c at a b)
-close_else A p fs c at a b loose = ap (λ yes. cond yes (close A p fs (A.choose c at a b)) (record { frames = else_of c at a ∷ fs; operand = b })) (le-leb p 0 loose)
+close_else A p fs c at a b loose = ap (λ yes. cond yes (close A p fs (A.choose c at a b)) (record { frames = else_of c at a ∷ fs; operand = b }))
+    (le-leb p 0 loose)
 
 -- ---- the token after an operand
 

@@ -1,5 +1,6 @@
 -- Within an expression each step keeps the levels, and stands for one token more.
-use Rattle.std.proofs.Common.{◌≡◌, ℕ, ◌+◌, ◌≤◌, ◌<◌, List, [], ◌∷◌, ◌++◌, Bool, true, false, cond, nat_le, refl, ap, ◌∙◌, sym, arith, append_assoc, le_refl, le_trans, lit≤}
+use Rattle.std.proofs.Common.{◌≡◌, ℕ, ◌+◌, ◌≤◌, ◌<◌, List, [], ◌∷◌, ◌++◌, Bool, true, false, cond, nat_le}
+use Rattle.std.proofs.Common.{refl, ap, ◌∙◌, sym, arith, append_assoc, le_refl, le_trans, lit≤}
 use Rattle.std.proofs.lemmas.Bool.{leb-true, leb-false}
 use Rattle.ipg_ast.specs.declared.grammar.Ident.{Ident}
 use Rattle.ipg_ast.specs.declared.grammar.Field.{Field}
@@ -9,7 +10,8 @@ use Rattle.ipg_syntax.specs.Classes.{op, level, Tok, name, number, sign, bang, q
 use Rattle.ipg_syntax.specs.Written
 use Rattle.ipg_syntax.specs.Written.{Toks, ExprTree, field_tok, spell_expr, Stands, prefix_level}
 use Rattle.ipg_syntax.specs.Machine
-use Rattle.ipg_syntax.specs.Machine.{Frame, neg, isnt, left, group, index, then_of, else_of, Closing, close, Inner, want, have, named, dotted, indexed, index_dotted}
+use Rattle.ipg_syntax.specs.Machine.{Frame, neg, isnt, left, group, index, then_of, else_of, Closing, close}
+use Rattle.ipg_syntax.specs.Machine.{Inner, want, have, named, dotted, indexed, index_dotted}
 use Rattle.ipg_syntax.specs.Making.{trees}
 use Rattle.ipg_syntax.proofs.Frames.{need, level_low, level_high}
 use Rattle.ipg_syntax.proofs.Taken.{frames_before, KeptFrames, Next, InnerNext}
@@ -61,7 +63,8 @@ above fs e r = frames_before fs (spell_expr e ++ r)
 least : (p : ℕ) → 0 ≤ p
 least p = omega arith
 
-either_way : (p q : ℕ) (before : Toks → Toks) (x y : Closing trees) → (p ≤ q → Closed p before x) → (q < p → Closed p before y) → Closed p before (cond (nat_le p q) x y)
+either_way : (p q : ℕ) (before : Toks → Toks) (x y : Closing trees) → (p ≤ q → Closed p before x) → (q < p → Closed p before y)
+    → Closed p before (cond (nat_le p q) x y)
 either_way p q before x y tight loose = go (nat_le p q) refl
   where
     go : (b : Bool) → nat_le p q ≡ b → Closed p before (cond b x y)
@@ -105,7 +108,8 @@ want_keeps fs (sign (op Sub)) before kept same = record { kept = kept; same = λ
 want_keeps fs bang before kept same = record { kept = kept; same = λ r. same (bang ∷ r) }
 want_keeps fs t before kept same = tt
 
-pub part_keeps : (fs : List (Frame trees)) (i : Ident) (t : Tok) (before : Toks → Toks) → KeptFrames fs → ((r : Toks) → before r ≡ frames_before fs (name i ∷ dot ∷ r))
+pub part_keeps : (fs : List (Frame trees)) (i : Ident) (t : Tok) (before : Toks → Toks) → KeptFrames fs
+    → ((r : Toks) → before r ≡ frames_before fs (name i ∷ dot ∷ r))
     → Next (InnerNext before t) (Machine.part_made trees fs i (Machine.field_of t))
 part_keeps fs i (name n) before kept same = record { kept = (kept, tt); same = λ r. same (name n ∷ r) }
 part_keeps fs i start_word before kept same = record { kept = (kept, tt); same = λ r. same (start_word ∷ r) }
@@ -113,7 +117,8 @@ part_keeps fs i end_word before kept same = record { kept = (kept, tt); same = �
 part_keeps fs i t before kept same = tt
 
 item_spelled : (fs : List (Frame trees)) (i : Ident) (e : ExprTree) (f : Field) (t : Tok) (before : Toks → Toks) → field_tok f ≡ t → KeptFrames fs → Stands 0 e
-    → ((r : Toks) → before r ≡ frames_before fs (name i ∷ left_paren ∷ (spell_expr e ++ (right_paren ∷ dot ∷ r)))) → InnerNext before t (have fs (Written.item i e f))
+    → ((r : Toks) → before r ≡ frames_before fs (name i ∷ left_paren ∷ (spell_expr e ++ (right_paren ∷ dot ∷ r))))
+    → InnerNext before t (have fs (Written.item i e f))
 item_spelled fs i e f t before is kept stands same = record {
   kept = (kept, stands);
   same = λ r. same (t ∷ r) ∙ ap (λ u. frames_before fs (name i ∷ left_paren ∷ (spell_expr e ++ (right_paren ∷ dot ∷ u ∷ r)))) (sym is)

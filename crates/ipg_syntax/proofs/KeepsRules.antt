@@ -3,11 +3,13 @@ use Rattle.std.proofs.Common.{◌≡◌, ℕ, List, [], ◌∷◌, ◌++◌, Opt
 use Rattle.ipg_ast.specs.declared.grammar.Ident.{Ident}
 use Rattle.ipg_num.specs.declared.op.Op2.TheVariants.{Div}
 use Rattle.ipg_syntax.specs.Classes.{op, Tok, name, sign, arrow, slash, semicolon, left_brace, right_brace, where_word}
-use Rattle.ipg_syntax.specs.Written.{Toks, TermTree, LocalTree, AltTree, spell_terms, spell_local_alts, spell_locals, spell_alt, spell_alts, spell, TermFits, TermsFit, LocalFits, AltFits, RuleFits, Each, SomeEach}
+use Rattle.ipg_syntax.specs.Written.{Toks, TermTree, LocalTree, AltTree, spell_terms, spell_local_alts, spell_locals, spell_alt}
+use Rattle.ipg_syntax.specs.Written.{spell_alts, spell, TermFits, TermsFit, LocalFits, AltFits, RuleFits, Each, SomeEach}
 use Rattle.ipg_syntax.specs.Machine
 use Rattle.ipg_syntax.specs.Machine.{Head, Site, global, local, Pos, Part, State, Turn}
 use Rattle.ipg_syntax.specs.Making.{trees, last}
-use Rattle.ipg_syntax.proofs.Taken.{mark, head_before, where_before, site_before, part_before, pos_before, KeptSite, KeptPos, Next, PartNext, TurnNext, StateNext}
+use Rattle.ipg_syntax.proofs.Taken.{mark, head_before, where_before, site_before, part_before, pos_before}
+use Rattle.ipg_syntax.proofs.Taken.{KeptSite, KeptPos, Next, PartNext, TurnNext, StateNext}
 use Rattle.ipg_syntax.proofs.Lasts.{some_last, some_each, terms_last, locals_last, local_alts_last, alts_last, rules_last}
 use Rattle.ipg_syntax.proofs.KeepsTerms.{opening_keeps, part_move_keeps}
 
@@ -25,7 +27,8 @@ alt_added h a r = ap (λ toks. spell h.rules ++ (name h.name ∷ toks)) (sym (al
 
 plain_alt_added : (h : Head trees) (ts : List TermTree) (r : Toks)
     → head_before h (mark h.alts ∷ (spell_terms ts ++ r)) ≡ head_before (with h (record { terms = ts; locals = [] })) r
-plain_alt_added h ts r = ap (λ toks. head_before h (mark h.alts ∷ toks)) (sym (append_assoc (spell_terms ts) [] r)) ∙ alt_added h (record { terms = ts; locals = [] }) r
+plain_alt_added h ts r = ap (λ toks. head_before h (mark h.alts ∷ toks)) (sym (append_assoc (spell_terms ts) [] r))
+    ∙ alt_added h (record { terms = ts; locals = [] }) r
 
 rule_added : (h : Head trees) (r : Toks) → head_before h (semicolon ∷ r) ≡ spell (last h.rules (record { head = h.name; alts = h.alts })) ++ r
 rule_added h r =
@@ -47,16 +50,23 @@ where_spelled ts (l ∷ ls) r some =
 
 -- ---- steps
 
-next_alt_same : (site : Site trees) (ts : List TermTree) (r : Toks) → site_before site (spell_terms ts ++ (slash ∷ r)) ≡ site_before (Machine.next_alt trees site ts) r
-next_alt_same (global h) ts r = plain_alt_added h ts (slash ∷ r) ∙ ap (λ m. head_before (with h (record { terms = ts; locals = [] })) (m ∷ r)) (sym (mark_last h.alts (record { terms = ts; locals = [] })))
+next_alt_same : (site : Site trees) (ts : List TermTree) (r : Toks)
+    → site_before site (spell_terms ts ++ (slash ∷ r)) ≡ site_before (Machine.next_alt trees site ts) r
+next_alt_same (global h) ts r = plain_alt_added h ts (slash ∷ r)
+    ∙ ap (λ m. head_before (with h (record { terms = ts; locals = [] })) (m ∷ r)) (sym (mark_last h.alts (record { terms = ts; locals = [] })))
 next_alt_same (local h outer ls n las) ts r = ap (λ toks. where_before h outer (left_brace ∷ (spell_locals ls ++ (name n ∷ toks))))
     (sym (local_alts_last las ts (slash ∷ r)) ∙ ap (λ m. spell_local_alts arrow (last las ts) ++ (m ∷ r)) (sym (mark_last las ts)))
 
 next_alt_keeps : (site : Site trees) (ts : List TermTree) → KeptSite site → TermsFit ts → KeptSite (Machine.next_alt trees site ts)
-next_alt_keeps (global h) ts kept fits = (kept.0, some_each AltFits (last h.alts (record { terms = ts; locals = [] })) (some_last AltFits h.alts (record { terms = ts; locals = [] }) kept.1 (fits, tt)))
+next_alt_keeps (global h) ts kept fits = (
+  kept.0,
+  some_each AltFits (last h.alts (record { terms = ts; locals = [] }))
+      (some_last AltFits h.alts (record { terms = ts; locals = [] }) kept.1 (fits, tt)),
+)
 next_alt_keeps (local h outer ls n las) ts kept fits = (kept.0, kept.1, kept.2, some_each TermsFit (last las ts) (some_last TermsFit las ts kept.3 fits))
 
-end_rule_same : (site : Site trees) (ts : List TermTree) (r : Toks) → site_before site (spell_terms ts ++ (semicolon ∷ r)) ≡ pos_before (Machine.end_rule trees site ts) r
+end_rule_same : (site : Site trees) (ts : List TermTree) (r : Toks)
+    → site_before site (spell_terms ts ++ (semicolon ∷ r)) ≡ pos_before (Machine.end_rule trees site ts) r
 end_rule_same (global h) ts r = plain_alt_added h ts (semicolon ∷ r) ∙ rule_added (with h (record { terms = ts; locals = [] })) r
 end_rule_same (local h outer ls n las) ts r = ap (λ toks. where_before h outer (left_brace ∷ toks))
     (ap (λ toks. spell_locals ls ++ (name n ∷ toks)) (sym (local_alts_last las ts (semicolon ∷ r))) ∙ local_added ls n (last las ts) r)
@@ -68,8 +78,10 @@ end_rule_keeps (global h) ts kept fits =
 end_rule_keeps (local h outer ls n las) ts kept fits =
     (kept.0, kept.1, some_last LocalFits ls (record { head = n; alts = last las ts }) kept.2 (some_last TermsFit las ts kept.3 fits))
 
-begun_keeps : (at : ℕ) (log : _) (site : Site trees) (ts : List TermTree) (o : Option (Part trees)) (t : Tok) (before : Toks → Toks) → KeptSite site → Each TermFits ts
-    → ((r : Toks) → before r ≡ site_before site (spell_terms ts ++ r)) → Next (PartNext (λ r. r) t) o → Next (StateNext before t) (Machine.begun trees at log site ts o)
+begun_keeps : (at : ℕ) (log : _) (site : Site trees) (ts : List TermTree) (o : Option (Part trees)) (t : Tok) (before : Toks → Toks) → KeptSite site
+    → Each TermFits ts
+    → ((r : Toks) → before r ≡ site_before site (spell_terms ts ++ r)) → Next (PartNext (λ r. r) t) o
+    → Next (StateNext before t) (Machine.begun trees at log site ts o)
 begun_keeps at log site ts (Some p) t before kept fits same next = record {
   kept = (kept, fits, next.kept);
   same = λ r. same (t ∷ r) ∙ ap (λ toks. site_before site (spell_terms ts ++ toks)) (next.same r);
@@ -95,8 +107,10 @@ after_term_keeps at log site ts where_word before kept fits same = where_keeps l
 after_term_keeps at log site ts t before kept fits same =
     begun_keeps at log site ts (Machine.opening trees t) t before kept (some_each TermFits ts fits) same (opening_keeps t)
 
-turned_keeps : (at : ℕ) (site : Site trees) (ts : List TermTree) (t : Tok) (o : Option (Turn trees)) (before ib : Toks → Toks) → KeptSite site → Each TermFits ts
-    → ((r : Toks) → before r ≡ site_before site (spell_terms ts ++ ib r)) → Next (TurnNext ib t) o → Next (StateNext before t) (Machine.turned trees at site ts t o)
+turned_keeps : (at : ℕ) (site : Site trees) (ts : List TermTree) (t : Tok) (o : Option (Turn trees)) (before ib : Toks → Toks) → KeptSite site
+    → Each TermFits ts
+    → ((r : Toks) → before r ≡ site_before site (spell_terms ts ++ ib r)) → Next (TurnNext ib t) o
+    → Next (StateNext before t) (Machine.turned trees at site ts t o)
 turned_keeps at site ts t (Some (Machine.still log p)) before ib kept fits same next = record {
   kept = (kept, fits, next.kept);
   same = λ r. same (t ∷ r) ∙ ap (λ toks. site_before site (spell_terms ts ++ toks)) (next.same r);
@@ -126,7 +140,8 @@ move_keeps at log (Machine.rule_named rs i) arrow kept = record { kept = (kept, 
 move_keeps at log (Machine.rule_named rs i) t kept = tt
 move_keeps at log (Machine.local_named h ts ls i) arrow kept = record { kept = (kept.0, kept.1, kept.2, tt); same = λ r. refl }
 move_keeps at log (Machine.local_named h ts ls i) t kept = tt
-move_keeps at log (Machine.before_term site) t kept = begun_keeps at tt site [] (Machine.opening trees t) t (site_before site) kept tt (λ r. refl) (opening_keeps t)
+move_keeps at log (Machine.before_term site) t kept = begun_keeps at tt site [] (Machine.opening trees t) t (site_before site) kept tt (λ r. refl)
+    (opening_keeps t)
 move_keeps at log (Machine.in_term site ts p) t kept =
     turned_keeps at site ts t (Machine.part_move trees at log p t) (pos_before (Machine.in_term site ts p)) (part_before p) kept.0 kept.1 (λ r. refl)
     (part_move_keeps at log p t (part_before p) kept.2 (λ r. refl))

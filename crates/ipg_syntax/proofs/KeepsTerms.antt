@@ -3,14 +3,17 @@ use Rattle.std.proofs.Common.{◌≡◌, ℕ, ◌≤◌, List, [], ◌∷◌, �
 use Rattle.ipg_ast.specs.declared.grammar.Ident.{Ident}
 use Rattle.ipg_ast.specs.declared.grammar.Span.{Span}
 use Rattle.ipg_ast.specs.declared.grammar.What.{What}
-use Rattle.ipg_syntax.specs.Classes.{level, Tok, name, text, sign, question, colon, dot, comma, equals, left_paren, right_paren, left_bracket, right_bracket, left_brace, right_brace, for_word, to_word, do_word, switch_word, case_word, else_word, many_word}
+use Rattle.ipg_syntax.specs.Classes.{level, Tok, name, text, sign, question, colon, dot, comma, equals, left_paren, right_paren, left_bracket, right_bracket}
+use Rattle.ipg_syntax.specs.Classes.{left_brace, right_brace, for_word, to_word, do_word, switch_word, case_word, else_word, many_word}
 use Rattle.ipg_syntax.specs.Written
-use Rattle.ipg_syntax.specs.Written.{Toks, ExprTree, SlotTree, CaseTree, TermTree, what_tok, spell_expr, spell_slot, spell_case, spell_cases, spell_term, Stands, prefix_level, SlotFits, CaseFits, TermFits, Each, SomeEach}
+use Rattle.ipg_syntax.specs.Written.{Toks, ExprTree, SlotTree, CaseTree, TermTree, what_tok, spell_expr, spell_slot, spell_case, spell_cases}
+use Rattle.ipg_syntax.specs.Written.{spell_term, Stands, prefix_level, SlotFits, CaseFits, TermFits, Each, SomeEach}
 use Rattle.ipg_syntax.specs.Machine
 use Rattle.ipg_syntax.specs.Machine.{Frame, group, index, then_of, close, Closing, Inner, want, have, Base, SlotUse, alone, chosen, other, Part, Turn, still}
 use Rattle.ipg_syntax.specs.Making.{trees, last}
 use Rattle.ipg_syntax.proofs.Frames.{level_high}
-use Rattle.ipg_syntax.proofs.Taken.{frames_before, inner_before, use_before, base_before, part_before, KeptFrames, KeptInner, KeptUse, KeptBase, KeptPart, Next, InnerNext, PartNext, TurnNext}
+use Rattle.ipg_syntax.proofs.Taken.{frames_before, inner_before, use_before, base_before, part_before, KeptFrames}
+use Rattle.ipg_syntax.proofs.Taken.{KeptInner, KeptUse, KeptBase, KeptPart, Next, InnerNext, PartNext, TurnNext}
 use Rattle.ipg_syntax.proofs.KeepsExprs.{Closed, closes, need_high, need_none, want_keeps, part_keeps, item_keeps, dot_keeps}
 use Rattle.ipg_syntax.proofs.Lasts.{some_last, some_each, cases_last}
 
@@ -73,11 +76,13 @@ slot_opening_keeps log u t before kept same = tt
 -- ---- whole expressions
 
 long_done : (u : SlotUse trees) (w : What) (span : Span) (e : ExprTree) (r : Toks)
-    → base_before (Machine.length_or_left u w span) (spell_expr e ++ (right_bracket ∷ r)) ≡ use_before u (spell_slot (record { what = w; span = span; place = Written.long e }) ++ r)
+    → base_before (Machine.length_or_left u w span) (spell_expr e ++ (right_bracket ∷ r))
+    ≡ use_before u (spell_slot (record { what = w; span = span; place = Written.long e }) ++ r)
 long_done u w span e r = ap (λ toks. use_before u (what_tok w span ∷ left_bracket ∷ toks)) (sym (append_assoc (spell_expr e) (right_bracket ∷ []) r))
 
 ends_done : (u : SlotUse trees) (w : What) (span : Span) (l e : ExprTree) (r : Toks)
-    → base_before (Machine.right_of u w span l) (spell_expr e ++ (right_bracket ∷ r)) ≡ use_before u (spell_slot (record { what = w; span = span; place = Written.ends l e }) ++ r)
+    → base_before (Machine.right_of u w span l) (spell_expr e ++ (right_bracket ∷ r))
+    ≡ use_before u (spell_slot (record { what = w; span = span; place = Written.ends l e }) ++ r)
 ends_done u w span l e r = ap (λ toks. use_before u (what_tok w span ∷ left_bracket ∷ toks))
     (ap (λ toks. spell_expr l ++ (comma ∷ toks)) (sym (append_assoc (spell_expr e) (right_bracket ∷ []) r))
     ∙ sym (append_assoc (spell_expr l) (comma ∷ (spell_expr e ++ (right_bracket ∷ []))) r))
@@ -97,11 +102,13 @@ many_ends_done span i l e r = simp append_assoc refl
 ended_keeps : (at : ℕ) (log : _) (base : Base trees) (e : ExprTree) (t : Tok) (before : Toks → Toks) → KeptBase base → Stands 0 e
     → ((r : Toks) → before r ≡ base_before base (spell_expr e ++ r)) → Next (TurnNext before t) (Machine.ended trees at log base e t)
 ended_keeps at log (Machine.length_or_left u w span) e right_bracket before kept stands same =
-    slot_done_keeps log u (record { what = w; span = span; place = Written.long e }) right_bracket before kept stands (λ r. same (right_bracket ∷ r) ∙ long_done u w span e r)
+    slot_done_keeps log u (record { what = w; span = span; place = Written.long e }) right_bracket before kept stands
+    (λ r. same (right_bracket ∷ r) ∙ long_done u w span e r)
 ended_keeps at log (Machine.length_or_left u w span) e comma before kept stands same = record { kept = ((kept, stands), tt); same = λ r. same (comma ∷ r) }
 ended_keeps at log (Machine.length_or_left u w span) e t before kept stands same = tt
 ended_keeps at log (Machine.right_of u w span l) e right_bracket before kept stands same =
-    slot_done_keeps log u (record { what = w; span = span; place = Written.ends l e }) right_bracket before kept.0 (kept.1, stands) (λ r. same (right_bracket ∷ r) ∙ ends_done u w span l e r)
+    slot_done_keeps log u (record { what = w; span = span; place = Written.ends l e }) right_bracket before kept.0 (kept.1, stands)
+    (λ r. same (right_bracket ∷ r) ∙ ends_done u w span l e r)
 ended_keeps at log (Machine.right_of u w span l) e t before kept stands same = tt
 ended_keeps at log (Machine.value_of x) e right_brace before kept stands same = record {
   fits = stands;
@@ -146,10 +153,12 @@ finish_keeps : (at : ℕ) (log : _) (base : Base trees) (first : ℕ) (fs : List
 finish_keeps at log base first [] e t before base_kept kept stands same = ended_keeps at tt base e t before base_kept stands same
 finish_keeps at log base first (group ∷ fs) e right_paren before base_kept kept stands same = record {
   kept = (base_kept, (kept, stands));
-  same = λ r. same (right_paren ∷ r) ∙ ap (λ toks. base_before base (frames_before fs (left_paren ∷ toks))) (sym (append_assoc (spell_expr e) (right_paren ∷ []) r));
+  same = λ r. same (right_paren ∷ r) ∙ ap (λ toks. base_before base (frames_before fs (left_paren ∷ toks)))
+      (sym (append_assoc (spell_expr e) (right_paren ∷ []) r));
 }
 finish_keeps at log base first (group ∷ fs) e t before base_kept kept stands same = tt
-finish_keeps at log base first (index i ∷ fs) e right_paren before base_kept kept stands same = record { kept = (base_kept, (kept, stands)); same = λ r. same (right_paren ∷ r) }
+finish_keeps at log base first (index i ∷ fs) e right_paren before base_kept kept stands same =
+    record { kept = (base_kept, (kept, stands)); same = λ r. same (right_paren ∷ r) }
 finish_keeps at log base first (index i ∷ fs) e t before base_kept kept stands same = tt
 finish_keeps at log base first (then_of c span ∷ fs) e colon before base_kept kept stands same = record {
   kept = (base_kept, (kept.0, kept.1, kept.2, stands));
@@ -169,14 +178,20 @@ have_keeps : (at : ℕ) (log : _) (base : Base trees) (first : ℕ) (fs : List (
     → Next (TurnNext before t) (Machine.have_move trees at log base first fs e t)
 have_keeps at log base first fs e (sign i) before base_kept kept stands same =
     let high : level i ≤ prefix_level = le_of_lt (level_high i) in
-    let c : Closed (level i) (above fs e) (close trees (level i) fs e) = closes (level i) prefix_level fs e (above fs e) high high (need_high fs) kept stands (λ r. refl) in
+    let c : Closed (level i) (above fs e) (close trees (level i) fs e) =
+    closes (level i) prefix_level fs e (above fs e) high high (need_high fs) kept stands (λ r. refl) in
     record { kept = (base_kept, (c.kept, c.stands, c.due)); same = λ r. same (sign i ∷ r) ∙ ap (base_before base) (c.same (sign i ∷ r)) }
 have_keeps at log base first fs e (question span) before base_kept kept stands same =
     let c : Closed 1 (above fs e) (close trees 1 fs e) = closes 1 prefix_level fs e (above fs e) (lit≤ tt) (lit≤ tt) (need_high fs) kept stands (λ r. refl) in
-    record { kept = (base_kept, (c.kept, c.stands, need_none (close trees 1 fs e).frames c.due)); same = λ r. same (question span ∷ r) ∙ ap (base_before base) (c.same (question span ∷ r)) }
+    record {
+      kept = (base_kept, (c.kept, c.stands, need_none (close trees 1 fs e).frames c.due));
+      same = λ r. same (question span ∷ r)
+          ∙ ap (base_before base) (c.same (question span ∷ r));
+    }
 have_keeps at log base first fs e t before base_kept kept stands same =
     let c : Closed 0 (above fs e) (close trees 0 fs e) = closes 0 prefix_level fs e (above fs e) (lit≤ tt) (lit≤ tt) (need_high fs) kept stands (λ r. refl) in
-    finish_keeps at log base first (close trees 0 fs e).frames (close trees 0 fs e).operand t before base_kept c.kept c.stands (λ r. same r ∙ ap (base_before base) (c.same r))
+    finish_keeps at log base first (close trees 0 fs e).frames (close trees 0 fs e).operand t before base_kept c.kept c.stands
+    (λ r. same r ∙ ap (base_before base) (c.same r))
 
 name_keeps : (at : ℕ) (log : _) (base : Base trees) (first : ℕ) (fs : List (Frame trees)) (i : Ident) (t : Tok) (before : Toks → Toks)
     → KeptBase base → KeptFrames fs → ((r : Toks) → before r ≡ base_before base (frames_before fs (name i ∷ r)))
@@ -186,7 +201,8 @@ name_keeps at log base first fs i left_paren before base_kept kept same = record
 name_keeps at log base first fs i t before base_kept kept same = have_keeps at tt base first fs (Written.own i) t before base_kept kept tt same
 
 within_keeps : (log : _) (base : Base trees) (first : ℕ) (o : Option (Inner trees)) (t : Tok) (before ib : Toks → Toks)
-    → KeptBase base → ((r : Toks) → before r ≡ base_before base (ib r)) → Next (InnerNext ib t) o → Next (TurnNext before t) (Machine.within trees log base first o)
+    → KeptBase base → ((r : Toks) → before r ≡ base_before base (ib r)) → Next (InnerNext ib t) o
+    → Next (TurnNext before t) (Machine.within trees log base first o)
 within_keeps log base first (Some inner) t before ib kept same next = record {
   kept = (kept, next.kept);
   same = λ r. same (t ∷ r) ∙ ap (base_before base) (next.same r);
@@ -197,7 +213,8 @@ expr_keeps : (at : ℕ) (log : _) (base : Base trees) (first : ℕ) (inner : Inn
     → KeptBase base → KeptInner inner → ((r : Toks) → before r ≡ base_before base (inner_before inner r))
     → Next (TurnNext before t) (Machine.expr_move trees at log base first inner t)
 expr_keeps at log base first (want fs) t before base_kept kept same =
-    within_keeps log base first (Machine.want_move trees fs t) t before (inner_before (want fs)) base_kept same (want_keeps fs t (inner_before (want fs)) kept (λ r. refl))
+    within_keeps log base first (Machine.want_move trees fs t) t before (inner_before (want fs)) base_kept same
+    (want_keeps fs t (inner_before (want fs)) kept (λ r. refl))
 expr_keeps at log base first (have fs e) t before base_kept kept same = have_keeps at log base first fs e t before base_kept kept.0 kept.1 same
 expr_keeps at log base first (Machine.named fs i) t before base_kept kept same = name_keeps at log base first fs i t before base_kept kept same
 expr_keeps at log base first (Machine.dotted fs i) t before base_kept kept same =

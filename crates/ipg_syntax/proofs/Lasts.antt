@@ -1,7 +1,8 @@
 -- Lists with one more member at the end: their tokens, and what each member keeps.
 use Rattle.std.proofs.Common.{◌≡◌, List, [], ◌∷◌, ◌++◌, ap, ◌∙◌, sym, append_assoc}
 use Rattle.ipg_syntax.specs.Classes.{arrow, slash}
-use Rattle.ipg_syntax.specs.Written.{Toks, CaseTree, TermTree, LocalTree, AltTree, RuleTree, spell_case, spell_cases, spell_term, spell_terms, spell_local_alts, spell_local, spell_locals, spell_alt, spell_alts, spell_rule, spell, Each, SomeEach}
+use Rattle.ipg_syntax.specs.Written.{Toks, CaseTree, TermTree, LocalTree, AltTree, RuleTree, spell_case, spell_cases, spell_term, spell_terms}
+use Rattle.ipg_syntax.specs.Written.{spell_local_alts, spell_local, spell_locals, spell_alt, spell_alts, spell_rule, spell, Each, SomeEach}
 use Rattle.ipg_syntax.specs.Making.{last}
 use Rattle.ipg_syntax.proofs.Taken.{mark}
 
@@ -42,14 +43,16 @@ later_local_alts : (las : List (List TermTree)) (ts : List TermTree) (r : Toks)
     → spell_local_alts slash (last las ts) ++ r ≡ spell_local_alts slash las ++ (slash ∷ (spell_terms ts ++ r))
 later_local_alts [] ts r = ap (λ toks. slash ∷ toks) (append_assoc (spell_terms ts) [] r)
 later_local_alts (us ∷ las) ts r =
-    ap (λ toks. slash ∷ toks) (append_assoc (spell_terms us) (spell_local_alts slash (last las ts)) r ∙ ap (λ toks. spell_terms us ++ toks) (later_local_alts las ts r)
+    ap (λ toks. slash ∷ toks)
+    (append_assoc (spell_terms us) (spell_local_alts slash (last las ts)) r ∙ ap (λ toks. spell_terms us ++ toks) (later_local_alts las ts r)
     ∙ sym (append_assoc (spell_terms us) (spell_local_alts slash las) (slash ∷ (spell_terms ts ++ r))))
 
 pub local_alts_last : (las : List (List TermTree)) (ts : List TermTree) (r : Toks)
     → spell_local_alts arrow (last las ts) ++ r ≡ spell_local_alts arrow las ++ (mark las ∷ (spell_terms ts ++ r))
 local_alts_last [] ts r = ap (λ toks. arrow ∷ toks) (append_assoc (spell_terms ts) [] r)
 local_alts_last (us ∷ las) ts r =
-    ap (λ toks. arrow ∷ toks) (append_assoc (spell_terms us) (spell_local_alts slash (last las ts)) r ∙ ap (λ toks. spell_terms us ++ toks) (later_local_alts las ts r)
+    ap (λ toks. arrow ∷ toks)
+    (append_assoc (spell_terms us) (spell_local_alts slash (last las ts)) r ∙ ap (λ toks. spell_terms us ++ toks) (later_local_alts las ts r)
     ∙ sym (append_assoc (spell_terms us) (spell_local_alts slash las) (slash ∷ (spell_terms ts ++ r))))
 
 later_alts : (alts : List AltTree) (a : AltTree) (r : Toks) → spell_alts slash (last alts a) ++ r ≡ spell_alts slash alts ++ (slash ∷ (spell_alt a ++ r))

@@ -1,6 +1,8 @@
 -- What the log is told of while each form is read, where `at` is the number of its first token.
 use Rattle.std.proofs.Common.{ℕ, ◌+◌, List, [], ◌∷◌}
-use Rattle.ipg_syntax.specs.Written.{ExprTree, PlaceTree, anywhere, long, ends, SlotTree, CaseTree, TermTree, slot_term, set_term, test_term, repeat_term, many_term, pick_term, LocalTree, AltTree, RuleTree, spell_expr, spell_case, spell_cases, spell_term, spell_terms, spell_local, spell_alt, spell_rule}
+use Rattle.ipg_syntax.specs.Written.{ExprTree, PlaceTree, anywhere, long, ends, SlotTree, CaseTree, TermTree, slot_term, set_term}
+use Rattle.ipg_syntax.specs.Written.{test_term, repeat_term, many_term, pick_term, LocalTree, AltTree, RuleTree, spell_expr, spell_case}
+use Rattle.ipg_syntax.specs.Written.{spell_cases, spell_term, spell_terms, spell_local, spell_alt, spell_rule}
 use Rattle.ipg_syntax.specs.Limits.{past}
 use Rattle.ipg_syntax.specs.Machine.{Acts}
 use Rattle.ipg_syntax.specs.Making.{expr_by, term_by, terms_by, locals_by}

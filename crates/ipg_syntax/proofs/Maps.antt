@@ -1,12 +1,15 @@
 -- The machine commutes with maps of what it makes, and does not look at the places of tokens.
-use Rattle.std.proofs.Common.{◌≡◌, ℕ, ◌+◌, List, [], ◌∷◌, Bool, true, false, cond, Option, Some, None, option_map, Result, Ok, Err, nat_le, refl, ap, ap₂, ◌∙◌, ℤ}
+use Rattle.std.proofs.Common.{◌≡◌, ℕ, ◌+◌, List, [], ◌∷◌, Bool, true, false, cond, Option, Some, None}
+use Rattle.std.proofs.Common.{option_map, Result, Ok, Err, nat_le, refl, ap, ap₂, ◌∙◌, ℤ}
 use Rattle.ipg_num.specs.declared.op.Op2.TheVariants.{Sub, Div}
 use Rattle.ipg_ast.specs.declared.grammar.Ident.{Ident}
 use Rattle.ipg_ast.specs.declared.grammar.Span.{Span}
 use Rattle.ipg_ast.specs.declared.grammar.What.{What}
 use Rattle.ipg_ast.specs.declared.grammar.Field.{Field}
 use Rattle.ipg_ast.specs.declared.grammar.Field.TheVariants.{Id as Attribute, Start, End}
-use Rattle.ipg_syntax.specs.Classes.{Infix, op, level, Tok, name, number, text, sign, bang, question, colon, dot, comma, equals, arrow, semicolon, left_paren, right_paren, left_bracket, right_bracket, left_brace, right_brace, for_word, to_word, do_word, switch_word, case_word, else_word, where_word, start_word, end_word, eoi_word, many_word}
+use Rattle.ipg_syntax.specs.Classes.{Infix, op, level, Tok, name, number, text, sign, bang, question, colon, dot, comma, equals, arrow, semicolon}
+use Rattle.ipg_syntax.specs.Classes.{left_paren, right_paren, left_bracket, right_bracket, left_brace, right_brace, for_word, to_word, do_word}
+use Rattle.ipg_syntax.specs.Classes.{switch_word, case_word, else_word, where_word, start_word, end_word, eoi_word, many_word}
 use Rattle.ipg_syntax.specs.Machine
 use Rattle.ipg_syntax.specs.Machine.{Acts, Frame, Inner, SlotUse, Base, Part, Head, Site, Pos, State, Closing, Turn, Read, verdict}
 
@@ -75,7 +78,8 @@ pub record Maps (A B : Acts) : Type 0 where
   pub no_local_alts : on_local_alts A.no_local_alts ≡ B.no_local_alts
   pub with_local_alt : (las : A.LocalAlts) (ts : A.Terms) → on_local_alts (A.with_local_alt las ts) ≡ B.with_local_alt (on_local_alts las) (on_terms ts)
   pub no_locals : on_locals A.no_locals ≡ B.no_locals
-  pub with_local : (ls : A.Locals) (n : Ident) (las : A.LocalAlts) → on_locals (A.with_local ls n las) ≡ B.with_local (on_locals ls) (plain_ident n) (on_local_alts las)
+  pub with_local : (ls : A.Locals) (n : Ident) (las : A.LocalAlts)
+      → on_locals (A.with_local ls n las) ≡ B.with_local (on_locals ls) (plain_ident n) (on_local_alts las)
   pub no_alts : on_alts A.no_alts ≡ B.no_alts
   pub with_alt : (alts : A.Alts) (ts : A.Terms) (ls : A.Locals) → on_alts (A.with_alt alts ts ls) ≡ B.with_alt (on_alts alts) (on_terms ts) (on_locals ls)
   pub no_rules : on_rules A.no_rules ≡ B.no_rules
@@ -221,7 +225,8 @@ module _ (A B : Acts) (m : Maps A B) where
   part_map fs i t = refl
 
   item_map : (fs : List (Frame A)) (i : Ident) (e : A.Expr) (t : Tok)
-      → option_map on_inner (Machine.item_made A fs i e (Machine.field_of t)) ≡ Machine.item_made B (on_frames fs) (plain_ident i) (m.on_expr e) (Machine.field_of (plain t))
+      → option_map on_inner (Machine.item_made A fs i e (Machine.field_of t))
+      ≡ Machine.item_made B (on_frames fs) (plain_ident i) (m.on_expr e) (Machine.field_of (plain t))
   item_map fs i e (name n) = ap (λ x. Some (Machine.have (on_frames fs) x)) (m.item i e (Attribute n))
   item_map fs i e start_word = ap (λ x. Some (Machine.have (on_frames fs) x)) (m.item i e Start)
   item_map fs i e end_word = ap (λ x. Some (Machine.have (on_frames fs) x)) (m.item i e End)
@@ -234,7 +239,8 @@ module _ (A B : Acts) (m : Maps A B) where
 
   -- ---- slots and switches
 
-  slot_done_map : (log : A.Log) (u : SlotUse A) (s : A.Slot) → on_turn (Machine.slot_done A log u s) ≡ Machine.slot_done B (m.on_log log) (on_use u) (m.on_slot s)
+  slot_done_map : (log : A.Log) (u : SlotUse A) (s : A.Slot) → on_turn (Machine.slot_done A log u s)
+      ≡ Machine.slot_done B (m.on_log log) (on_use u) (m.on_slot s)
   slot_done_map log Machine.alone s = ap (Machine.done (m.on_log log)) (m.slot_term s)
   slot_done_map log (Machine.chosen at cs c) s = ap (λ x. Machine.still (m.on_log log) (Machine.next_case no_span x)) (m.with_case cs c s)
   slot_done_map log (Machine.other at cs) s = refl
@@ -275,7 +281,8 @@ module _ (A B : Acts) (m : Maps A B) where
   ended_map : (at : ℕ) (log : A.Log) (base : Base A) (e : A.Expr) (t : Tok)
       → option_map on_turn (Machine.ended A at log base e t) ≡ Machine.ended B at (m.on_log log) (on_base base) (m.on_expr e) (plain t)
   ended_map at log (Machine.length_or_left u w span) e right_bracket =
-      ap Some (slot_done_map log u (A.slot w span (A.long e)) ∙ ap (Machine.slot_done B (m.on_log log) (on_use u)) (slot_made w span (A.long e) (B.long (m.on_expr e)) (m.long e)))
+      ap Some (slot_done_map log u (A.slot w span (A.long e)) ∙ ap (Machine.slot_done B (m.on_log log) (on_use u))
+      (slot_made w span (A.long e) (B.long (m.on_expr e)) (m.long e)))
   ended_map at log (Machine.length_or_left u w span) e comma = refl
   ended_map at log (Machine.length_or_left u w span) e t = refl
   ended_map at log (Machine.right_of u w span l) e right_bracket =
@@ -305,10 +312,12 @@ module _ (A B : Acts) (m : Maps A B) where
   ended_map at log (Machine.case_of span cs) e t = refl
 
   finish_map : (at : ℕ) (log : A.Log) (base : Base A) (first : ℕ) (fs : List (Frame A)) (e : A.Expr) (t : Tok)
-      → option_map on_turn (Machine.finish A at log base first fs e t) ≡ Machine.finish B at (m.on_log log) (on_base base) first (on_frames fs) (m.on_expr e) (plain t)
+      → option_map on_turn (Machine.finish A at log base first fs e t)
+      ≡ Machine.finish B at (m.on_log log) (on_base base) first (on_frames fs) (m.on_expr e) (plain t)
   finish_map at log base first [] e t =
       ended_map at (A.saw_expr e first log) base e t ∙ ap (λ l. Machine.ended B at l (on_base base) (m.on_expr e) (plain t)) (m.saw_expr e first log)
-  finish_map at log base first (Machine.group ∷ fs) e right_paren = ap (λ x. Some (Machine.still (m.on_log log) (Machine.expr (on_base base) first (Machine.have (on_frames fs) x)))) (m.group e)
+  finish_map at log base first (Machine.group ∷ fs) e right_paren =
+      ap (λ x. Some (Machine.still (m.on_log log) (Machine.expr (on_base base) first (Machine.have (on_frames fs) x)))) (m.group e)
   finish_map at log base first (Machine.group ∷ fs) e t = refl
   finish_map at log base first (Machine.index i ∷ fs) e right_paren = refl
   finish_map at log base first (Machine.index i ∷ fs) e t = refl
@@ -328,20 +337,25 @@ module _ (A B : Acts) (m : Maps A B) where
       ∙ ap (λ d. Machine.finished B at (m.on_log log) (on_base base) first d (plain t)) (close_map 0 fs e)
 
   have_map : (at : ℕ) (log : A.Log) (base : Base A) (first : ℕ) (fs : List (Frame A)) (e : A.Expr) (t : Tok)
-      → option_map on_turn (Machine.have_move A at log base first fs e t) ≡ Machine.have_move B at (m.on_log log) (on_base base) first (on_frames fs) (m.on_expr e) (plain t)
-  have_map at log base first fs e (sign i) = ap (λ c. Some (Machine.still (m.on_log log) (Machine.expr (on_base base) first (Machine.with_left i c)))) (close_map (level i) fs e)
-  have_map at log base first fs e (question span) = ap (λ c. Some (Machine.still (m.on_log log) (Machine.expr (on_base base) first (Machine.with_test no_span c)))) (close_map 1 fs e)
+      → option_map on_turn (Machine.have_move A at log base first fs e t)
+      ≡ Machine.have_move B at (m.on_log log) (on_base base) first (on_frames fs) (m.on_expr e) (plain t)
+  have_map at log base first fs e (sign i) = ap (λ c. Some (Machine.still (m.on_log log) (Machine.expr (on_base base) first (Machine.with_left i c))))
+      (close_map (level i) fs e)
+  have_map at log base first fs e (question span) =
+      ap (λ c. Some (Machine.still (m.on_log log) (Machine.expr (on_base base) first (Machine.with_test no_span c)))) (close_map 1 fs e)
   have_map at log base first fs e t = finished_map at log base first fs e t
 
   name_map : (at : ℕ) (log : A.Log) (base : Base A) (first : ℕ) (fs : List (Frame A)) (i : Ident) (t : Tok)
-      → option_map on_turn (Machine.name_move A at log base first fs i t) ≡ Machine.name_move B at (m.on_log log) (on_base base) first (on_frames fs) (plain_ident i) (plain t)
+      → option_map on_turn (Machine.name_move A at log base first fs i t)
+      ≡ Machine.name_move B at (m.on_log log) (on_base base) first (on_frames fs) (plain_ident i) (plain t)
   name_map at log base first fs i dot = refl
   name_map at log base first fs i left_paren = refl
   name_map at log base first fs i t =
       have_map at log base first fs (A.own i) t ∙ ap (λ x. Machine.have_move B at (m.on_log log) (on_base base) first (on_frames fs) x (plain t)) (m.own i)
 
   expr_map : (at : ℕ) (log : A.Log) (base : Base A) (first : ℕ) (inner : Inner A) (t : Tok)
-      → option_map on_turn (Machine.expr_move A at log base first inner t) ≡ Machine.expr_move B at (m.on_log log) (on_base base) first (on_inner inner) (plain t)
+      → option_map on_turn (Machine.expr_move A at log base first inner t)
+      ≡ Machine.expr_move B at (m.on_log log) (on_base base) first (on_inner inner) (plain t)
   expr_map at log base first (Machine.want fs) t =
       within_map log base first (Machine.want_move A fs t) ∙ ap (Machine.within B (m.on_log log) (on_base base) first) (want_map fs t)
   expr_map at log base first (Machine.have fs e) t = have_map at log base first fs e t
@@ -351,7 +365,8 @@ module _ (A B : Acts) (m : Maps A B) where
   expr_map at log base first (Machine.indexed fs i e) t =
       within_map log base first (Machine.dot_move A fs i e t) ∙ ap (Machine.within B (m.on_log log) (on_base base) first) (dot_map fs i e t)
   expr_map at log base first (Machine.index_dotted fs i e) t =
-      within_map log base first (Machine.item_made A fs i e (Machine.field_of t)) ∙ ap (Machine.within B (m.on_log log) (on_base base) first) (item_map fs i e t)
+      within_map log base first (Machine.item_made A fs i e (Machine.field_of t))
+      ∙ ap (Machine.within B (m.on_log log) (on_base base) first) (item_map fs i e t)
 
   -- ---- terms
 
@@ -412,7 +427,8 @@ module _ (A B : Acts) (m : Maps A B) where
 
   begun_map : (at : ℕ) (log : A.Log) (site : Site A) (ts : A.Terms) (o : Option (Part A))
       → option_map on_state (Machine.begun A at log site ts o) ≡ Machine.begun B at (m.on_log log) (on_site site) (m.on_terms ts) (option_map on_part o)
-  begun_map at log site ts (Some p) = ap (λ l. Some (record { log = l; pos = Machine.in_term (on_site site) (m.on_terms ts) (on_part p) })) (m.saw_term ts at log)
+  begun_map at log site ts (Some p) = ap (λ l. Some (record { log = l; pos = Machine.in_term (on_site site) (m.on_terms ts) (on_part p) }))
+      (m.saw_term ts at log)
   begun_map at log site ts None = refl
 
   saw_alt_map : (site : Site A) (at : ℕ) (log : A.Log) → m.on_log (Machine.saw_alt_at A site at log) ≡ Machine.saw_alt_at B (on_site site) at (m.on_log log)
@@ -423,7 +439,8 @@ module _ (A B : Acts) (m : Maps A B) where
   alts_map alts ts = m.with_alt alts ts A.no_locals ∙ ap (B.with_alt (m.on_alts alts) (m.on_terms ts)) m.no_locals
 
   next_alt_map : (site : Site A) (ts : A.Terms) → on_site (Machine.next_alt A site ts) ≡ Machine.next_alt B (on_site site) (m.on_terms ts)
-  next_alt_map (Machine.global h) ts = ap (λ alts. Machine.global (record { rules = m.on_rules h.rules; name = plain_ident h.name; alts = alts })) (alts_map h.alts ts)
+  next_alt_map (Machine.global h) ts = ap (λ alts. Machine.global (record { rules = m.on_rules h.rules; name = plain_ident h.name; alts = alts }))
+      (alts_map h.alts ts)
   next_alt_map (Machine.local h outer ls n las) ts =
       ap (Machine.local (on_head h) (m.on_terms outer) (m.on_locals ls) (plain_ident n)) (m.with_local_alt las ts)
 
@@ -449,12 +466,14 @@ module _ (A B : Acts) (m : Maps A B) where
   turned_map : (at : ℕ) (site : Site A) (ts : A.Terms) (t : Tok) (o : Option (Turn A))
       → option_map on_state (Machine.turned A at site ts t o) ≡ Machine.turned B at (on_site site) (m.on_terms ts) (plain t) (option_map on_turn o)
   turned_map at site ts t (Some (Machine.still log p)) = refl
-  turned_map at site ts t (Some (Machine.done log x)) = ap (λ y. Some (record { log = m.on_log log; pos = Machine.after_term (on_site site) y })) (m.with_term ts x)
+  turned_map at site ts t (Some (Machine.done log x)) = ap (λ y. Some (record { log = m.on_log log; pos = Machine.after_term (on_site site) y }))
+      (m.with_term ts x)
   turned_map at site ts t (Some (Machine.passed log x)) =
       after_term_map at log site (A.with_term ts x) t ∙ ap (λ y. Machine.after_term_move B at (m.on_log log) (on_site site) y (plain t)) (m.with_term ts x)
   turned_map at site ts t None = refl
 
-  named_map : (at : ℕ) (log : A.Log) (pos : Pos A) → Some (on_state (record { log = A.saw_rule at log; pos = pos })) ≡ Some (record { log = B.saw_rule at (m.on_log log); pos = on_pos pos })
+  named_map : (at : ℕ) (log : A.Log) (pos : Pos A) → Some (on_state (record { log = A.saw_rule at log; pos = pos }))
+      ≡ Some (record { log = B.saw_rule at (m.on_log log); pos = on_pos pos })
   named_map at log pos = ap (λ l. Some (record { log = l; pos = on_pos pos })) (m.saw_rule at log)
 
   move_map : (at : ℕ) (log : A.Log) (pos : Pos A) (t : Tok)
@@ -466,10 +485,12 @@ module _ (A B : Acts) (m : Maps A B) where
   move_map at log (Machine.between rs) (name i) = named_map at log (Machine.rule_named rs i)
   move_map at log (Machine.between rs) t = refl
   move_map at log (Machine.rule_named rs i) arrow =
-      ap (λ alts. Some (record { log = m.on_log log; pos = Machine.before_term (Machine.global (record { rules = m.on_rules rs; name = plain_ident i; alts = alts })) })) m.no_alts
+      ap (λ alts. Some (record
+      { log = m.on_log log; pos = Machine.before_term (Machine.global (record { rules = m.on_rules rs; name = plain_ident i; alts = alts })) })) m.no_alts
   move_map at log (Machine.rule_named rs i) t = refl
   move_map at log (Machine.local_named h ts ls i) arrow =
-      ap (λ las. Some (record { log = m.on_log log; pos = Machine.before_term (Machine.local (on_head h) (m.on_terms ts) (m.on_locals ls) (plain_ident i) las) })) m.no_local_alts
+      ap (λ las. Some (record
+      { log = m.on_log log; pos = Machine.before_term (Machine.local (on_head h) (m.on_terms ts) (m.on_locals ls) (plain_ident i) las) })) m.no_local_alts
   move_map at log (Machine.local_named h ts ls i) t = refl
   move_map at log (Machine.before_term site) t =
       begun_map at (Machine.saw_alt_at A site at log) site A.no_terms (Machine.opening A t)
@@ -486,7 +507,11 @@ module _ (A B : Acts) (m : Maps A B) where
   move_map at log (Machine.before_local h ts) t = refl
   move_map at log (Machine.after_local h ts ls) (name i) = named_map at log (Machine.local_named h ts ls i)
   move_map at log (Machine.after_local h ts ls) right_brace =
-      ap (λ alts. Some (record { log = m.on_log log; pos = Machine.after_where (record { rules = m.on_rules h.rules; name = plain_ident h.name; alts = alts }) })) (m.with_alt h.alts ts ls)
+      ap (λ alts. Some (record {
+        log = m.on_log log;
+        pos = Machine.after_where
+            (record { rules = m.on_rules h.rules; name = plain_ident h.name; alts = alts });
+      })) (m.with_alt h.alts ts ls)
   move_map at log (Machine.after_local h ts ls) t = refl
   move_map at log (Machine.after_where h) (sign (op Div)) = refl
   move_map at log (Machine.after_where h) semicolon =
@@ -512,7 +537,8 @@ module _ (A B : Acts) (m : Maps A B) where
   ending_map at log (Machine.after_local h ts ls) = refl
   ending_map at log (Machine.after_where h) = refl
 
-  onward_map : (at : ℕ) (o : Option (State A)) (k : State A → Result (Read A) ℕ) (j : State B → Result (Read B) ℕ) → ((x : State A) → on_read (k x) ≡ j (on_state x))
+  onward_map : (at : ℕ) (o : Option (State A)) (k : State A → Result (Read A) ℕ) (j : State B → Result (Read B) ℕ)
+      → ((x : State A) → on_read (k x) ≡ j (on_state x))
       → on_read (Machine.onward at o k) ≡ Machine.onward at (option_map on_state o) j
   onward_map at (Some x) k j same = same x
   onward_map at None k j same = refl
@@ -521,7 +547,8 @@ module _ (A B : Acts) (m : Maps A B) where
   pub verdict_map : (ts : List Tok) (at : ℕ) (s : State A) → on_read (verdict A at s ts) ≡ verdict B at (on_state s) (plains ts)
   verdict_map [] at s = ending_map at s.log s.pos
   verdict_map (t ∷ ts) at s =
-      onward_map at (Machine.step A at s t) (λ next. verdict A (at + 1) next ts) (λ next. verdict B (at + 1) next (plains ts)) (λ next. verdict_map ts (at + 1) next)
+      onward_map at (Machine.step A at s t) (λ next. verdict A (at + 1) next ts) (λ next. verdict B (at + 1) next (plains ts))
+      (λ next. verdict_map ts (at + 1) next)
       ∙ ap (λ o. Machine.onward at o (λ next. verdict B (at + 1) next (plains ts))) (move_map at s.log s.pos t)
 
   pub whole_map : (ts : List Tok) → on_read (verdict A 0 (Machine.start_state A) ts) ≡ verdict B 0 (Machine.start_state B) (plains ts)

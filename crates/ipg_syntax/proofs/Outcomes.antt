@@ -1,5 +1,6 @@
 -- The three ways that reading a text may end.
-use Rattle.std.proofs.Common.{◌≡◌, ℕ, List, [], ◌∷◌, ◌++◌, length, Some, None, Result, Ok, Err, refl, ap, ◌∙◌, sym, ap₂, unwrap_or, subst, append_assoc, append-nil, arith}
+use Rattle.std.proofs.Common.{◌≡◌, ℕ, List, [], ◌∷◌, ◌++◌, length, Some, None, Result, Ok, Err, refl}
+use Rattle.std.proofs.Common.{ap, ◌∙◌, sym, ap₂, unwrap_or, subst, append_assoc, append-nil, arith}
 use Rattle.std.proofs.lemmas.Option.{none-some}
 use Rattle.ipg_tokens.specs.Lexical.{tokens_of}
 use Rattle.ipg_tokens.specs.declared.token.Token.{Token}
@@ -54,7 +55,12 @@ place_split text (t ∷ before) after = place_split text before after
 
 -- what was taken begins a grammar
 stuck_begins : (ts : List Token) (n : ℕ) (stuck : Stuck 0 (start_state trees) ts n) → Begins stuck.read
-stuck_begins ts n stuck = record { more = close_pos stuck.pos; grammar = go (verdict trees 0 closed (classes closing)) (closers_good 0 stuck.pos) (run_spelled (classes closing) 0 closed stuck.kept) }
+stuck_begins ts n stuck =
+    record {
+      more = close_pos stuck.pos;
+      grammar = go (verdict trees 0 closed (classes closing)) (closers_good 0 stuck.pos)
+          (run_spelled (classes closing) 0 closed stuck.kept);
+    }
   where
     closing : List Token
     closing = close_pos stuck.pos
@@ -62,8 +68,10 @@ stuck_begins ts n stuck = record { more = close_pos stuck.pos; grammar = go (ver
     closed : State trees
     closed = record { log = tt; pos = stuck.pos }
 
-    go : (v : Result (Read trees) ℕ) → IsGood v → OnGood (λ r. Spelled (Rattle.ipg_syntax.proofs.Taken.pos_before stuck.pos (classes closing)) r.rules) v → IsGrammar (stuck.read ++ closing)
-    go (Ok r) good spelled = record { tree = r.rules; fits = spelled.fits; spelled = sym (classes_append stuck.read closing ∙ stuck.same (classes closing) ∙ spelled.same) }
+    go : (v : Result (Read trees) ℕ) → IsGood v → OnGood (λ r. Spelled (Rattle.ipg_syntax.proofs.Taken.pos_before stuck.pos (classes closing)) r.rules) v
+        → IsGrammar (stuck.read ++ closing)
+    go (Ok r) good spelled =
+        record { tree = r.rules; fits = spelled.fits; spelled = sym (classes_append stuck.read closing ∙ stuck.same (classes closing) ∙ spelled.same) }
     go (Err m) good spelled = absurd good
 
 ok_err : {R : Type 0} (v : Result R ℕ) (r : R) (n : ℕ) → v ≡ Ok r → v ≡ Err n → ⊥
@@ -72,10 +80,12 @@ ok_err v r n ok err = subst IsGood (sym ok ∙ err) tt
 -- no tokens of a grammar are at fault
 no_fault : (toks : Toks) (n : ℕ) (tree : List RuleTree) → Fits tree → spell tree ≡ toks → verdict trees 0 (start_state trees) toks ≡ Err n → ⊥
 no_fault toks n tree fits same err =
-    ok_err (verdict trees 0 (start_state trees) toks) (record { log = tt; rules = tree }) n (ap (verdict trees 0 (start_state trees)) (sym same) ∙ tree_taken tree fits) err
+    ok_err (verdict trees 0 (start_state trees) toks) (record { log = tt; rules = tree }) n
+    (ap (verdict trees 0 (start_state trees)) (sym same) ∙ tree_taken tree fits) err
 
 -- and goes no further
-stuck_ends : (ts : List Token) (n : ℕ) → verdict trees 0 (start_state trees) (classes ts) ≡ Err n → (stuck : Stuck 0 (start_state trees) ts n) → EndsBefore stuck.read stuck.left
+stuck_ends : (ts : List Token) (n : ℕ) → verdict trees 0 (start_state trees) (classes ts) ≡ Err n → (stuck : Stuck 0 (start_state trees) ts n)
+    → EndsBefore stuck.read stuck.left
 stuck_ends ts n is stuck = go stuck.left refl
   where
     go : (left : List Token) → stuck.left ≡ left → EndsBefore stuck.read left

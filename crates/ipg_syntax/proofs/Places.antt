@@ -1,5 +1,6 @@
 -- The places of a text's tokens ascend.
-use Rattle.std.proofs.Common.{◌≡◌, ℕ, zero, suc, ◌+◌, ◌-◌, ◌≤◌, ◌<◌, ◌^◌, List, [], ◌∷◌, Bool, true, false, cond, Ok, Err, nat_lt, length, refl, ap, sym, subst, arith, le_refl, le_trans}
+use Rattle.std.proofs.Common.{◌≡◌, ℕ, zero, suc, ◌+◌, ◌-◌, ◌≤◌, ◌<◌, ◌^◌, List, [], ◌∷◌, Bool, true, false, cond}
+use Rattle.std.proofs.Common.{Ok, Err, nat_lt, length, refl, ap, sym, subst, arith, le_refl, le_trans}
 use Rattle.std.specs.List.{AllByRecursion}
 use Rattle.ipg_tokens.specs.Lexical.{Lexed, lexed, beginning, front_at, token_first, large_first, tokens_of}
 use Rattle.ipg_tokens.specs.declared.token.Token.{Token}
@@ -46,17 +47,20 @@ beginning_ok : (f : Front) (at high : ℕ) (rest : ℕ → Lexed) → ((more : �
 beginning_ok Nothing at high rest ascends = tt
 beginning_ok (Blank n) at high rest ascends = ascends (n - 1)
 beginning_ok (Large n) at high rest ascends = large_ok at at high (rest (n - 1))
-beginning_ok (Begins kind n) at high rest ascends = token_ok at high n (record { kind = kind; span = record { from = at; to = at + n } }) (rest (n - 1)) refl (ascends (n - 1))
+beginning_ok (Begins kind n) at high rest ascends = token_ok at high n (record { kind = kind; span = record { from = at; to = at + n } }) (rest (n - 1)) refl
+    (ascends (n - 1))
 
 lexed_ascends : (bs : List ℕ) (at skip : ℕ) → AscendsIfOk at (at + length bs) (lexed at skip bs)
 lexed_ascends [] at skip = omega arith
 lexed_ascends (b ∷ bs) at (suc skip) =
     let long : at + 1 + length bs ≡ at + length (b ∷ bs) = omega arith in
-    lower_ok at (at + 1) (at + length (b ∷ bs)) (lexed (at + 1) skip bs) (omega arith) (subst (λ n. AscendsIfOk (at + 1) n (lexed (at + 1) skip bs)) long (lexed_ascends bs (at + 1) skip))
+    lower_ok at (at + 1) (at + length (b ∷ bs)) (lexed (at + 1) skip bs) (omega arith)
+    (subst (λ n. AscendsIfOk (at + 1) n (lexed (at + 1) skip bs)) long (lexed_ascends bs (at + 1) skip))
 lexed_ascends (b ∷ bs) at zero =
     let long : at + 1 + length bs ≡ at + length (b ∷ bs) = omega arith in
     beginning_ok (front_at b bs) at (at + length (b ∷ bs)) (λ more. lexed (at + 1) more bs)
-    (λ more. lower_ok at (at + 1) (at + length (b ∷ bs)) (lexed (at + 1) more bs) (omega arith) (subst (λ n. AscendsIfOk (at + 1) n (lexed (at + 1) more bs)) long (lexed_ascends bs (at + 1) more)))
+    (λ more. lower_ok at (at + 1) (at + length (b ∷ bs)) (lexed (at + 1) more bs) (omega arith)
+    (subst (λ n. AscendsIfOk (at + 1) n (lexed (at + 1) more bs)) long (lexed_ascends bs (at + 1) more)))
 
 tokens_ascend : (text : List ℕ) → AscendsIfOk 0 (0 + length text) (tokens_of text)
 tokens_ascend text = go (nat_lt (2 ^ 20) (length text))
@@ -70,7 +74,8 @@ low_place text low high [] n ends ascends = le_trans ascends ends
 low_place text low high (t ∷ ts) zero ends ascends = ascends.0
 low_place text low high (t ∷ ts) (suc n) ends ascends = le_trans ascends.0 (low_place text t.span.from high ts n ends ascends.1)
 
-places_ascend : (text : List ℕ) (low high : ℕ) (ts : List Token) (m n : ℕ) → high ≤ length text → Ascends low high ts → m ≤ n → place_of text ts m ≤ place_of text ts n
+places_ascend : (text : List ℕ) (low high : ℕ) (ts : List Token) (m n : ℕ) → high ≤ length text → Ascends low high ts → m ≤ n
+    → place_of text ts m ≤ place_of text ts n
 places_ascend text low high [] m n ends ascends less = le_refl (length text)
 places_ascend text low high (t ∷ ts) zero zero ends ascends less = le_refl t.span.from
 places_ascend text low high (t ∷ ts) zero (suc n) ends ascends less = low_place text t.span.from high ts n ends ascends.1
@@ -90,6 +95,7 @@ limit_is_least text tree r over first = (there, go (sizes tree) (first_least tre
     ascends : Ascends 0 (0 + length text) r.tokens
     ascends = subst (AscendsIfOk 0 (0 + length text)) r.falls (tokens_ascend text)
 
-    go : (zs : List Size) → AllByRecursion (NotBefore over.at) zs → AllByRecursion (λ z. is_over z ≡ true → place_of text r.tokens over.at ≤ place_of text r.tokens z.at) zs
+    go : (zs : List Size) → AllByRecursion (NotBefore over.at) zs
+        → AllByRecursion (λ z. is_over z ≡ true → place_of text r.tokens over.at ≤ place_of text r.tokens z.at) zs
     go [] all = tt
     go (z ∷ zs) all = (λ is. places_ascend text 0 (0 + length text) r.tokens over.at z.at (omega arith) ascends (all.0 is), go zs all.1)

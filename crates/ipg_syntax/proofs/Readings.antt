@@ -1,5 +1,6 @@
 -- The laws of reading.
-use Rattle.std.proofs.Common.{◌≡◌, ◌⊎◌, inl, inr, ℕ, List, [], ◌∷◌, ◌++◌, Option, Some, None, Result, Ok, Err, refl, ap, ap₂, ◌∙◌, sym, subst, append_assoc, append-nil}
+use Rattle.std.proofs.Common.{◌≡◌, ◌⊎◌, inl, inr, ℕ, List, [], ◌∷◌, ◌++◌, Option, Some, None, Result}
+use Rattle.std.proofs.Common.{Ok, Err, refl, ap, ap₂, ◌∙◌, sym, subst, append_assoc, append-nil}
 use Rattle.ipg_ast.specs.declared.grammar.Grammar.{Grammar}
 use Rattle.ipg_tokens.specs.Lexical.{tokens_of}
 use Rattle.ipg_tokens.specs.declared.token.Token.{Token}
@@ -12,7 +13,8 @@ use Rattle.ipg_syntax.specs.Limits.{Over, sizes, first_over}
 use Rattle.ipg_syntax.specs.Machine.{Read, verdict, start_state}
 use Rattle.ipg_syntax.specs.Making.{trees, grammar_of}
 use Rattle.ipg_syntax.specs.Reading.{ReadsTree, ReadsWithin, place_of, tokens_answer, within_answer, read_of}
-use Rattle.ipg_syntax.specs.Laws.{IsGrammar, Begins, EndsBefore, first_place, Breaks, PassesLimit, IsOfTokens, Refused, OneGrammar, ReadsExactly, RefusedExactly, AlwaysOneAnswer, SyntaxPlace, LimitPlace, TokensFirst}
+use Rattle.ipg_syntax.specs.Laws.{IsGrammar, Begins, EndsBefore, first_place, Breaks, PassesLimit, IsOfTokens, Refused, OneGrammar}
+use Rattle.ipg_syntax.specs.Laws.{ReadsExactly, RefusedExactly, AlwaysOneAnswer, SyntaxPlace, LimitPlace, TokensFirst}
 use Rattle.ipg_syntax.proofs.Lexed.{FailsByTokens, tokens_fail, too_long, long_is}
 use Rattle.ipg_syntax.proofs.Outcomes.{Outcome, by_tokens, by_syntax, by_tree, outcome, tree_taken, grammar_answer, made_grammar}
 
@@ -167,7 +169,8 @@ never_breaks text tree p r b = go b.after refl b.stops
     tokens = ap (λ l. value_in l []) (sym r.falls ∙ b.falls)
 
     go : (after : List Token) → b.after ≡ after → EndsBefore b.before after → ⊥
-    go [] none ends = ends (record { tree = tree; fits = r.fits; spelled = r.spelled ∙ ap classes (tokens ∙ ap (λ a. b.before ++ a) none ∙ append-nil b.before) })
+    go [] none ends = ends
+        (record { tree = tree; fits = r.fits; spelled = r.spelled ∙ ap classes (tokens ∙ ap (λ a. b.before ++ a) none ∙ append-nil b.before) })
     go (t ∷ after) here ends = ends (record {
       more = after;
       grammar = record {
@@ -233,7 +236,8 @@ tokens_back text fault of_tokens is (by_tree tree r) = go (first_over (sizes tre
     go None within = absurd (not_both (reads_within text tree r within) is)
 
 pub tokens_first : TokensFirst
-tokens_first text fault = (λ falls. (subst FailsByTokens falls (tokens_fail text), ap (tokens_answer text) falls), λ both. tokens_back text fault both.0 both.1 (outcome text))
+tokens_first text fault =
+    (λ falls. (subst FailsByTokens falls (tokens_fail text), ap (tokens_answer text) falls), λ both. tokens_back text fault both.0 both.1 (outcome text))
 
 -- ---- refusals
 

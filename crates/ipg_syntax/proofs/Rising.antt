@@ -1,9 +1,15 @@
 -- The sizes of a grammar stand in the order of their tokens.
-use Rattle.std.proofs.Common.{◌≡◌, ℕ, ◌+◌, ◌≤◌, ◌<◌, append_assoc, List, [], ◌∷◌, ◌++◌, length, Bool, true, false, cond, Option, Some, None, refl, ap, ◌∙◌, sym, subst, arith, le_refl, le_trans, true≢false}
+use Rattle.std.proofs.Common.{◌≡◌, ℕ, ◌+◌, ◌≤◌, ◌<◌, append_assoc, List, [], ◌∷◌, ◌++◌, length, Bool, true, false, cond}
+use Rattle.std.proofs.Common.{Option, Some, None, refl, ap, ◌∙◌, sym, subst, arith, le_refl, le_trans, true≢false}
 use Rattle.std.specs.List.{AllByRecursion}
-use Rattle.ipg_syntax.specs.Classes.{Tok, name, question, comma, equals, arrow, semicolon, left_paren, right_paren, right_bracket, left_brace, right_brace, for_word, to_word, do_word, switch_word, else_word, many_word, slash}
-use Rattle.ipg_syntax.specs.Written.{Toks, ExprTree, PlaceTree, anywhere, long, ends, SlotTree, CaseTree, TermTree, slot_term, set_term, test_term, repeat_term, many_term, pick_term, LocalTree, AltTree, RuleTree, what_tok, spell_expr, spell_place, spell_slot, spell_case, spell_cases, spell_term, spell_terms, spell_local_alts, spell_local, spell_locals, spell_where, spell_alt, spell_alts, spell_rule, spell, Each, TermsFit, LocalFits, AltFits, RuleFits, Fits}
-use Rattle.ipg_syntax.specs.Limits.{Size, Over, past, is_over, first_over, expr_size, place_sizes, slot_sizes, case_sizes, cases_sizes, term_sizes, terms_sizes, local_alts_sizes, locals_sizes, alt_sizes, alts_sizes, locals_in, rules_sizes, sizes}
+use Rattle.ipg_syntax.specs.Classes.{Tok, name, question, comma, equals, arrow, semicolon, left_paren, right_paren, right_bracket, left_brace}
+use Rattle.ipg_syntax.specs.Classes.{right_brace, for_word, to_word, do_word, switch_word, else_word, many_word, slash}
+use Rattle.ipg_syntax.specs.Written.{Toks, ExprTree, PlaceTree, anywhere, long, ends, SlotTree, CaseTree, TermTree, slot_term, set_term, test_term}
+use Rattle.ipg_syntax.specs.Written.{repeat_term, many_term, pick_term, LocalTree, AltTree, RuleTree, what_tok, spell_expr, spell_place, spell_slot}
+use Rattle.ipg_syntax.specs.Written.{spell_case, spell_cases, spell_term, spell_terms, spell_local_alts, spell_local, spell_locals, spell_where}
+use Rattle.ipg_syntax.specs.Written.{spell_alt, spell_alts, spell_rule, spell, Each, TermsFit, LocalFits, AltFits, RuleFits, Fits}
+use Rattle.ipg_syntax.specs.Limits.{Size, Over, past, is_over, first_over, expr_size, place_sizes, slot_sizes, case_sizes, cases_sizes, term_sizes}
+use Rattle.ipg_syntax.specs.Limits.{terms_sizes, local_alts_sizes, locals_sizes, alt_sizes, alts_sizes, locals_in, rules_sizes, sizes}
 use Rattle.ipg_syntax.proofs.TakesExprs.{past_append}
 use Rattle.ipg_syntax.proofs.Lasts.{some_each}
 use Rattle.std.proofs.lemmas.Option.{none-some}
@@ -59,11 +65,13 @@ begins at t ts = omega (arith, past_rises (at + 1) ts)
 
 place_rises : (at : ℕ) (p : PlaceTree) → Rising at (place_sizes at p) (past at (spell_place p))
 place_rises at anywhere = le_refl at
-place_rises at (long e) = rising_low at (at + 1) (place_sizes at (long e)) (past at (spell_place (long e))) (one_on at) (expr_rises (at + 1) e right_bracket [] [] (le_refl (past (at + 1) (spell_expr e) + 1)))
+place_rises at (long e) = rising_low at (at + 1) (place_sizes at (long e)) (past at (spell_place (long e))) (one_on at)
+    (expr_rises (at + 1) e right_bracket [] [] (le_refl (past (at + 1) (spell_expr e) + 1)))
 place_rises at (ends l r) =
     let mid : ℕ = past (at + 1) (spell_expr l) + 1 in
     rising_low at (at + 1) (place_sizes at (ends l r)) (past at (spell_place (ends l r))) (one_on at)
-    (expr_rises (at + 1) l comma (spell_expr r ++ (right_bracket ∷ [])) (expr_size mid r ∷ []) (expr_rises mid r right_bracket [] [] (le_refl (past mid (spell_expr r) + 1))))
+    (expr_rises (at + 1) l comma (spell_expr r ++ (right_bracket ∷ [])) (expr_size mid r ∷ [])
+    (expr_rises mid r right_bracket [] [] (le_refl (past mid (spell_expr r) + 1))))
 
 slot_rises : (at : ℕ) (s : SlotTree) → Rising at (slot_sizes at s) (past at (spell_slot s))
 slot_rises at s = rising_low at (at + 1) (slot_sizes at s) (past at (spell_slot s)) (one_on at) (place_rises (at + 1) s.place)
@@ -96,10 +104,12 @@ term_rises at (repeat_term x a b i l r) =
     let second : ℕ = past from (spell_expr a) + 1 in
     let third : ℕ = past second (spell_expr b) + 1 + 1 in
     let last : List Size = place_sizes third (ends l r) in
-    rising_low at from (term_sizes at (repeat_term x a b i l r)) (past at (spell_term (repeat_term x a b i l r))) (let less : at ≤ at + 1 + 1 + 1 = omega arith in less)
+    rising_low at from (term_sizes at (repeat_term x a b i l r)) (past at (spell_term (repeat_term x a b i l r)))
+    (let less : at ≤ at + 1 + 1 + 1 = omega arith in less)
     (expr_rises from a to_word (spell_expr b ++ (do_word ∷ name i ∷ spell_place (ends l r))) (expr_size second b ∷ last)
     (expr_rises second b do_word (name i ∷ spell_place (ends l r)) last
-    (rising_low (past second (spell_expr b) + 1) third last (past third (spell_place (ends l r))) (one_on (past second (spell_expr b) + 1)) (place_rises third (ends l r)))))
+    (rising_low (past second (spell_expr b) + 1) third last (past third (spell_place (ends l r))) (one_on (past second (spell_expr b) + 1))
+    (place_rises third (ends l r)))))
 term_rises at (many_term span i p) =
     rising_low at (at + 1 + 1) (place_sizes (at + 1 + 1) p) (past at (spell_term (many_term span i p))) (let less : at ≤ at + 1 + 1 = omega arith in less)
     (place_rises (at + 1 + 1) p)
@@ -111,7 +121,8 @@ term_rises at (pick_term span cs s) =
     (sym (past_append from (spell_cases cs) (else_word ∷ (spell_slot s ++ (right_brace ∷ []))) ∙ past_append (mid + 1) (spell_slot s) (right_brace ∷ [])))
     (rising_append from (cases_sizes from cs) mid (slot_sizes (mid + 1) s) (past (mid + 1) (spell_slot s) + 1) (cases_rise from cs)
     (rising_low mid (mid + 1) (slot_sizes (mid + 1) s) (past (mid + 1) (spell_slot s) + 1) (one_on mid)
-    (rising_high (mid + 1) (slot_sizes (mid + 1) s) (past (mid + 1) (spell_slot s)) (past (mid + 1) (spell_slot s) + 1) (one_on (past (mid + 1) (spell_slot s))) (slot_rises (mid + 1) s)))))
+    (rising_high (mid + 1) (slot_sizes (mid + 1) s) (past (mid + 1) (spell_slot s)) (past (mid + 1) (spell_slot s) + 1) (one_on (past (mid + 1) (spell_slot s)))
+    (slot_rises (mid + 1) s)))))
 
 -- a term has a token
 term_begins : (at : ℕ) (t : TermTree) (rest : Toks) → at < past at (spell_term t ++ rest)
@@ -136,27 +147,33 @@ terms_rise n at (t ∷ ts) =
 
 terms_begin : (at : ℕ) (ts : List TermTree) (rest : Toks) → TermsFit ts → at < past at (spell_terms ts ++ rest)
 terms_begin at [] rest fits = absurd fits
-terms_begin at (t ∷ ts) rest fits = subst (λ toks. at < past at toks) (sym (append_assoc (spell_term t) (spell_terms ts) rest)) (term_begins at t (spell_terms ts ++ rest))
+terms_begin at (t ∷ ts) rest fits = subst (λ toks. at < past at toks) (sym (append_assoc (spell_term t) (spell_terms ts) rest))
+    (term_begins at t (spell_terms ts ++ rest))
 
 -- from the mark on
-local_alts_rise : (n at : ℕ) (m : Tok) (las : List (List TermTree)) → Each TermsFit las → Rising at (local_alts_sizes n at las) (past at (spell_local_alts m las))
+local_alts_rise : (n at : ℕ) (m : Tok) (las : List (List TermTree)) → Each TermsFit las
+    → Rising at (local_alts_sizes n at las) (past at (spell_local_alts m las))
 local_alts_rise n at m [] fits = le_refl at
 local_alts_rise n at m (ts ∷ las) fits =
     let next : ℕ = past (at + 1) (spell_terms ts) in (
       one_on at,
       terms_begin (at + 1) ts (spell_local_alts slash las) fits.0,
-      subst (Rising (at + 1) (terms_sizes 0 (at + 1) ts ++ local_alts_sizes (n + 1) next las)) (sym (past_append (at + 1) (spell_terms ts) (spell_local_alts slash las)))
-          (rising_append (at + 1) (terms_sizes 0 (at + 1) ts) next (local_alts_sizes (n + 1) next las) (past next (spell_local_alts slash las)) (terms_rise 0 (at + 1) ts) (local_alts_rise (n + 1) next slash las fits.1)),
+      subst (Rising (at + 1) (terms_sizes 0 (at + 1) ts ++ local_alts_sizes (n + 1) next las))
+          (sym (past_append (at + 1) (spell_terms ts) (spell_local_alts slash las)))
+          (rising_append (at + 1) (terms_sizes 0 (at + 1) ts) next (local_alts_sizes (n + 1) next las) (past next (spell_local_alts slash las))
+          (terms_rise 0 (at + 1) ts) (local_alts_rise (n + 1) next slash las fits.1)),
     )
 
 -- up to the token after some, and one more
 and_one : (low at : ℕ) (zs : List Size) (ts : Toks) (t : Tok) → Rising low zs (past at ts) → Rising low zs (past at (ts ++ (t ∷ [])))
-and_one low at zs ts t rising = subst (Rising low zs) (sym (past_append at ts (t ∷ []))) (rising_high low zs (past at ts) (past at ts + 1) (one_on (past at ts)) rising)
+and_one low at zs ts t rising = subst (Rising low zs) (sym (past_append at ts (t ∷ [])))
+    (rising_high low zs (past at ts) (past at ts + 1) (one_on (past at ts)) rising)
 
 local_rises : (at : ℕ) (l : LocalTree) → LocalFits l → Rising at (local_alts_sizes 0 (at + 1) l.alts) (past at (spell_local l))
 local_rises at l fits =
     rising_low at (at + 1) (local_alts_sizes 0 (at + 1) l.alts) (past at (spell_local l)) (one_on at)
-    (and_one (at + 1) (at + 1) (local_alts_sizes 0 (at + 1) l.alts) (spell_local_alts arrow l.alts) semicolon (local_alts_rise 0 (at + 1) arrow l.alts (some_each TermsFit l.alts fits)))
+    (and_one (at + 1) (at + 1) (local_alts_sizes 0 (at + 1) l.alts) (spell_local_alts arrow l.alts) semicolon
+    (local_alts_rise 0 (at + 1) arrow l.alts (some_each TermsFit l.alts fits)))
 
 locals_rise : (k at : ℕ) (ls : List LocalTree) → Each LocalFits ls → Rising at (locals_sizes k at ls) (past at (spell_locals ls))
 locals_rise k at [] fits = le_refl at
@@ -166,7 +183,8 @@ locals_rise k at (l ∷ ls) fits =
       le_refl at,
       begins at (name l.head) ((spell_local_alts arrow l.alts ++ (semicolon ∷ [])) ++ spell_locals ls),
       subst (Rising at (first ++ locals_sizes (k + 1) next ls)) (sym (past_append at (spell_local l) (spell_locals ls)))
-          (rising_append at first next (locals_sizes (k + 1) next ls) (past next (spell_locals ls)) (local_rises at l fits.0) (locals_rise (k + 1) next ls fits.1)),
+          (rising_append at first next (locals_sizes (k + 1) next ls) (past next (spell_locals ls)) (local_rises at l fits.0)
+          (locals_rise (k + 1) next ls fits.1)),
     )
 
 where_rises : (k at : ℕ) (ls : List LocalTree) → Each LocalFits ls → Rising at (locals_sizes k (at + 1 + 1) ls) (past at (spell_where ls))
@@ -179,7 +197,8 @@ alt_rises : (k at : ℕ) (a : AltTree) → AltFits a → Rising at (alt_sizes k 
 alt_rises k at a fits =
     let mid : ℕ = past at (spell_terms a.terms) in
     subst (Rising at (alt_sizes k at a)) (sym (past_append at (spell_terms a.terms) (spell_where a.locals)))
-    (rising_append at (terms_sizes 0 at a.terms) mid (locals_sizes k (mid + 1 + 1) a.locals) (past mid (spell_where a.locals)) (terms_rise 0 at a.terms) (where_rises k mid a.locals fits.1))
+    (rising_append at (terms_sizes 0 at a.terms) mid (locals_sizes k (mid + 1 + 1) a.locals) (past mid (spell_where a.locals)) (terms_rise 0 at a.terms)
+    (where_rises k mid a.locals fits.1))
 
 alts_rise : (k n at : ℕ) (m : Tok) (alts : List AltTree) → Each AltFits alts → Rising at (alts_sizes k n at alts) (past at (spell_alts m alts))
 alts_rise k n at m [] fits = le_refl at
@@ -192,7 +211,8 @@ alts_rise k n at m (a ∷ alts) fits =
       one_on at,
       first_token,
       subst (Rising (at + 1) (alt_sizes k (at + 1) a ++ alts_sizes later (n + 1) next alts)) (sym (past_append (at + 1) (spell_alt a) (spell_alts slash alts)))
-          (rising_append (at + 1) (alt_sizes k (at + 1) a) next (alts_sizes later (n + 1) next alts) (past next (spell_alts slash alts)) (alt_rises k (at + 1) a fits.0)
+          (rising_append (at + 1) (alt_sizes k (at + 1) a) next (alts_sizes later (n + 1) next alts) (past next (spell_alts slash alts))
+          (alt_rises k (at + 1) a fits.0)
           (alts_rise later (n + 1) next slash alts fits.1)),
     )
 
@@ -264,4 +284,5 @@ module _ (rs : List RuleTree) (fits : Fits rs) (o : Over) (first : first_over (s
   first_least = over_least 0 (sizes rs) (past 0 (spell rs)) o rise first
 
   pub first_there : o.at < length (spell rs)
-  first_there = let there : o.at < past 0 (spell rs) = over_there 0 (sizes rs) (past 0 (spell rs)) o rise first in omega (arith, there, past_length 0 (spell rs))
+  first_there = let there : o.at < past 0 (spell rs) = over_there 0 (sizes rs) (past 0 (spell rs)) o rise first in omega
+      (arith, there, past_length 0 (spell rs))

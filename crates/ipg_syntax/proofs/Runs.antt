@@ -28,8 +28,10 @@ ending_spelled : (at : ℕ) (log : _) (pos : Pos trees) → KeptPos pos → OnGo
 ending_spelled at log (Machine.between rs) kept = record { fits = kept; same = append-nil (spell rs) }
 ending_spelled at log pos kept = tt
 
-onward_spelled : (at : ℕ) (before : Toks → Toks) (t : Tok) (ts : Toks) (o : Option (State trees)) (k : State trees → Result (Read trees) ℕ) → Next (StateNext before t) o
-    → ((s : State trees) → KeptPos s.pos → OnGood (λ r. Spelled (pos_before s.pos ts) r.rules) (k s)) → OnGood (λ r. Spelled (before (t ∷ ts)) r.rules) (onward at o k)
+onward_spelled : (at : ℕ) (before : Toks → Toks) (t : Tok) (ts : Toks) (o : Option (State trees)) (k : State trees → Result (Read trees) ℕ)
+    → Next (StateNext before t) o
+    → ((s : State trees) → KeptPos s.pos → OnGood (λ r. Spelled (pos_before s.pos ts) r.rules) (k s))
+    → OnGood (λ r. Spelled (before (t ∷ ts)) r.rules) (onward at o k)
 onward_spelled at before t ts (Some s) k next rest = moved (k s) (rest s next.kept)
   where
     moved : (v : Result (Read trees) ℕ) → OnGood (λ r. Spelled (pos_before s.pos ts) r.rules) v → OnGood (λ r. Spelled (before (t ∷ ts)) r.rules) v
@@ -93,7 +95,8 @@ onward_stuck at s t ts (Some next) is kept taken rest = moved (verdict trees (at
       pos = stuck.pos;
       kept = stuck.kept;
       same = λ r. taken.same (classes stuck.read ++ r) ∙ stuck.same r;
-      stops = λ u us zs here. ap (λ o. onward at o (λ after. verdict trees (at + 1) after (classes stuck.read ++ (class_of u ∷ zs)))) is ∙ stuck.stops u us zs here;
+      stops = λ u us zs here. ap (λ o. onward at o (λ after. verdict trees (at + 1) after (classes stuck.read ++ (class_of u ∷ zs)))) is
+          ∙ stuck.stops u us zs here;
     }
 onward_stuck at s t ts None is kept taken rest = record {
   read = [];
@@ -103,7 +106,8 @@ onward_stuck at s t ts None is kept taken rest = record {
   pos = s.pos;
   kept = kept;
   same = λ r. refl;
-  stops = λ u us zs here. ap (λ o. onward at o (λ after. verdict trees (at + 1) after zs)) (ap (λ x. Machine.step trees at s (class_of x)) (sym (ap (λ xs. first_or xs t) here)) ∙ is);
+  stops = λ u us zs here. ap (λ o. onward at o (λ after. verdict trees (at + 1) after zs))
+      (ap (λ x. Machine.step trees at s (class_of x)) (sym (ap (λ xs. first_or xs t) here)) ∙ is);
 }
 
 pub run_stuck : (ts : List Token) (at : ℕ) (s : State trees) → KeptPos s.pos → OnBad (Stuck at s ts) (verdict trees at s (classes ts))

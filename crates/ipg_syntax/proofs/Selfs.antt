@@ -1,6 +1,7 @@
 -- By the actions that make trees, a tree makes itself.
 use Rattle.std.proofs.Common.{◌≡◌, List, [], ◌∷◌, ◌++◌, refl, ap, ap₂, ◌∙◌, sym, append_assoc, append-nil}
-use Rattle.ipg_syntax.specs.Written.{ExprTree, num, eoi, own, part, item, group, neg, isnt, two, choose, PlaceTree, anywhere, long, ends, SlotTree, CaseTree, TermTree, slot_term, set_term, test_term, repeat_term, many_term, pick_term, LocalTree, AltTree, RuleTree}
+use Rattle.ipg_syntax.specs.Written.{ExprTree, num, eoi, own, part, item, group, neg, isnt, two, choose, PlaceTree, anywhere, long, ends, SlotTree, CaseTree}
+use Rattle.ipg_syntax.specs.Written.{TermTree, slot_term, set_term, test_term, repeat_term, many_term, pick_term, LocalTree, AltTree, RuleTree}
 use Rattle.ipg_syntax.specs.Making.{trees, last, expr_by, place_by, slot_by, cases_by, term_by, terms_by, local_alts_by, locals_by, alts_by, rules_by}
 
 self_expr : (e : ExprTree) → expr_by trees e ≡ e
@@ -56,14 +57,16 @@ self_locals : (before ls : List LocalTree) → locals_by trees before ls ≡ bef
 self_locals before [] = sym (append-nil before)
 self_locals before (l ∷ ls) =
     self_locals (last before (record { head = l.head; alts = local_alts_by trees [] l.alts })) ls
-    ∙ moved before (record { head = l.head; alts = local_alts_by trees [] l.alts }) l ls (ap (λ las. record { head = l.head; alts = las }) (self_local_alts [] l.alts))
+    ∙ moved before (record { head = l.head; alts = local_alts_by trees [] l.alts }) l ls
+    (ap (λ las. record { head = l.head; alts = las }) (self_local_alts [] l.alts))
 
 self_alts : (before alts : List AltTree) → alts_by trees before alts ≡ before ++ alts
 self_alts before [] = sym (append-nil before)
 self_alts before (a ∷ alts) =
     self_alts (last before (record { terms = terms_by trees [] a.terms; locals = locals_by trees [] a.locals })) alts
     ∙ moved before (record { terms = terms_by trees [] a.terms; locals = locals_by trees [] a.locals }) a alts
-    (ap (λ ts. record { terms = ts; locals = locals_by trees [] a.locals }) (self_terms [] a.terms) ∙ ap (λ ls. record { terms = a.terms; locals = ls }) (self_locals [] a.locals))
+    (ap (λ ts. record { terms = ts; locals = locals_by trees [] a.locals }) (self_terms [] a.terms)
+    ∙ ap (λ ls. record { terms = a.terms; locals = ls }) (self_locals [] a.locals))
 
 pub self_rules : (before rs : List RuleTree) → rules_by trees before rs ≡ before ++ rs
 self_rules before [] = sym (append-nil before)

@@ -32,7 +32,8 @@ module _ (A : Acts) (log : A.Log) (site : Site A) (before : A.Terms) (base : Bas
   part_end at fs i End rest = refl
 
   item_end : (at : ℕ) (fs : List (Frame A)) (i : Ident) (e : A.Expr) (f : Field) (rest : Toks)
-      → verdict A at (inside (have (Machine.index i ∷ fs) e)) (right_paren ∷ dot ∷ field_tok f ∷ rest) ≡ verdict A (at + 1 + 1 + 1) (inside (have fs (A.item i e f))) rest
+      → verdict A at (inside (have (Machine.index i ∷ fs) e)) (right_paren ∷ dot ∷ field_tok f ∷ rest)
+      ≡ verdict A (at + 1 + 1 + 1) (inside (have fs (A.item i e f))) rest
   item_end at fs i e (Attribute n) rest = refl
   item_end at fs i e Start rest = refl
   item_end at fs i e End rest = refl
@@ -42,13 +43,16 @@ module _ (A : Acts) (log : A.Log) (site : Site A) (before : A.Terms) (base : Bas
   takes_expr (num z) l at fs t rest stands due ends = refl
   takes_expr eoi l at fs t rest stands due ends = refl
   takes_expr (own i) l at fs t rest stands due ends =
-      ap (λ turn. onward (at + 1) (turned A (at + 1) site before t turn) (λ next. verdict A (at + 1 + 1) next rest)) (name_ends A (at + 1) log base first fs i t ends.1)
+      ap (λ turn. onward (at + 1) (turned A (at + 1) site before t turn) (λ next. verdict A (at + 1 + 1) next rest))
+      (name_ends A (at + 1) log base first fs i t ends.1)
   takes_expr (part i f) l at fs t rest stands due ends = part_end at fs i f (t ∷ rest)
   takes_expr (item i e f) l at fs t rest stands due ends =
-      ap (λ toks. verdict A (at + 1 + 1) (inside (want (Machine.index i ∷ fs))) toks) (append_assoc (spell_expr e) (right_paren ∷ dot ∷ field_tok f ∷ []) (t ∷ rest))
+      ap (λ toks. verdict A (at + 1 + 1) (inside (want (Machine.index i ∷ fs))) toks)
+      (append_assoc (spell_expr e) (right_paren ∷ dot ∷ field_tok f ∷ []) (t ∷ rest))
       ∙ takes_expr e 0 (at + 1 + 1) (Machine.index i ∷ fs) right_paren (dot ∷ field_tok f ∷ t ∷ rest) stands (le_refl 0) (le_refl 0, refl)
       ∙ item_end (past (at + 1 + 1) (spell_expr e)) fs i (expr_by A e) f (t ∷ rest)
-      ∙ ap (λ n. verdict A n (inside (have fs (A.item i (expr_by A e) f))) (t ∷ rest)) (sym (past_append (at + 1 + 1) (spell_expr e) (right_paren ∷ dot ∷ field_tok f ∷ [])))
+      ∙ ap (λ n. verdict A n (inside (have fs (A.item i (expr_by A e) f))) (t ∷ rest))
+      (sym (past_append (at + 1 + 1) (spell_expr e) (right_paren ∷ dot ∷ field_tok f ∷ [])))
   takes_expr (group e) l at fs t rest stands due ends =
       ap (λ toks. verdict A (at + 1) (inside (want (Machine.group ∷ fs))) toks) (append_assoc (spell_expr e) (right_paren ∷ []) (t ∷ rest))
       ∙ takes_expr e 0 (at + 1) (Machine.group ∷ fs) right_paren (t ∷ rest) stands (le_refl 0) (le_refl 0, refl)
@@ -67,8 +71,10 @@ module _ (A : Acts) (log : A.Log) (site : Site A) (before : A.Terms) (base : Bas
       let tight : tightness t ≤ level i = le_trans ends.0 stands.0 in
       ap (λ toks. verdict A at (inside (want fs)) toks) (append_assoc (spell_expr a) (sign i ∷ spell_expr b) (t ∷ rest))
       ∙ takes_expr a (level i) at fs (sign i) (spell_expr b ++ (t ∷ rest)) stands.1 fits (le_refl (level i), refl)
-      ∙ ap (λ c. verdict A (mid + 1) (inside (Machine.with_left i c)) (spell_expr b ++ (t ∷ rest))) (close_none A (level i) fs a' fits (level_low i) (level_high i))
-      ∙ takes_expr b (level i + 1) (mid + 1) (Machine.left i a' ∷ fs) t rest stands.2 (le_refl (level i + 1)) (let up : tightness t ≤ level i + 1 = omega arith in up, ends.1)
+      ∙ ap (λ c. verdict A (mid + 1) (inside (Machine.with_left i c)) (spell_expr b ++ (t ∷ rest)))
+      (close_none A (level i) fs a' fits (level_low i) (level_high i))
+      ∙ takes_expr b (level i + 1) (mid + 1) (Machine.left i a' ∷ fs) t rest stands.2 (le_refl (level i + 1))
+      (let up : tightness t ≤ level i + 1 = omega arith in up, ends.1)
       ∙ alike (past (mid + 1) (spell_expr b)) (Machine.left i a' ∷ fs) fs b' (A.two i a' b') t rest (close_left A (tightness t) fs i a' b' tight)
       ∙ ap (λ n. verdict A n (inside (have fs (A.two i a' b'))) (t ∷ rest)) (sym (past_append at (spell_expr a) (sign i ∷ spell_expr b)))
   takes_expr (choose c span a b) l at fs t rest stands due ends =
@@ -80,12 +86,15 @@ module _ (A : Acts) (log : A.Log) (site : Site A) (before : A.Terms) (base : Bas
       let loose : need fs ≤ 0 = le_trans due stands.0 in
       let whole : Ends 0 t = (le_trans ends.0 stands.0, ends.1) in
       ap (λ toks. verdict A at (inside (want fs)) toks) (append_assoc (spell_expr c) (question span ∷ (spell_expr a ++ (colon ∷ spell_expr b))) (t ∷ rest))
-      ∙ takes_expr c 1 at fs (question span) ((spell_expr a ++ (colon ∷ spell_expr b)) ++ (t ∷ rest)) stands.1 (let up : need fs ≤ 1 = omega arith in up) (le_refl 1, refl)
+      ∙ takes_expr c 1 at fs (question span) ((spell_expr a ++ (colon ∷ spell_expr b)) ++ (t ∷ rest)) stands.1 (let up : need fs ≤ 1 = omega arith in up)
+      (le_refl 1, refl)
       ∙ ap (λ d. verdict A (mid + 1) (inside (Machine.with_test span d)) ((spell_expr a ++ (colon ∷ spell_expr b)) ++ (t ∷ rest)))
       (close_none A 1 fs c' (let up : need fs ≤ 1 = omega arith in up) (le_refl 1) (lit≤ tt))
       ∙ ap (λ toks. verdict A (mid + 1) (inside (want (Machine.then_of c' span ∷ fs))) toks) (append_assoc (spell_expr a) (colon ∷ spell_expr b) (t ∷ rest))
       ∙ takes_expr a 0 (mid + 1) (Machine.then_of c' span ∷ fs) colon (spell_expr b ++ (t ∷ rest)) stands.2 (le_refl 0) (le_refl 0, refl)
       ∙ takes_expr b 0 (late + 1) (Machine.else_of c' span a' ∷ fs) t rest stands.3 (le_refl 0) whole
-      ∙ alike (past (late + 1) (spell_expr b)) (Machine.else_of c' span a' ∷ fs) fs b' (A.choose c' span a' b') t rest (close_else A (tightness t) fs c' span a' b' whole.0)
+      ∙ alike (past (late + 1) (spell_expr b)) (Machine.else_of c' span a' ∷ fs) fs b' (A.choose c' span a' b') t rest
+      (close_else A (tightness t) fs c' span a' b' whole.0)
       ∙ ap (λ n. verdict A n (inside (have fs (A.choose c' span a' b'))) (t ∷ rest))
-      (sym (past_append at (spell_expr c) (question span ∷ (spell_expr a ++ (colon ∷ spell_expr b))) ∙ past_append (mid + 1) (spell_expr a) (colon ∷ spell_expr b)))
+      (sym (past_append at (spell_expr c) (question span ∷ (spell_expr a ++ (colon ∷ spell_expr b)))
+      ∙ past_append (mid + 1) (spell_expr a) (colon ∷ spell_expr b)))

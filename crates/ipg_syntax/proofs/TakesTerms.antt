@@ -5,10 +5,13 @@ use Rattle.ipg_ast.specs.declared.grammar.Span.{Span}
 use Rattle.ipg_ast.specs.declared.grammar.What.{What}
 use Rattle.ipg_ast.specs.declared.grammar.What.TheVariants.{Text, Call}
 use Rattle.ipg_syntax.specs.Classes.{Tok, name, comma, right_paren, left_bracket, right_bracket, right_brace, to_word, do_word, else_word}
-use Rattle.ipg_syntax.specs.Written.{Toks, ExprTree, PlaceTree, anywhere, long, ends, SlotTree, CaseTree, TermTree, slot_term, set_term, test_term, repeat_term, many_term, pick_term, what_tok, spell_expr, spell_place, spell_slot, spell_case, spell_cases, spell_term, spell_terms, Stands, PlaceFits, SlotFits, CaseFits, TermFits, TermsFit, Each, SomeEach}
+use Rattle.ipg_syntax.specs.Written.{Toks, ExprTree, PlaceTree, anywhere, long, ends, SlotTree, CaseTree, TermTree, slot_term, set_term, test_term}
+use Rattle.ipg_syntax.specs.Written.{repeat_term, many_term, pick_term, what_tok, spell_expr, spell_place, spell_slot, spell_case, spell_cases, spell_term}
+use Rattle.ipg_syntax.specs.Written.{spell_terms, Stands, PlaceFits, SlotFits, CaseFits, TermFits, TermsFit, Each, SomeEach}
 use Rattle.ipg_syntax.specs.Limits.{past}
 use Rattle.ipg_syntax.specs.Machine
-use Rattle.ipg_syntax.specs.Machine.{Acts, want, have, Base, SlotUse, alone, chosen, other, Site, State, Turn, in_term, after_term, slot_named, slot_due, next_case, pick_close, expr, turned, onward, slot_done, slot_passed, slot_move, many_move, many_named, passed, verdict}
+use Rattle.ipg_syntax.specs.Machine.{Acts, want, have, Base, SlotUse, alone, chosen, other, Site, State, Turn, in_term, after_term, slot_named, slot_due}
+use Rattle.ipg_syntax.specs.Machine.{next_case, pick_close, expr, turned, onward, slot_done, slot_passed, slot_move, many_move, many_named, passed, verdict}
 use Rattle.ipg_syntax.specs.Making.{expr_by, place_by, slot_by, cases_by, term_by, terms_by}
 use Rattle.ipg_syntax.proofs.Frames.{Ends}
 use Rattle.ipg_syntax.proofs.TakesExprs.{takes_expr, past_append}
@@ -82,7 +85,8 @@ module _ (A : Acts) (site : Site A) (before : A.Terms) where
   takes_place log u w span (long e) at rest fits plain =
       expr_then log (Machine.length_or_left u w span) e (at + 1) right_bracket [] rest fits (le_refl 0, refl)
       ∙ settled_done (past (at + 1) (spell_expr e)) (log_place A at (long e) log) u (A.slot w span (place_by A (long e))) right_bracket rest
-      ∙ ap (λ n. verdict A n (settled (log_place A at (long e) log) u (A.slot w span (place_by A (long e)))) rest) (sym (past_append (at + 1) (spell_expr e) (right_bracket ∷ [])))
+      ∙ ap (λ n. verdict A n (settled (log_place A at (long e) log) u (A.slot w span (place_by A (long e)))) rest)
+      (sym (past_append (at + 1) (spell_expr e) (right_bracket ∷ [])))
   takes_place log u w span (ends l r) at rest fits plain =
       let mid : ℕ = past (at + 1) (spell_expr l) in
       let s : A.Slot = A.slot w span (place_by A (ends l r)) in
@@ -127,10 +131,12 @@ module _ (A : Acts) (site : Site A) (before : A.Terms) where
       ap (λ toks. verdict A at (part_state log (next_case span made)) toks) (append_assoc (spell_case c) (spell_cases cs) rest)
       ∙ takes_case log span made c at (spell_cases cs ++ rest) fits.0 (plain_cases cs rest plain)
       ∙ takes_cases (log_case A at c log) span more cs (past at (spell_case c)) rest fits.1 plain
-      ∙ ap (λ n. verdict A n (part_state (log_cases A at (c ∷ cs) log) (next_case span (cases_by A more cs))) rest) (sym (past_append at (spell_case c) (spell_cases cs)))
+      ∙ ap (λ n. verdict A n (part_state (log_cases A at (c ∷ cs) log) (next_case span (cases_by A more cs))) rest)
+      (sym (past_append at (spell_case c) (spell_cases cs)))
 
   first_case_as_next : (log : A.Log) (span : Span) (cs : List CaseTree) (at : ℕ) (rest : Toks) → SomeEach CaseFits cs
-      → verdict A at (part_state log (Machine.first_case span)) (spell_cases cs ++ rest) ≡ verdict A at (part_state log (next_case span A.no_cases)) (spell_cases cs ++ rest)
+      → verdict A at (part_state log (Machine.first_case span)) (spell_cases cs ++ rest)
+      ≡ verdict A at (part_state log (next_case span A.no_cases)) (spell_cases cs ++ rest)
   first_case_as_next log span [] at rest fits = absurd fits
   first_case_as_next log span (c ∷ cs) at rest fits = refl
 
@@ -146,7 +152,8 @@ module _ (A : Acts) (site : Site A) (before : A.Terms) where
       ap (λ turn. onward at (turned A at site before t turn) (λ next. verdict A (at + 1) next rest)) (many_moved A at log span i t plain)
   takes_many log span i (long e) at rest fits plain =
       expr_then log (Machine.many_length_or_left span i) e (at + 1) right_bracket [] rest fits (le_refl 0, refl)
-      ∙ ap (λ n. verdict A n (term_state (log_place A at (long e) log) (A.many_term span i (place_by A (long e)))) rest) (sym (past_append (at + 1) (spell_expr e) (right_bracket ∷ [])))
+      ∙ ap (λ n. verdict A n (term_state (log_place A at (long e) log) (A.many_term span i (place_by A (long e)))) rest)
+      (sym (past_append (at + 1) (spell_expr e) (right_bracket ∷ [])))
   takes_many log span i (ends l r) at rest fits plain =
       let mid : ℕ = past (at + 1) (spell_expr l) in
       expr_then log (Machine.many_length_or_left span i) l (at + 1) comma (spell_expr r ++ (right_bracket ∷ [])) rest fits.0 (le_refl 0, refl)
@@ -176,7 +183,8 @@ module _ (A : Acts) (site : Site A) (before : A.Terms) where
       let seen : A.Log = A.saw_term before at log in
       let from : ℕ = at + 1 + 1 in
       expr_then seen (Machine.test_of span) e from right_paren [] rest fits (le_refl 0, refl)
-      ∙ ap (λ n. verdict A n (term_state (log_expr A from e seen) (A.test_term span (expr_by A e))) rest) (sym (past_append from (spell_expr e) (right_paren ∷ [])))
+      ∙ ap (λ n. verdict A n (term_state (log_expr A from e seen) (A.test_term span (expr_by A e))) rest)
+      (sym (past_append from (spell_expr e) (right_paren ∷ [])))
   takes_term log (repeat_term x a b i l r) at rest fits plain =
       let seen : A.Log = A.saw_term before at log in
       let a' : A.Expr = expr_by A a in
@@ -205,13 +213,15 @@ module _ (A : Acts) (site : Site A) (before : A.Terms) where
       let mid : ℕ = past from (spell_cases cs) in
       let told : A.Log = log_cases A from cs seen in
       let cases : A.Cases = cases_by A A.no_cases cs in
-      ap (λ toks. verdict A from (part_state seen (Machine.first_case span)) toks) (append_assoc (spell_cases cs) (else_word ∷ (spell_slot last ++ (right_brace ∷ []))) rest)
+      ap (λ toks. verdict A from (part_state seen (Machine.first_case span)) toks)
+      (append_assoc (spell_cases cs) (else_word ∷ (spell_slot last ++ (right_brace ∷ []))) rest)
       ∙ first_case_as_next seen span cs from (else_word ∷ ((spell_slot last ++ (right_brace ∷ [])) ++ rest)) fits.0
       ∙ takes_cases seen span A.no_cases cs from (else_word ∷ ((spell_slot last ++ (right_brace ∷ [])) ++ rest)) (all_cases cs fits.0) refl
       ∙ ap (λ toks. verdict A (mid + 1) (part_state told (slot_due (other span cases))) toks) (append_assoc (spell_slot last) (right_brace ∷ []) rest)
       ∙ takes_slot told (other span cases) last (mid + 1) (right_brace ∷ rest) fits.1 refl
       ∙ ap (λ n. verdict A n (term_state (log_slot A (mid + 1) last told) (A.pick_term span cases (slot_by A last))) rest)
-      (sym (past_append from (spell_cases cs) (else_word ∷ (spell_slot last ++ (right_brace ∷ []))) ∙ past_append (mid + 1) (spell_slot last) (right_brace ∷ [])))
+      (sym (past_append from (spell_cases cs) (else_word ∷ (spell_slot last ++ (right_brace ∷ [])))
+      ∙ past_append (mid + 1) (spell_slot last) (right_brace ∷ [])))
 
 -- a term's first token is none of those that go on after a term, and no `[`
 pub plain_term : (t : TermTree) (rest : Toks) → NoBracket (spell_term t ++ rest)
@@ -240,7 +250,8 @@ takes_terms A site log before (t ∷ ts) at rest fits plain =
     ap (λ toks. verdict A at (record { log = log; pos = after_term site before }) toks) (append_assoc (spell_term t) (spell_terms ts) rest)
     ∙ takes_term A site before log t at (spell_terms ts ++ rest) fits.0 (plain_terms ts rest plain)
     ∙ takes_terms A site (log_term A at t (A.saw_term before at log)) more ts (past at (spell_term t)) rest fits.1 plain
-    ∙ ap (λ n. verdict A n (record { log = log_terms A before at (t ∷ ts) log; pos = after_term site (terms_by A more ts) }) rest) (sym (past_append at (spell_term t) (spell_terms ts)))
+    ∙ ap (λ n. verdict A n (record { log = log_terms A before at (t ∷ ts) log; pos = after_term site (terms_by A more ts) }) rest)
+    (sym (past_append at (spell_term t) (spell_terms ts)))
 
 first_as_next : (A : Acts) (site : Site A) (log : A.Log) (t : TermTree) (at : ℕ) (rest : Toks)
     → verdict A at (record { log = log; pos = Machine.before_term site }) (spell_term t ++ rest)
@@ -260,10 +271,12 @@ first_as_next A site log (pick_term span cs last) at rest = refl
 -- all terms of an alternative
 pub takes_alt_terms : (A : Acts) (site : Site A) (log : A.Log) (ts : List TermTree) (at : ℕ) (rest : Toks) → TermsFit ts → NoBracket rest
     → verdict A at (record { log = log; pos = Machine.before_term site }) (spell_terms ts ++ rest)
-    ≡ verdict A (past at (spell_terms ts)) (record { log = log_terms A A.no_terms at ts (Machine.saw_alt_at A site at log); pos = after_term site (terms_by A A.no_terms ts) }) rest
+    ≡ verdict A (past at (spell_terms ts))
+    (record { log = log_terms A A.no_terms at ts (Machine.saw_alt_at A site at log); pos = after_term site (terms_by A A.no_terms ts) }) rest
 takes_alt_terms A site log [] at rest fits plain = absurd fits
 takes_alt_terms A site log (t ∷ ts) at rest fits plain =
     ap (λ toks. verdict A at (record { log = log; pos = Machine.before_term site }) toks) (append_assoc (spell_term t) (spell_terms ts) rest)
     ∙ first_as_next A site log t at (spell_terms ts ++ rest)
-    ∙ ap (λ toks. verdict A at (record { log = Machine.saw_alt_at A site at log; pos = after_term site A.no_terms }) toks) (sym (append_assoc (spell_term t) (spell_terms ts) rest))
+    ∙ ap (λ toks. verdict A at (record { log = Machine.saw_alt_at A site at log; pos = after_term site A.no_terms }) toks)
+    (sym (append_assoc (spell_term t) (spell_terms ts) rest))
     ∙ takes_terms A site (Machine.saw_alt_at A site at log) A.no_terms (t ∷ ts) at rest fits plain

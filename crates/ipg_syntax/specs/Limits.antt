@@ -2,7 +2,9 @@
 use Rattle.std.specs.Prelude.{ℕ, ◌+◌, Bool, List, [], ◌∷◌, ◌++◌, length, Option, Some, None, nat_lt, max, if◌then◌else◌}
 use Rattle.ipg_tokens.specs.declared.fault.Which.{Which}
 use Rattle.ipg_tokens.specs.declared.fault.Which.TheVariants.{Rules, Alternatives, Terms, Depth}
-use Rattle.ipg_syntax.specs.Written.{Toks, ExprTree, num, eoi, own, part, item, group, neg, isnt, two, choose, PlaceTree, anywhere, long, ends, SlotTree, CaseTree, TermTree, slot_term, set_term, test_term, repeat_term, many_term, pick_term, LocalTree, AltTree, RuleTree, spell_expr, spell_case, spell_cases, spell_term, spell_terms, spell_local, spell_alt, spell_rule}
+use Rattle.ipg_syntax.specs.Written.{Toks, ExprTree, num, eoi, own, part, item, group, neg, isnt, two, choose, PlaceTree, anywhere, long, ends, SlotTree}
+use Rattle.ipg_syntax.specs.Written.{CaseTree, TermTree, slot_term, set_term, test_term, repeat_term, many_term, pick_term, LocalTree, AltTree, RuleTree}
+use Rattle.ipg_syntax.specs.Written.{spell_expr, spell_case, spell_cases, spell_term, spell_terms, spell_local, spell_alt, spell_rule}
 
 abbrev pub depth : ExprTree → ℕ
 depth (num z) = 1

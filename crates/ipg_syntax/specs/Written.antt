@@ -6,7 +6,9 @@ use Rattle.ipg_ast.specs.declared.grammar.What.{What}
 use Rattle.ipg_ast.specs.declared.grammar.What.TheVariants.{Text as TextWhat, Call}
 use Rattle.ipg_ast.specs.declared.grammar.Field.{Field}
 use Rattle.ipg_ast.specs.declared.grammar.Field.TheVariants.{Id as Attribute, Start, End}
-use Rattle.ipg_syntax.specs.Classes.{Infix, level, Tok, name, number, text, sign, bang, question, colon, dot, comma, equals, arrow, semicolon, left_paren, right_paren, left_bracket, right_bracket, left_brace, right_brace, for_word, to_word, do_word, switch_word, case_word, else_word, where_word, start_word, end_word, eoi_word, many_word, minus, slash}
+use Rattle.ipg_syntax.specs.Classes.{Infix, level, Tok, name, number, text, sign, bang, question, colon, dot, comma, equals, arrow, semicolon, left_paren}
+use Rattle.ipg_syntax.specs.Classes.{right_paren, left_bracket, right_bracket, left_brace, right_brace, for_word, to_word, do_word, switch_word}
+use Rattle.ipg_syntax.specs.Classes.{case_word, else_word, where_word, start_word, end_word, eoi_word, many_word, minus, slash}
 
 abbrev pub Toks : Type 0
 Toks = List Tok

@@ -1,8 +1,10 @@
 -- A front takes a byte at least, and no more than there are.
-use Rattle.std.proofs.Common.{◌≡◌, ℕ, zero, suc, ◌+◌, ◌-◌, ◌≤◌, List, [], ◌∷◌, Option, Some, None, Bool, true, false, ◌||◌, ◌==◌, cond, drop, length, arith, refl, ap, sym, subst, true≢false}
+use Rattle.std.proofs.Common.{◌≡◌, ℕ, zero, suc, ◌+◌, ◌-◌, ◌≤◌, List, [], ◌∷◌, Option, Some, None, Bool, true, false}
+use Rattle.std.proofs.Common.{◌||◌, ◌==◌, cond, drop, length, arith, refl, ap, sym, subst, true≢false}
 use Rattle.std.specs.Prelude.{ℤ, if◌then◌else◌}
 use Rattle.std.proofs.lemmas.Bool.{eqb-true}
-use Rattle.ipg_tokens.specs.Lexical.{Quoted, quoted, item, with_item, after_bytes, text_front, in_class, run, is_white, is_letter, is_digit, is_prefixed, is_pair, is_single, single_front, symbol_front, front_of_value, hexadecimal_front, number_front, front_of}
+use Rattle.ipg_tokens.specs.Lexical.{Quoted, quoted, item, with_item, after_bytes, text_front, in_class, run, is_white, is_letter, is_digit, is_prefixed}
+use Rattle.ipg_tokens.specs.Lexical.{is_pair, is_single, single_front, symbol_front, front_of_value, hexadecimal_front, number_front, front_of}
 use Rattle.ipg_tokens.specs.Within.{TakesWithin, WidthWithin, width_of}
 use Rattle.ipg_tokens.specs.declared.front.Front.{Front}
 use Rattle.ipg_tokens.specs.declared.front.Front.TheVariants.{Nothing, Blank, Large, Token as Begins}
@@ -46,7 +48,8 @@ byte_within : (o : Option Quoted) (c n m : ℕ) → QuotedWithin o (n - 1) m →
 byte_within (Some q) c n m within = omega arith
 byte_within None c n m within = tt
 
-item_within : (i : Item) (bs : List ℕ) → ((k : ℕ) → QuotedWithin (quoted k bs) k (length bs)) → QuotedWithin (with_item i (λ more. quoted more bs)) 0 (suc (length bs))
+item_within : (i : Item) (bs : List ℕ) → ((k : ℕ) → QuotedWithin (quoted k bs) k (length bs))
+    → QuotedWithin (with_item i (λ more. quoted more bs)) 0 (suc (length bs))
 item_within End bs rest = omega arith
 item_within (Byte c n) bs rest = byte_within (quoted (n - 1) bs) c n (length bs) (rest (n - 1))
 item_within Bad bs rest = tt
@@ -69,7 +72,8 @@ single_within b m = choose (λ f. TakesWithin f (suc m)) (is_single b) _ _ (λ e
 
 symbol_within : (b : ℕ) (bs : List ℕ) → TakesWithin (symbol_front b bs) (suc (length bs))
 symbol_within b [] = single_within b 0
-symbol_within b (c ∷ cs) = choose (λ f. TakesWithin f (suc (suc (length cs)))) (is_pair b c) _ _ (λ e. (omega arith, omega arith)) (λ e. single_within b (suc (length cs)))
+symbol_within b (c ∷ cs) = choose (λ f. TakesWithin f (suc (suc (length cs)))) (is_pair b c) _ _ (λ e. (omega arith, omega arith))
+    (λ e. single_within b (suc (length cs)))
 
 number_within : (b : ℕ) (bs : List ℕ) → is_digit b ≡ true → TakesWithin (number_front (b ∷ bs)) (suc (length bs))
 number_within b bs digit = choose (λ f. TakesWithin f (suc (length bs))) (is_prefixed (b ∷ bs)) _ _

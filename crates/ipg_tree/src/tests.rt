@@ -28,7 +28,8 @@ fn lines_of_leaves(rt: HostRuntime) -> Result<(), Fail> {
     ];
     assert_eq!(rt; wrote, [Ok(()); 5]);
     let want =
-        b"3 tok 1 3 00ff\n1 Bytes 9 9 -\n2 Bytes 0 33 abababababababababababababababababababababababababababababababab+1\n1 U64LE 0 8 hi=1 lo=2\n12 U8 8 9 val=255\n";
+        b"3 tok 1 3 00ff\n1 Bytes 9 9 -\n2 Bytes 0 33 abababababababababababababababababababababababababababababababab+1\n\
+          1 U64LE 0 8 hi=1 lo=2\n12 U8 8 9 val=255\n";
     assert_eq!(rt; out.bytes(), want.as_slice());
     Ok(())
 }

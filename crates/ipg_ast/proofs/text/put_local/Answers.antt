@@ -9,5 +9,6 @@ use Rattle.ipg_ast.proofs.text.put_local.Goals as goal
 pub returns : goal.returns
 returns c =
     let a : Wrote c.args.out.now.items ((out-Rule c.args.rule.now).name.name ++ (32 ∷ [])) c.put.new.out.items = record { is = search rules } in
-    let b : Wrote c.put.new.out.items (tokens_text (local_alts_tokens (out-Rule c.args.rule.now).alts)) c.put_local_alts.new.out.items = record { is = search rules } in
+    let b : Wrote c.put.new.out.items (tokens_text (local_alts_tokens (out-Rule c.args.rule.now).alts)) c.put_local_alts.new.out.items =
+    record { is = search rules } in
     finally _ _ _ _ (then a b) (local_text _ _) c.put_end.ensures

@@ -6,5 +6,6 @@ use Rattle.ipg_ast.proofs.text.put_local_alts.Given as goal
 
 abbrev pub invariant-loop-alt : goal.invariant-loop-alt
 invariant-loop-alt l =
-    (l.out.items ++ tokens_text (local_alts_from (Symbol l.mark) (drop l.alt-index l.alts)) ≡ l.initial.out.items ++ tokens_text (local_alts_from (Symbol (codes "->")) l.alts))
+    (l.out.items ++ tokens_text (local_alts_from (Symbol l.mark) (drop l.alt-index l.alts)) ≡ l.initial.out.items
+    ++ tokens_text (local_alts_from (Symbol (codes "->")) l.alts))
     × (is_semicolon l.mark ≡ false)

@@ -14,7 +14,8 @@ returns-in_ok-put_expr-in-Set c =
     let d : Wrote c.put-in-Set.new.out.items (61 ∷ 32 ∷ []) c.put-in-Set-2.new.out.items = record { is = search rules } in
     let e : Wrote c.put-in-Set-2.new.out.items (text c.in-Set.value) c.put_expr.new.out.items = record { is = search rules } in
     let shape : c.args.term.now ≡ Set c.in-Set.name c.in-Set.value = search rules in
-    finally _ _ _ _ (then (then (then a b) d) e) (set_text c.in-Set.name c.in-Set.value ∙ ap (λ t. tokens_text (term_tokens t)) (sym shape)) c.put-in-Set-3.ensures
+    finally _ _ _ _ (then (then (then a b) d) e) (set_text c.in-Set.name c.in-Set.value ∙ ap (λ t. tokens_text (term_tokens t)) (sym shape))
+    c.put-in-Set-3.ensures
 
 pub returns-in_ok-put_expr-in-Test : goal.returns-in_ok-put_expr-in-Test
 returns-in_ok-put_expr-in-Test c =
@@ -35,7 +36,9 @@ returns-in_ok-put-in-Repeat-6 c =
     let h : Wrote c.put_expr-in-Repeat-2.new.out.items (100 ∷ 111 ∷ 32 ∷ []) c.put-in-Repeat-5.new.out.items = record { is = search rules } in
     let i : Wrote c.put-in-Repeat-5.new.out.items (c.in-Repeat.item.name ++ (32 ∷ [])) c.put-in-Repeat-6.new.out.items = record { is = search rules } in
     let shape : c.args.term.now ≡ Repeat c.in-Repeat.var c.in-Repeat.first c.in-Repeat.last c.in-Repeat.item c.in-Repeat.from c.in-Repeat.to = search rules in
-    finally _ _ _ _ (then (then (then (then (then (then (then a b) d) e) f) g) h) i) (repeat_text c.in-Repeat.var c.in-Repeat.item c.in-Repeat.first c.in-Repeat.last c.in-Repeat.from c.in-Repeat.to ∙ ap (λ t. tokens_text (term_tokens t)) (sym shape)) c.put_ends.ensures
+    finally _ _ _ _ (then (then (then (then (then (then (then a b) d) e) f) g) h) i)
+    (repeat_text c.in-Repeat.var c.in-Repeat.item c.in-Repeat.first c.in-Repeat.last c.in-Repeat.from c.in-Repeat.to
+    ∙ ap (λ t. tokens_text (term_tokens t)) (sym shape)) c.put_ends.ensures
 
 pub returns-in_ok-put_slot-in-Pick : goal.returns-in_ok-put_slot-in-Pick
 returns-in_ok-put_slot-in-Pick c =
@@ -45,4 +48,5 @@ returns-in_ok-put_slot-in-Pick c =
     let e : Wrote c.put_cases.new.out.items (101 ∷ 108 ∷ 115 ∷ 101 ∷ 32 ∷ []) c.put-in-Pick-3.new.out.items = record { is = search rules } in
     let f : Wrote c.put-in-Pick-3.new.out.items (tokens_text (slot_tokens c.in-Pick.other)) c.put_slot-in-Pick.new.out.items = record { is = search rules } in
     let shape : c.args.term.now ≡ Pick c.in-Pick.at c.in-Pick.cases c.in-Pick.other = search rules in
-    finally _ _ _ _ (then (then (then (then a b) d) e) f) (pick_text c.in-Pick.at c.in-Pick.cases c.in-Pick.other ∙ ap (λ t. tokens_text (term_tokens t)) (sym shape)) c.put-in-Pick-4.ensures
+    finally _ _ _ _ (then (then (then (then a b) d) e) f)
+    (pick_text c.in-Pick.at c.in-Pick.cases c.in-Pick.other ∙ ap (λ t. tokens_text (term_tokens t)) (sym shape)) c.put-in-Pick-4.ensures

@@ -7,7 +7,8 @@ use Rattle.ipg_cert.proofs.checking.run.Given as goal
 -- the steps that are left refute the goals that are left exactly where all of them refute the first
 abbrev pub invariant-loop-step : goal.invariant-loop-step
 invariant-loop-step l = record {
-  left : refutes l.vars (drop l.step-index l.steps) (open_goals l.known.items l.goals.items) ≡ refutes l.vars l.steps (open_goals l.fn.known.items l.fn.goals.items);
+  left : refutes l.vars (drop l.step-index l.steps) (open_goals l.known.items l.goals.items)
+      ≡ refutes l.vars l.steps (open_goals l.fn.known.items l.fn.goals.items);
   stack : AreOpen (length l.known.items) l.goals.items;
   zero : AreZero l.totals.items;
 }

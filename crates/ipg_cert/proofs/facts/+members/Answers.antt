@@ -18,4 +18,5 @@ add_formula-returns-in-Any t c =
     let fact = known.Choice c.as_slice-in-Any.result in
     on_ok c.push_fact-in-Any.result (c.push_fact-in-Any.new.known.items ≡ c.args.known.now.items ++ fact ∷ [])
     (Appends c.args.known.now.items c.push_fact-in-Any.new.known.items (facts_of c.args.f.now))
-    (λ e. (fact ∷ [], e, ap (λ fs. Choice fs ∷ []) c.as_slice-in-Any.ensures ∙ sym (ap facts_of c.in-Any.is ∙ facts_of-Any c.in-Any.members))) c.push_fact-in-Any.ensures
+    (λ e. (fact ∷ [], e, ap (λ fs. Choice fs ∷ []) c.as_slice-in-Any.ensures ∙ sym (ap facts_of c.in-Any.is ∙ facts_of-Any c.in-Any.members)))
+    c.push_fact-in-Any.ensures

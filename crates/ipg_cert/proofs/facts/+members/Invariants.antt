@@ -8,4 +8,5 @@ use Rattle.ipg_cert.proofs.facts.+members.Given as goal
 -- the facts put so far, and those of the members that are left, are those of all members
 abbrev pub invariant-add_members-loop-member : goal.invariant-add_members-loop-member
 invariant-add_members-loop-member l =
-    (more : List Known) × (l.known.items ≡ l.fn.known.items ++ more) × (all_seen more ++ flat_map facts_of (drop l.member-index l.members) ≡ flat_map facts_of l.members)
+    (more : List Known) × (l.known.items ≡ l.fn.known.items ++ more)
+    × (all_seen more ++ flat_map facts_of (drop l.member-index l.members) ≡ flat_map facts_of l.members)

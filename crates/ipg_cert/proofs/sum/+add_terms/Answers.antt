@@ -14,7 +14,9 @@ add_term-requires-clause-size t c =
 pub returns-in_ok-add_terms-in-len1-up : goal.returns-in_ok-add_terms-in-len1-up
 returns-in_ok-add_terms-in-len1-up t c =
     on_ok c.add_term.result
-    (AddsAt c.add_terms.new.totals.items c.add_term.new.totals.items (get_or c.args.terms.now 0 (0, pos 0)).0 (pos c.args.weight *ℤ (get_or c.args.terms.now 0 (0, pos 0)).1))
+    (AddsAt c.add_terms.new.totals.items c.add_term.new.totals.items (get_or c.args.terms.now 0 (0, pos 0)).0
+    (pos c.args.weight *ℤ (get_or c.args.terms.now 0 (0, pos 0)).1))
     (AddsTerms c.args.totals.now.items c.add_term.new.totals.items c.args.weight c.args.terms.now)
-    (adds_more c.args.totals.now.items c.add_terms.new.totals.items c.add_term.new.totals.items c.args.weight c.args.terms.now c.in-len1-up.len_at_least c.in_ok-add_terms-in-len1-up.ensures)
+    (adds_more c.args.totals.now.items c.add_terms.new.totals.items c.add_term.new.totals.items c.args.weight c.args.terms.now c.in-len1-up.len_at_least
+    c.in_ok-add_terms-in-len1-up.ensures)
     c.add_term.ensures

@@ -16,5 +16,6 @@ returns c =
     let same : to_z w64 (of_z w64 bound.sign) ≡ bound.sign = omega (arith, ints) in
     let kept : to_z w128 (of_z w128 bound.constant) ≡ bound.constant = omega (arith, ints, bound.sized) in
     added c.args.weight c.args.totals.now.items c.add_terms.new.totals.items _ c.weighted.result (form_of bound) c.requires.weight (omega arith)
-    (ap (λ b. b && true) bound.coefficient) (subst (λ s. AddsTerms c.args.totals.now.items c.add_terms.new.totals.items c.args.weight ((bound.var, s) ∷ [])) same c.in_ok-add_terms.ensures)
+    (ap (λ b. b && true) bound.coefficient)
+    (subst (λ s. AddsTerms c.args.totals.now.items c.add_terms.new.totals.items c.args.weight ((bound.var, s) ∷ [])) same c.in_ok-add_terms.ensures)
     (omega (arith, ints)) (c.weighted.ensures.value ∙ ap (λ z. pos c.args.weight *ℤ z) kept) c.weighted.ensures.size

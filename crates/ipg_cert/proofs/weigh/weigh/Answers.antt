@@ -18,5 +18,6 @@ loop-entry-preserved c =
     let weighs : Weighs entry.0 c.loop-entry.totals.items c.add_entry.new.totals.items (Some c.in-Some.more) (form_of_entry facts entry) =
     subst (λ o. Weighs entry.0 c.loop-entry.totals.items c.add_entry.new.totals.items o (form_of_entry facts entry)) c.in-Some.is c.in_ok-more.ensures in
     let size = weighs_size entry.0 c.loop-entry.totals.items c.add_entry.new.totals.items c.in-Some.more (form_of_entry facts entry) weighs in
-    weighed facts c.args.entries.now c.loop-entry.entry-index c.loop-entry.totals.items c.add_entry.new.totals.items (to_z w128 c.loop-entry.constant-bits) c.in-Some.more _ (0, 0) (omega arith)
+    weighed facts c.args.entries.now c.loop-entry.entry-index c.loop-entry.totals.items c.add_entry.new.totals.items
+    (to_z w128 c.loop-entry.constant-bits) c.in-Some.more _ (0, 0) (omega arith)
     c.loop-entry.invariant weighs (omega (arith, ints, c.plus-constant.ensures.value, c.plus-constant.type_inv, size))

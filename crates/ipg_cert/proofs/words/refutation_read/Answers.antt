@@ -15,8 +15,11 @@ returns-in-Ok-clause-back c steps words rest text split =
 
 pub returns-in-Err-At-clause-is : goal.returns-in-Err-At-clause-is
 returns-in-Err-At-clause-is c =
-    fault_from c.args.text.now c.args.at c.min-from.result c.in-Err-At.taken c.min-from.ensures (ap (read_from start 0) (sym c.tail.ensures) ∙ subst (IsAnswer (read_from start 0 c.tail.result.now)) c.in-Err-At.field-0-is c.in-Err-At.ensures.is)
+    fault_from c.args.text.now c.args.at c.min-from.result c.in-Err-At.taken c.min-from.ensures
+    (ap (read_from start 0) (sym c.tail.ensures) ∙ subst (IsAnswer (read_from start 0 c.tail.result.now)) c.in-Err-At.field-0-is c.in-Err-At.ensures.is)
 
 pub returns-in-Err-At-clause-back : goal.returns-in-Err-At-clause-back
 returns-in-Err-At-clause-back c steps words rest text split =
-    absurd (no_fault_again c.args.text.now c.args.at c.min-from.result c.in-Err-At.taken steps words rest c.min-from.ensures (ap (read_from start 0) (sym c.tail.ensures) ∙ subst (IsAnswer (read_from start 0 c.tail.result.now)) c.in-Err-At.field-0-is c.in-Err-At.ensures.is) text split)
+    absurd (no_fault_again c.args.text.now c.args.at c.min-from.result c.in-Err-At.taken steps words rest c.min-from.ensures
+    (ap (read_from start 0) (sym c.tail.ensures) ∙ subst (IsAnswer (read_from start 0 c.tail.result.now)) c.in-Err-At.field-0-is c.in-Err-At.ensures.is) text
+    split)

@@ -5,4 +5,5 @@ use Rattle.ipg_edges.proofs.listing.add_terms.Given as goal
 
 -- the edges so far, and those of what is left
 abbrev pub invariant-loop-number : goal.invariant-loop-number
-invariant-loop-number l = l.edges.items ++ numbered l.number (λ u term. syms_edges l.rule l.alt u (term_syms term)) (drop l.number l.terms) ≡ l.fn.edges.items ++ terms_edges l.rule l.alt l.terms
+invariant-loop-number l = l.edges.items ++ numbered l.number (λ u term. syms_edges l.rule l.alt u (term_syms term)) (drop l.number l.terms) ≡ l.fn.edges.items
+    ++ terms_edges l.rule l.alt l.terms

@@ -17,7 +17,8 @@ returns-then-eq c =
     let y = c.index_mut.result.now in
     let there = slice_get_read xs _ at y refl within c.index_mut.ensures.value in
     let one : x ≡ y = cc in
-    let same : bytes_eq y.key p.key ≡ true = sym (c.eq.ensures ∙ ap (λ k. bytes_eq k c.as_slice-in-loop-at.result.now) c.as_slice.ensures ∙ ap (bytes_eq x.key) c.as_slice-in-loop-at.ensures ∙ ap (λ (z : Part). bytes_eq z.key p.key) one) ∙ c.if-eq.true in
+    let same : bytes_eq y.key p.key ≡ true = sym (c.eq.ensures ∙ ap (λ k. bytes_eq k c.as_slice-in-loop-at.result.now) c.as_slice.ensures
+    ∙ ap (bytes_eq x.key) c.as_slice-in-loop-at.ensures ∙ ap (λ (z : Part). bytes_eq z.key p.key) one) ∙ c.if-eq.true in
     on_ok c.add_factor.result _ _
     (λ e. ap (slice_set xs at) e ∙ found at xs y p c.loop-at.invariant.1 there same ∙ ap (λ ps. add_part ps p) c.loop-at.invariant.0)
     c.add_factor.ensures
@@ -30,7 +31,8 @@ loop-at-preserved c =
     let x = c.index.result.now in
     let within : at < length xs = omega (arith, c.len-at-end.ensures, ap length c.loop-at.invariant.0) in
     let here = slice_get_read xs _ at x refl within c.index.ensures in
-    let differs : bytes_eq x.key p.key ≡ false = sym (c.eq.ensures ∙ ap (λ k. bytes_eq k c.as_slice-in-loop-at.result.now) c.as_slice.ensures ∙ ap (bytes_eq x.key) c.as_slice-in-loop-at.ensures) ∙ c.if-eq.false in
+    let differs : bytes_eq x.key p.key ≡ false = sym (c.eq.ensures ∙ ap (λ k. bytes_eq k c.as_slice-in-loop-at.result.now) c.as_slice.ensures
+    ∙ ap (bytes_eq x.key) c.as_slice-in-loop-at.ensures) ∙ c.if-eq.false in
     (c.loop-at.invariant.0, subst (λ n. Differ n xs p) (sym (add-one at)) (other at xs x p c.loop-at.invariant.1 here differs))
 
 pub returns : goal.returns

@@ -11,7 +11,8 @@ returns-then-cases_call c =
     let g = c.args.g.now in
     let at = c.args.at in
     let marks = c.args.marks.now in
-    let found = c.cases_call.ensures ∙ ap (λ (cs : List (CoreExpr × CoreSlot)). list_any (λ (k : CoreExpr × CoreSlot). calls g at marks k.1.sym) cs) c.as_slice.ensures in
+    let found = c.cases_call.ensures ∙ ap (λ (cs : List (CoreExpr × CoreSlot)). list_any (λ (k : CoreExpr × CoreSlot). calls g at marks k.1.sym) cs)
+    c.as_slice.ensures in
     c.if-cases_call.true ∙ sym (ap (λ b. b || calls g at marks c.in-Pick.other.sym) c.if-cases_call.true)
     ∙ calls_pick g at marks c.in-Pick.cases c.in-Pick.other c.cases_call.result found ∙ sym (ap (calls_some g at marks) c.in-Pick.is)
 
@@ -20,6 +21,7 @@ returns-else-cases_call c =
     let g = c.args.g.now in
     let at = c.args.at in
     let marks = c.args.marks.now in
-    let found = c.cases_call.ensures ∙ ap (λ (cs : List (CoreExpr × CoreSlot)). list_any (λ (k : CoreExpr × CoreSlot). calls g at marks k.1.sym) cs) c.as_slice.ensures in
+    let found = c.cases_call.ensures ∙ ap (λ (cs : List (CoreExpr × CoreSlot)). list_any (λ (k : CoreExpr × CoreSlot). calls g at marks k.1.sym) cs)
+    c.as_slice.ensures in
     c.calls-else-cases_call.ensures ∙ sym (ap (λ b. b || calls g at marks c.in-Pick.other.sym) c.if-cases_call.false)
     ∙ calls_pick g at marks c.in-Pick.cases c.in-Pick.other c.cases_call.result found ∙ sym (ap (calls_some g at marks) c.in-Pick.is)

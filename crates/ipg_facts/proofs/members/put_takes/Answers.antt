@@ -26,5 +26,6 @@ pub returns : goal.returns
 returns c =
     let past : length c.args.cases.now ≤ c.loop-at.at = omega arith in
     on_ok c.put_is_whole.result _ _
-    (λ e. e ∙ takes_all (scope_of c.args.scope.now) c.args.other.now c.args.cases.now c.loop-at.at c.args.branch c.loop-at.out.items _ past c.loop-at.invariant.1)
+    (λ e. e ∙ takes_all (scope_of c.args.scope.now) c.args.other.now c.args.cases.now c.loop-at.at c.args.branch c.loop-at.out.items _ past
+    c.loop-at.invariant.1)
     c.put_is_whole.ensures

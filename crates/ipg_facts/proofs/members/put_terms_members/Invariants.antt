@@ -4,4 +4,6 @@ use Rattle.ipg_facts.specs.View.{scope_of}
 use Rattle.ipg_facts.proofs.members.put_terms_members.Given as goal
 
 abbrev pub invariant-loop-term : goal.invariant-loop-term
-invariant-loop-term l = (l.out.items ++ spec.terms_members (scope_of l.scope) (drop l.term-index l.order) ≡ l.fn.out.items ++ spec.terms_members (scope_of l.fn.scope) l.order) × (spec.passed_all (scope_of l.scope) (drop l.term-index l.order) ≡ spec.passed_all (scope_of l.fn.scope) l.order)
+invariant-loop-term l =
+    (l.out.items ++ spec.terms_members (scope_of l.scope) (drop l.term-index l.order) ≡ l.fn.out.items ++ spec.terms_members (scope_of l.fn.scope) l.order)
+    × (spec.passed_all (scope_of l.scope) (drop l.term-index l.order) ≡ spec.passed_all (scope_of l.fn.scope) l.order)

@@ -18,7 +18,8 @@ loop-at-preserved c =
     let within : c.loop-at.at < length xs = omega (arith, c.len-at-end.ensures, ap length c.loop-at.invariant.0) in
     let is = slice_get_read xs _ c.loop-at.at c.index.result.now refl within c.index.ensures in (
       c.loop-at.invariant.0,
-      subst (λ n. Below n xs c.args.term) (sym (add-one c.loop-at.at)) (further c.loop-at.at xs c.index.result.now c.args.term c.loop-at.invariant.1 is c.if-term-index.false),
+      subst (λ n. Below n xs c.args.term) (sym (add-one c.loop-at.at))
+          (further c.loop-at.at xs c.index.result.now c.args.term c.loop-at.invariant.1 is c.if-term-index.false),
     )
 
 pub returns : goal.returns

@@ -23,7 +23,8 @@ pub returns-then-branch-eq0-clause-whole : goal.returns-then-branch-eq0-clause-w
 returns-then-branch-eq0-clause-whole g c =
     let grown = c.in_ok-read_more.ensures.grown in
     let same = c.read_more.new.bytes.ok.0 in
-    read-whole _ _ _ _ (moves-more _ _ _ _ _ c.loop-bytes.invariant.so_far c.in_ok-read_more.ensures.moved) (c.in_ok-read_more.ensures.end c.if-branch-eq0.true) (omega arith)
+    read-whole _ _ _ _ (moves-more _ _ _ _ _ c.loop-bytes.invariant.so_far c.in_ok-read_more.ensures.moved) (c.in_ok-read_more.ensures.end c.if-branch-eq0.true)
+    (omega arith)
 
 pub loop-bytes-preserved : goal.loop-bytes-preserved
 loop-bytes-preserved g c =

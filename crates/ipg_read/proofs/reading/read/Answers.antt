@@ -13,5 +13,6 @@ refused exactly text fault (inr is) = inr ((exactly text fault).0 is)
 pub returns : goal.returns
 returns c =
     let text = c.args.text.now in
-    by_words c.answered.result (λ g. read_of text ≡ Ok g) (ReadsWithin text) (λ fault. (fault ≡ Memory) ⊎ (read_of text ≡ Err fault)) (λ fault. (fault ≡ Memory) ⊎ Refused text fault)
+    by_words c.answered.result (λ g. read_of text ≡ Ok g) (ReadsWithin text) (λ fault. (fault ≡ Memory) ⊎ (read_of text ≡ Err fault))
+    (λ fault. (fault ≡ Memory) ⊎ Refused text fault)
     (λ g is. (c.reads_exactly.ensures text g).0 is) (refused c.refused_exactly.ensures text) c.answered.ensures

@@ -9,4 +9,5 @@ decreases-loop-entry l = length l.due
 
 abbrev pub invariant-loop-entry : goal.invariant-loop-entry
 invariant-loop-entry l =
-    A.after_rows (rows_of l.rows.items) (A.advance l.at (tok_of l.token) l.due) ≡ A.after_rows (rows_of l.initial.rows.items) (A.advance l.at (tok_of l.token) l.initial.due)
+    A.after_rows (rows_of l.rows.items) (A.advance l.at (tok_of l.token) l.due)
+    ≡ A.after_rows (rows_of l.initial.rows.items) (A.advance l.at (tok_of l.token) l.initial.due)

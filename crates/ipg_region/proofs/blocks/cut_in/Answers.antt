@@ -6,26 +6,35 @@ use Rattle.ipg_region.proofs.blocks.cut_in.Goals as goal
 
 pub overflow_sub-start : goal.overflow_sub-start
 overflow_sub-start g c =
-    omega (arith, without_last c.loop-block.blocks.items c.pop.new.self.items c.in-Some.block c.loop-block.start c.len-start.result c.in-Some.ensures.items c.loop-block.invariant.0 c.len-start.ensures.value)
+    omega (
+      arith,
+      without_last c.loop-block.blocks.items c.pop.new.self.items c.in-Some.block c.loop-block.start c.len-start.result c.in-Some.ensures.items
+          c.loop-block.invariant.0 c.len-start.ensures.value,
+    )
 
 pub cut-requires : goal.cut-requires
 cut-requires g c =
-    let counted = without_last c.loop-block.blocks.items c.pop.new.self.items c.in-Some.block c.loop-block.start c.len-start.result c.in-Some.ensures.items c.loop-block.invariant.0 c.len-start.ensures.value in
+    let counted = without_last c.loop-block.blocks.items c.pop.new.self.items c.in-Some.block c.loop-block.start c.len-start.result c.in-Some.ensures.items
+    c.loop-block.invariant.0 c.len-start.ensures.value in
     omega (arith, counted, c.len-start.ensures.value, c.loop-block.invariant.1)
 
 pub returns-then-start-to : goal.returns-then-start-to
 returns-then-start-to g c =
-    let counted = without_last c.loop-block.blocks.items c.pop.new.self.items c.in-Some.block c.loop-block.start c.len-start.result c.in-Some.ensures.items c.loop-block.invariant.0 c.len-start.ensures.value in
-    cut_last c.loop-block.blocks.items c.push_reserved.new.self.items c.pop.new.self.items c.in-Some.block c.cut.new.self (c.loop-block.start - c.len-start.result) c.args.to c.in-Some.ensures.items
+    let counted = without_last c.loop-block.blocks.items c.pop.new.self.items c.in-Some.block c.loop-block.start c.len-start.result c.in-Some.ensures.items
+    c.loop-block.invariant.0 c.len-start.ensures.value in
+    cut_last c.loop-block.blocks.items c.push_reserved.new.self.items c.pop.new.self.items c.in-Some.block c.cut.new.self
+    (c.loop-block.start - c.len-start.result) c.args.to c.in-Some.ensures.items
     c.push_reserved.ensures.items (omega (arith, counted)) (omega (arith, c.if-start-to.true)) c.cut.ensures.kept
     ∙ c.loop-block.invariant.2
 
 pub loop-block-preserved : goal.loop-block-preserved
 loop-block-preserved g c =
-    let counted = without_last c.loop-block.blocks.items c.pop.new.self.items c.in-Some.block c.loop-block.start c.len-start.result c.in-Some.ensures.items c.loop-block.invariant.0 c.len-start.ensures.value in (
+    let counted = without_last c.loop-block.blocks.items c.pop.new.self.items c.in-Some.block c.loop-block.start c.len-start.result c.in-Some.ensures.items
+    c.loop-block.invariant.0 c.len-start.ensures.value in (
       omega (arith, counted),
       c.if-start-to.false,
-      cut_without_last c.loop-block.blocks.items c.pop.new.self.items c.in-Some.block c.args.to c.in-Some.ensures.items (omega (arith, counted, c.if-start-to.false)) ∙ c.loop-block.invariant.2,
+      cut_without_last c.loop-block.blocks.items c.pop.new.self.items c.in-Some.block c.args.to c.in-Some.ensures.items
+          (omega (arith, counted, c.if-start-to.false)) ∙ c.loop-block.invariant.2,
     )
 
 pub returns : goal.returns

@@ -10,7 +10,8 @@ back : (g : Over) (c : goal.After-len-start g)
     × (c.loop-start.start - length c.index-blocks-at.result.runs ≡ length (flat (take (c.loop-start.at - 1) c.args.blocks.now)))
     × (c.args.place < length (flat (take (suc (c.loop-start.at - 1)) c.args.blocks.now)))
 back g c =
-    earlier c.args.blocks.now c.index-blocks-at.result c.loop-start.at c.loop-start.start c.args.place c.loop-start.invariant.0 c.loop-start.invariant.1 c.loop-start-test.true c.index-blocks-at.is
+    earlier c.args.blocks.now c.index-blocks-at.result c.loop-start.at c.loop-start.start c.args.place c.loop-start.invariant.0 c.loop-start.invariant.1
+    c.loop-start-test.true c.index-blocks-at.is
 
 pub overflow_sub-start : goal.overflow_sub-start
 overflow_sub-start g c = omega (arith, c.len-start.ensures.value, (back g c).0)
@@ -21,9 +22,11 @@ loop-start-preserved g c =
 
 pub read-requires : goal.read-requires
 read-requires g c =
-    holds c.args.blocks.now c.index-blocks-at-2.result c.loop-start.at c.loop-start.start c.args.place c.loop-start.invariant.1 c.loop-start-test.false c.loop-start.invariant.2 c.index-blocks-at-2.is
+    holds c.args.blocks.now c.index-blocks-at-2.result c.loop-start.at c.loop-start.start c.args.place c.loop-start.invariant.1 c.loop-start-test.false
+    c.loop-start.invariant.2 c.index-blocks-at-2.is
 
 pub returns : goal.returns
 returns g c =
-    found c.args.blocks.now c.index-blocks-at-2.result c.loop-start.at c.loop-start.start c.args.place c.loop-start.invariant.1 c.loop-start-test.false c.loop-start.invariant.2 c.index-blocks-at-2.is
+    found c.args.blocks.now c.index-blocks-at-2.result c.loop-start.at c.loop-start.start c.args.place c.loop-start.invariant.1 c.loop-start-test.false
+    c.loop-start.invariant.2 c.index-blocks-at-2.is
     ∙ c.read.ensures

@@ -11,4 +11,6 @@ returns-clause-within c =
     let text = c.args.text.now in
     let m = length text - c.args.at in
     let rest = take m (drop c.args.at text) in
-    IfOk-weaker c.front_at.result (λ f. f ≡ front_of rest) (λ f. TakesWithin f m) (λ f is. begins_within rest m f (let m_fits : m ≤ length (drop c.args.at text) = omega (arith, length-drop c.args.at text) in omega (arith, length-take-le m (drop c.args.at text) m_fits)) is) c.front_at.ensures
+    IfOk-weaker c.front_at.result (λ f. f ≡ front_of rest) (λ f. TakesWithin f m)
+    (λ f is. begins_within rest m f (let m_fits : m ≤ length (drop c.args.at text) =
+    omega (arith, length-drop c.args.at text) in omega (arith, length-take-le m (drop c.args.at text) m_fits)) is) c.front_at.ensures

@@ -7,5 +7,6 @@ loop-rule-smaller c = spreading-less _ _ _ _ _ _ _ _ c.in-Some.ensures.items c.m
 pub loop-rule-preserved : goal.loop-rule-preserved
 loop-rule-preserved c = record {
   sized = c.mark_callers.ensures.sized;
-  spreading = spreading-step _ _ _ _ _ _ _ _ _ c.in-Some.ensures.items c.loop-rule.invariant.spreading c.mark_callers.ensures.spreads c.mark_callers.ensures.scanned;
+  spreading = spreading-step _ _ _ _ _ _ _ _ _ c.in-Some.ensures.items c.loop-rule.invariant.spreading c.mark_callers.ensures.spreads
+      c.mark_callers.ensures.scanned;
 }

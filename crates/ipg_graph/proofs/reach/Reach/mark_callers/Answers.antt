@@ -50,7 +50,8 @@ loop-edge-preserved c =
           is-new c.args.start c.args.seen.now marks u u_in (sym c.is_new.ensures ∙ w.if-is_new.true) in
           rw w.self-is record {
             sized = sized-mark _ c.loop-edge.self _ u w.mark.ensures.marks w.mark.ensures.room c.loop-edge.invariant.sized;
-            marking = marking-mark _ _ _ _ marks _ _ _ _ _ c.loop-edge.edge _ u whole in' c.caller-caller.ensures (omega (arith, c.caller-caller.ensures, live)) first new.1.1 w.mark.ensures.marks w.mark.ensures.stack c.loop-edge.invariant.marking;
+            marking = marking-mark _ _ _ _ marks _ _ _ _ _ c.loop-edge.edge _ u whole in' c.caller-caller.ensures
+                (omega (arith, c.caller-caller.ensures, live)) first new.1.1 w.mark.ensures.marks w.mark.ensures.stack c.loop-edge.invariant.marking;
           }
       | else-is_new w ↦
           rw w.self-is record {

@@ -42,7 +42,8 @@ returns c =
         };
       };
       same = rw c.put.ensures.items (same-enter g s.path.items s.cursor c.first_out-self.result s.start c.args.rule flags goes c.first_out-self.ensures);
-      less = rw (c.put.ensures.items, append_assoc) (left-push (length g.callers) s.cursor c.first_out-self.result (g.rules + 2) s.path.items (omega (arith, room, walk.count, walk.flags)));
+      less = rw (c.put.ensures.items, append_assoc)
+          (left-push (length g.callers) s.cursor c.first_out-self.result (g.rules + 2) s.path.items (omega (arith, room, walk.count, walk.flags)));
     }
 
 pub put-requires : goal.put-requires

@@ -9,7 +9,8 @@ returns c =
     let root : c.in_ok-path.path.items ≡ [] = c.in_ok-path.ensures.items in
     let empty : length c.in_ok-path.path.items ≡ 0 = ap length root in
     let clear : c.in_ok-seen.seen.items ≡ replicate c.rules-rules.result false = c.in_ok-seen.ensures.items_if_clones_equal (λ _ e. e) in
-    let flags : length c.in_ok-seen.seen.items ≡ c.args.links.rules = omega (arith, c.in_ok-seen.ensures.len, c.in_ok-seen.seen.ok.0, c.rules-rules.ensures) in (
+    let flags : length c.in_ok-seen.seen.items ≡ c.args.links.rules =
+    omega (arith, c.in_ok-seen.ensures.len, c.in_ok-seen.seen.ok.0, c.rules-rules.ensures) in (
       (
         record {
           walk = record {
@@ -21,7 +22,10 @@ returns c =
             sized = rw c.rules-rules.ensures at c.in_ok-reach.ensures;
             begun = λ some. absurd (omega (arith, empty));
             tip = λ some. absurd (omega (arith, empty));
-            closed = record { callers = λ e counts to. absurd (omega (arith, counts.above, unseen-in c.in_ok-seen.seen.items _ counts.unseen, flags, c.rules-rules.ensures)) };
+            closed = record {
+              callers = λ e counts to. absurd
+                  (omega (arith, counts.above, unseen-in c.in_ok-seen.seen.items _ counts.unseen, flags, c.rules-rules.ensures));
+            };
           };
           choice = record { within = omega arith; at_tip = λ some. absurd (omega (arith, empty)) };
         },

@@ -35,7 +35,9 @@ returns-in-Some c =
         };
         choice = record { within = next.choice.within; at_tip = next.choice.at_tip };
       };
-      behind = rw c.in-Some.ensures.items (same-behind s.links p (state_of p s.start s.tip s.seen.items) c.in-Some.edge c.following-self.result runs closes next.after next.skipped);
-      less = rw c.in-Some.ensures.items (left-skip (length s.links.callers) c.in-Some.edge c.following-self.result next.after next.choice.within (s.links.rules + 2) p
+      behind = rw c.in-Some.ensures.items
+          (same-behind s.links p (state_of p s.start s.tip s.seen.items) c.in-Some.edge c.following-self.result runs closes next.after next.skipped);
+      less = rw c.in-Some.ensures.items
+          (left-skip (length s.links.callers) c.in-Some.edge c.following-self.result next.after next.choice.within (s.links.rules + 2) p
           (omega (arith, subst (λ l. length l ≡ marked s.seen.items) parts.0 walk.count, walk.flags, marked-le s.seen.items)));
     }

@@ -27,5 +27,6 @@ returns c =
         choice = record { within = next.choice.within; at_tip = next.choice.at_tip };
       };
       same = same-past s.links s.path.items (now s) s.cursor c.following-self.result walk.runs next.after c.requires.barren next.skipped;
-      less = left-skip (length s.links.callers) s.cursor c.following-self.result next.after next.choice.within (s.links.rules + 2) s.path.items (omega (arith, walk.count, walk.flags, marked-le s.seen.items));
+      less = left-skip (length s.links.callers) s.cursor c.following-self.result next.after next.choice.within (s.links.rules + 2) s.path.items
+          (omega (arith, walk.count, walk.flags, marked-le s.seen.items));
     }

@@ -30,7 +30,8 @@ returns-then-callee-self-clause-found c = λ _.
         };
         live = c.requires.live;
         at_tip = λ some. c.requires.ready.choice.at_tip some c.requires.within;
-        closes = c.requires.tries ∙ enter-closed s.links s.start s.seen.items (callee s.links s.cursor) (sym c.callee-callee.ensures.value ∙ c.if-callee-self.true);
+        closes = c.requires.tries ∙ enter-closed s.links s.start s.seen.items (callee s.links s.cursor)
+            (sym c.callee-callee.ensures.value ∙ c.if-callee-self.true);
       };
     }
 

@@ -12,4 +12,6 @@ pub returns-clause-taken : goal.returns-clause-taken
 returns-clause-taken c =
     let all : c.min-fits.result ≡ length c.args.piece.now = grind (arith, common_steps) in
     let items = rw c.unwrap.ensures at c.extend_from_slice.ensures.items in
-    rw (← c.self.view_is) (takes-whole _ _ _ (items ∙ ap (λ n. c.self.inside.bytes.items ++ take n c.args.piece.now) all ∙ ap (λ t. c.self.inside.bytes.items ++ t) (take-length c.args.piece.now)))
+    rw (← c.self.view_is)
+    (takes-whole _ _ _ (items ∙ ap (λ n. c.self.inside.bytes.items ++ take n c.args.piece.now) all
+    ∙ ap (λ t. c.self.inside.bytes.items ++ t) (take-length c.args.piece.now)))

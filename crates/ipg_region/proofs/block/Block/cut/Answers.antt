@@ -10,11 +10,17 @@ fields : (g : Over) (c : goal.After-truncate-2 g)
     × Rises 0 c.truncate-2.new.self.items (length c.truncate.new.self.items)
 fields g c =
     cut_off c.self.inside.items.items c.truncate.new.self.items c.self.inside.ends.items c.truncate-2.new.self.items c.args.to c.start_of-start.result
-    (c.start_of-start.ensures ∙ ap (λ es. end_before 0 es c.args.to) c.deref.ensures.value) c.truncate.ensures.items c.truncate-2.ensures.items c.self.invariant.0
+    (c.start_of-start.ensures ∙ ap (λ es. end_before 0 es c.args.to) c.deref.ensures.value) c.truncate.ensures.items c.truncate-2.ensures.items
+    c.self.invariant.0
 
 pub start_of-start-requires : goal.start_of-start-requires
 start_of-start-requires g c =
-    omega (arith, length-pieces c.self.inside.items.items 0 c.self.inside.ends.items, ap (λ held. length held.runs) c.self.view_is, ap length c.deref.ensures.value)
+    omega (
+      arith,
+      length-pieces c.self.inside.items.items 0 c.self.inside.ends.items,
+      ap (λ held. length held.runs) c.self.view_is,
+      ap length c.deref.ensures.value,
+    )
 
 pub invariant_of-self : goal.invariant_of-self
 invariant_of-self g c =

@@ -7,11 +7,13 @@ use Rattle.ipg_region.proofs.block.Block.push.Goals as goal
 
 -- the run fits
 more : (g : Over) (c : goal.After-push_reserved g) → c.extend_from_slice.new.self.items ≡ c.self.inside.items.items ++ c.args.run.now
-more g c = c.extend_from_slice.ensures.items ∙ ap (λ r. if is_ok r then c.self.inside.items.items ++ c.args.run.now else c.self.inside.items.items) c.unwrap.ensures
+more g c = c.extend_from_slice.ensures.items ∙ ap (λ r. if is_ok r then c.self.inside.items.items ++ c.args.run.now else c.self.inside.items.items)
+    c.unwrap.ensures
 
 -- the fields after the run was put at their end
 fields : (g : Over) (c : goal.After-push_reserved g)
-    → (pieces c.extend_from_slice.new.self.items 0 c.push_reserved.new.self.items ≡ pieces c.self.inside.items.items 0 c.self.inside.ends.items ++ c.args.run.now ∷ [])
+    → (pieces c.extend_from_slice.new.self.items 0 c.push_reserved.new.self.items ≡ pieces c.self.inside.items.items 0 c.self.inside.ends.items
+    ++ c.args.run.now ∷ [])
     × Rises 0 c.push_reserved.new.self.items (length c.extend_from_slice.new.self.items)
 fields g c =
     placed c.self.inside.items.items c.extend_from_slice.new.self.items c.args.run.now c.self.inside.ends.items c.push_reserved.new.self.items c.len.result

@@ -11,7 +11,8 @@ returns-clause-kept g c =
     elim c.if-to-self.branch [
       | then-to-self w ↦
           ap (λ a. flat a.full.items ++ c.cut.new.self.runs) w.self-inside-is
-          ∙ cut_back full w.cut_in.new.blocks.items last c.cut.new.self.runs c.self.inside.before c.args.to c.self.invariant.0 w.if-to-self.true w.cut_in.ensures
+          ∙ cut_back full w.cut_in.new.blocks.items last c.cut.new.self.runs c.self.inside.before c.args.to c.self.invariant.0 w.if-to-self.true
+          w.cut_in.ensures
           (c.cut.ensures.kept ∙ ap (λ a. take (c.args.to - a.before) a.last.runs) w.self-inside-is)
           ∙ ap (λ held. take c.args.to held.runs) c.self.view_is
       | else-to-self w ↦
