@@ -3,6 +3,7 @@
 
 mod grammar;
 mod put;
+mod symbol;
 #[cfg(test)]
 mod tests;
 mod text;
@@ -11,5 +12,6 @@ mod token;
 pub use grammar::{
     Alt, Case, Expr, Field, Grammar, Ident, Name, Place, Rule, Slot, Span, Term, What,
 };
+pub use symbol::Symbol;
 pub use text::text_of;
 pub use token::TokenKind;

@@ -80,3 +80,10 @@ fn parentheses_are_kept(rt: HostRuntime) -> Result<(), Fail> {
     );
     Ok(())
 }
+
+#[test]
+fn symbols_are_their_bytes(rt: HostRuntime) -> Result<(), Fail> {
+    assert_eq!(rt; Symbol::one(b'/').as_slice(), b"/".as_slice());
+    assert_eq!(rt; Symbol::two(b'-', b'>').as_slice(), b"->".as_slice());
+    Ok(())
+}

@@ -1,4 +1,4 @@
-use crate::Name;
+use crate::{Name, Symbol};
 
 /// A token without its place: a name, a reserved word, a number, a string's bytes or a symbol.
 #[derive(Debug, Drop)]
@@ -7,5 +7,5 @@ pub enum TokenKind {
     Word(Name),
     Number(i64),
     Text(Name),
-    Symbol(Name),
+    Symbol(Symbol),
 }

@@ -36,7 +36,7 @@ pub fn front_at(alloc: Global, bytes: &[u8]) -> Result<Front, AllocError>
             } else if *b == b'"' {
                 string_at(alloc, after)
             } else {
-                symbol_at(alloc, *b, after)
+                Ok(symbol_at(*b, after))
             }
         }
     }

@@ -1,34 +1,32 @@
-ghost use Rattle.std.specs.Prelude.{◌≡◌, IfOk};
+ghost use Rattle.std.specs.Prelude.{◌≡◌};
 ghost use Rattle.ipg_tokens.specs.Lexical.{is_pair, is_single, single_front, symbol_front};
 
 use crate::front::Front;
-use crate::name::copied;
-use ipg_ast::TokenKind;
-use std::alloc::{AllocError, Global};
+use ipg_ast::{Symbol, TokenKind};
 
 /// The longest symbol that begins with `a` and goes on with `after`.
-pub fn symbol_at(alloc: Global, a: u8, after: &[u8]) -> Result<Front, AllocError>
-    ensures { IfOk result (λ front. front ≡ symbol_front a after.now) }
+pub fn symbol_at(a: u8, after: &[u8]) -> Front
+    ensures { result ≡ symbol_front a after.now }
 {
     match after {
         [b, ..] => {
             if pairs(a, *b) {
-                Ok(Front::Token(TokenKind::Symbol(copied(alloc, &[a, *b])?), 2))
+                Front::Token(TokenKind::Symbol(Symbol::two(a, *b)), 2)
             } else {
-                single_at(alloc, a)
+                single_at(a)
             }
         }
-        _ => single_at(alloc, a),
+        _ => single_at(a),
     }
 }
 
-fn single_at(alloc: Global, a: u8) -> Result<Front, AllocError>
-    ensures { IfOk result (λ front. front ≡ single_front a) }
+fn single_at(a: u8) -> Front
+    ensures { result ≡ single_front a }
 {
     if stands_alone(a) {
-        Ok(Front::Token(TokenKind::Symbol(copied(alloc, &[a])?), 1))
+        Front::Token(TokenKind::Symbol(Symbol::one(a)), 1)
     } else {
-        Ok(Front::Nothing)
+        Front::Nothing
     }
 }
 
