@@ -1,4 +1,3 @@
-pub mod Scans
 pub mod Places
 pub mod Dues
 pub mod Levels

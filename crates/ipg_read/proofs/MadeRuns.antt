@@ -3,8 +3,8 @@ use Rattle.std.proofs.Common.{◌≡◌, ℕ, ◌+◌, List, [], ◌∷◌, Opti
 use Rattle.ipg_syntax.specs.Classes.{Tok}
 use Rattle.ipg_syntax.specs.Machine as M
 use Rattle.ipg_syntax.specs.Making.{made}
-use Rattle.ipg_read.specs.Rowed.{Row}
-use Rattle.ipg_read.specs.Asked as A
+use Rattle.ipg_scan.specs.Rowed.{Row}
+use Rattle.ipg_scan.specs.Asked as A
 use Rattle.ipg_read.specs.Built.{Parts, makes}
 use Rattle.ipg_read.proofs.Dues.{site_due, pos_due}
 use Rattle.ipg_read.proofs.Ends.{part_end}

@@ -17,15 +17,15 @@ use Rattle.ipg_syntax.specs.Classes as C
 use Rattle.ipg_syntax.specs.Classes.{Infix, level, Tok}
 use Rattle.ipg_syntax.specs.Machine as M
 use Rattle.ipg_syntax.specs.Making.{made, last, infix_expr}
-use Rattle.ipg_read.specs.Lexemes.{infix_of, coded_infix}
-use Rattle.ipg_read.specs.declared.due.Due.{Due}
-use Rattle.ipg_read.specs.declared.due.Due.TheVariants as D
-use Rattle.ipg_read.specs.declared.row.Role.TheVariants as Use
-use Rattle.ipg_read.specs.declared.row.Extent.TheVariants as Extent
-use Rattle.ipg_read.specs.Rowed.{Row}
-use Rattle.ipg_read.specs.Rowed as R
-use Rattle.ipg_read.specs.Asked as A
-use Rattle.ipg_read.specs.Asked.{Step, lost, moved, after_rows, advance}
+use Rattle.ipg_scan.specs.Lexemes.{infix_of, coded_infix}
+use Rattle.ipg_scan.specs.declared.due.Due.{Due}
+use Rattle.ipg_scan.specs.declared.due.Due.TheVariants as D
+use Rattle.ipg_scan.specs.declared.row.Role.TheVariants as Use
+use Rattle.ipg_scan.specs.declared.row.Extent.TheVariants as Extent
+use Rattle.ipg_scan.specs.Rowed.{Row}
+use Rattle.ipg_scan.specs.Rowed as R
+use Rattle.ipg_scan.specs.Asked as A
+use Rattle.ipg_scan.specs.Asked.{Step, lost, moved, after_rows, advance}
 use Rattle.ipg_read.specs.Built.{Parts, slot, make, makes}
 use Rattle.ipg_read.proofs.Dues.{use_role, use_due, frames_due, inner_due, base_due, part_due, site_due, pos_due}
 use Rattle.ipg_read.proofs.Levels.{coded_back, above_none, above_zero, above_one, no_question, tighter}

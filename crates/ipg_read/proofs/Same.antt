@@ -10,8 +10,8 @@ use Rattle.ipg_syntax.specs.Machine as M
 use Rattle.ipg_syntax.specs.Counting.{counters}
 use Rattle.ipg_syntax.specs.Making.{made}
 use Rattle.ipg_syntax.specs.Reading.{place_of, read_of, tokens_answer, counted_answer, within_answer, made_answer}
-use Rattle.ipg_read.specs.Rowed.{Row}
-use Rattle.ipg_read.specs.Asked as A
+use Rattle.ipg_scan.specs.Rowed.{Row}
+use Rattle.ipg_scan.specs.Asked as A
 use Rattle.ipg_read.specs.Counted.{nothing}
 use Rattle.ipg_read.specs.Built.{makes, blank}
 use Rattle.ipg_read.specs.Told.{limit_answer, scan_answer}

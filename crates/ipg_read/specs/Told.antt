@@ -7,8 +7,8 @@ use Rattle.ipg_tokens.specs.declared.fault.ReadFault.TheVariants.{Syntax, Limit}
 use Rattle.ipg_syntax.specs.Limits.{Over}
 use Rattle.ipg_syntax.specs.Reading.{place_of}
 use Rattle.ipg_syntax.specs.Classes.{classes}
-use Rattle.ipg_read.specs.Rowed.{Row}
-use Rattle.ipg_read.specs.Asked.{run, start}
+use Rattle.ipg_scan.specs.Rowed.{Row}
+use Rattle.ipg_scan.specs.Asked.{run, start}
 use Rattle.ipg_read.specs.Counted.{notes, nothing}
 use Rattle.ipg_read.specs.Built.{makes, blank}
 

@@ -1,13 +1,12 @@
 //! The first limit that rows pass.
 
 ghost use Rattle.std.specs.Prelude.{◌≡◌, [], ◌∷◌, OnOk, IfOk, option_map};
-ghost use Rattle.ipg_read.specs.Rowed.{row_of, rows_of};
+ghost use Rattle.ipg_scan.specs.Rowed.{row_of, rows_of};
 ghost use Rattle.ipg_read.specs.Counted as C;
 ghost use Rattle.ipg_read.specs.Counted.{counts_of, over_of};
 
 use crate::limits::{Over, Seen, deeper, more, noted, noted_rule};
-use crate::row::{Role, Row, Site};
-use crate::stack::Stack;
+use ipg_scan::{Role, Row, Site, Stack};
 use ipg_tokens::Which;
 use std::alloc::{AllocError, Global};
 

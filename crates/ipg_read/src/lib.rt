@@ -3,13 +3,8 @@
 
 mod build;
 mod count;
-mod due;
-mod lexeme;
 mod limits;
 mod reading;
-mod row;
-mod scan;
-mod stack;
 #[cfg(test)]
 mod tests;
 

@@ -1,7 +1,7 @@
 ghost use Rattle.std.specs.Prelude.{◌≡◌, ◌⊎◌, ◌≤◌, ◌^◌, ℕ, List, MatchResult, IfOk, length, Ok, Err};
 ghost use Rattle.ipg_syntax.specs.Laws.{Refused};
 ghost use Rattle.ipg_syntax.specs.Reading.{ReadsWithin, read_of, place_of};
-ghost use Rattle.ipg_read.specs.Rowed.{rows_of};
+ghost use Rattle.ipg_scan.specs.Rowed.{rows_of};
 ghost use Rattle.ipg_tokens.specs.declared.token.Token.{Token as Tokened};
 ghost use Rattle.ipg_read.specs.Told.{answer, rows_answer};
 ghost use Rattle.ipg_read.specs.Outcomes.{told};
@@ -9,11 +9,10 @@ ghost use Rattle.ipg_read.specs.Outcomes.{told};
 use crate::build::built;
 use crate::count::first_over;
 use crate::limits::Over;
-use crate::row::Row;
-use crate::scan::{Found, scan};
 use crate::{Grammar, ReadFault, Token, tokens};
 use ipg_ast::Rule;
 use ipg_num::List;
+use ipg_scan::{Found, Row, scan};
 use ipg_syntax::laws::{reads_exactly, refused_exactly};
 use std::alloc::{AllocError, Global};
 

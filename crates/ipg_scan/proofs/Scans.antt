@@ -1,10 +1,10 @@
 -- Rows made before others.
 use Rattle.std.proofs.Common.{◌≡◌, ℕ, List, [], ◌∷◌, ◌++◌, Result, Ok, Err, refl, ap, sym, append_assoc, ◌∙◌}
-use Rattle.ipg_read.specs.declared.row.Row.{Row as Coded}
-use Rattle.ipg_read.specs.Rowed.{Row, row_of, rows_of}
+use Rattle.ipg_scan.specs.declared.row.Row.{Row as Coded}
+use Rattle.ipg_scan.specs.Rowed.{Row, row_of, rows_of}
 use Rattle.ipg_syntax.specs.Classes.{Tok}
-use Rattle.ipg_read.specs.declared.due.Due.{Due}
-use Rattle.ipg_read.specs.Asked.{Step, lost, moved, passed, settled, ask, advance, after_rows, rows_then}
+use Rattle.ipg_scan.specs.declared.due.Due.{Due}
+use Rattle.ipg_scan.specs.Asked.{Step, lost, moved, passed, settled, ask, advance, after_rows, rows_then}
 
 pub after_both : (xs ys : List Row) (s : Step) → after_rows xs (after_rows ys s) ≡ after_rows (xs ++ ys) s
 after_both xs ys lost = refl

@@ -6,16 +6,16 @@ use Rattle.ipg_ast.specs.declared.grammar.Field.{Field}
 use Rattle.ipg_syntax.specs.Classes as C
 use Rattle.ipg_syntax.specs.Classes.{Infix, level, Tok}
 use Rattle.ipg_syntax.specs.Machine.{field_of}
-use Rattle.ipg_read.specs.Lexemes.{infix_of, coded_infix}
-use Rattle.ipg_read.specs.declared.row.Site.{Site}
-use Rattle.ipg_read.specs.declared.row.Site.TheVariants.{Global, Local}
-use Rattle.ipg_read.specs.declared.row.Role.{Role}
-use Rattle.ipg_read.specs.declared.row.Role.TheVariants as Use
-use Rattle.ipg_read.specs.declared.row.Extent.TheVariants as Extent
-use Rattle.ipg_read.specs.declared.due.Due.{Due}
-use Rattle.ipg_read.specs.declared.due.Due.TheVariants as D
-use Rattle.ipg_read.specs.Rowed.{Row}
-use Rattle.ipg_read.specs.Rowed as R
+use Rattle.ipg_scan.specs.Lexemes.{infix_of, coded_infix}
+use Rattle.ipg_scan.specs.declared.row.Site.{Site}
+use Rattle.ipg_scan.specs.declared.row.Site.TheVariants.{Global, Local}
+use Rattle.ipg_scan.specs.declared.row.Role.{Role}
+use Rattle.ipg_scan.specs.declared.row.Role.TheVariants as Use
+use Rattle.ipg_scan.specs.declared.row.Extent.TheVariants as Extent
+use Rattle.ipg_scan.specs.declared.due.Due.{Due}
+use Rattle.ipg_scan.specs.declared.due.Due.TheVariants as D
+use Rattle.ipg_scan.specs.Rowed.{Row}
+use Rattle.ipg_scan.specs.Rowed as R
 
 -- the entry has ended before the token; or it takes it, and others take its place; or no grammar goes on so
 pub data Answer : Type 0 where

@@ -1,5 +1,5 @@
 ghost use Rattle.std.specs.Prelude.{◌≡◌, [], ◌∷◌, OnOk};
-ghost use Rattle.ipg_read.specs.Popped.{Pops};
+ghost use Rattle.ipg_scan.specs.Popped.{Pops};
 
 use std::alloc::{AllocError, Global};
 use std::marker::Model;
@@ -13,7 +13,7 @@ pub struct Stack<T> {
 impl<T> Model for Stack<T> {
     ghost use Rattle.std.specs.Prelude.{List};
     ghost use Rattle.std.specs.Coded.{coded_list};
-    ghost use Rattle.ipg_read.specs.Popped.{top_first};
+    ghost use Rattle.ipg_scan.specs.Popped.{top_first};
 
     ghost Value = { List T };
 

@@ -5,14 +5,14 @@ use Rattle.ipg_ast.specs.declared.grammar.Span.{Span}
 use Rattle.ipg_ast.specs.declared.grammar.Field.{Field}
 use Rattle.ipg_ast.specs.declared.grammar.Field.TheVariants as F
 use Rattle.ipg_syntax.specs.Classes as C
-use Rattle.ipg_read.specs.Lexemes.{ident_of, infix_of}
-use Rattle.ipg_read.specs.declared.row.Site.{Site}
-use Rattle.ipg_read.specs.declared.row.Role.{Role}
-use Rattle.ipg_read.specs.declared.row.Extent.{Extent}
-use Rattle.ipg_read.specs.declared.row.Member.{Member}
-use Rattle.ipg_read.specs.declared.row.Member.TheVariants as M
-use Rattle.ipg_read.specs.declared.row.Row.{Row as Coded}
-use Rattle.ipg_read.specs.declared.row.Row.TheVariants as V
+use Rattle.ipg_scan.specs.Lexemes.{ident_of, infix_of}
+use Rattle.ipg_scan.specs.declared.row.Site.{Site}
+use Rattle.ipg_scan.specs.declared.row.Role.{Role}
+use Rattle.ipg_scan.specs.declared.row.Extent.{Extent}
+use Rattle.ipg_scan.specs.declared.row.Member.{Member}
+use Rattle.ipg_scan.specs.declared.row.Member.TheVariants as M
+use Rattle.ipg_scan.specs.declared.row.Row.{Row as Coded}
+use Rattle.ipg_scan.specs.declared.row.Row.TheVariants as V
 
 -- a number of a token; names with their places
 pub data Row : Type 0 where

@@ -1,7 +1,7 @@
 ghost use Rattle.std.specs.Prelude.{◌≡◌};
 ghost use Rattle.ipg_syntax.specs.Classes.{class_of, word_class, symbol_class, single_class, pair_class, level, op_level};
 ghost use Rattle.ipg_tokens.specs.Lexical.{is_same};
-ghost use Rattle.ipg_read.specs.Lexemes.{tok_of, infix_of};
+ghost use Rattle.ipg_scan.specs.Lexemes.{tok_of, infix_of};
 
 use ipg_ast::{Name, Span, TokenKind};
 use ipg_num::Op2;

@@ -1,9 +1,9 @@
 ghost use Rattle.std.specs.Prelude.{◌≡◌, ◌+◌, ◌<◌, ◌^◌, [], ◌∷◌, ◌++◌, option_map};
 ghost use Rattle.ipg_syntax.specs.Machine.{field_of};
-ghost use Rattle.ipg_read.specs.Lexemes.{tok_of, infix_of};
-ghost use Rattle.ipg_read.specs.Rowed.{row_of, member_of};
-ghost use Rattle.ipg_read.specs.Asked as A;
-ghost use Rattle.ipg_read.specs.Answered.{answer_of, rows_in, row_in, next_of, symbols_of, opening_of};
+ghost use Rattle.ipg_scan.specs.Lexemes.{tok_of, infix_of};
+ghost use Rattle.ipg_scan.specs.Rowed.{row_of, member_of};
+ghost use Rattle.ipg_scan.specs.Asked as A;
+ghost use Rattle.ipg_scan.specs.Answered.{answer_of, rows_in, row_in, next_of, symbols_of, opening_of};
 
 use crate::lexeme::{Infix, Lexeme, level_of};
 use crate::row::{Extent, Member, Role, Row, Site};

@@ -1,18 +1,18 @@
 -- What the code's answers stand for.
 use Rattle.std.specs.Prelude.{List, [], ◌∷◌, Option, Some, None}
-use Rattle.ipg_read.specs.declared.row.Row.{Row as Coded}
-use Rattle.ipg_read.specs.declared.due.Due.{Due}
-use Rattle.ipg_read.specs.declared.due.Rows.{Rows}
-use Rattle.ipg_read.specs.declared.due.Rows.TheVariants as Some_rows
-use Rattle.ipg_read.specs.declared.due.Next.{Next}
-use Rattle.ipg_read.specs.declared.due.Next.TheVariants as N
-use Rattle.ipg_read.specs.declared.due.Symbols.{Symbols}
-use Rattle.ipg_read.specs.declared.due.Symbols.TheVariants as S
-use Rattle.ipg_read.specs.declared.due.Begin.{Begin}
-use Rattle.ipg_read.specs.declared.due.Answer.{Answer as Answered}
-use Rattle.ipg_read.specs.declared.due.Answer.TheVariants.{Stuck, Passed, Taken}
-use Rattle.ipg_read.specs.Rowed.{Row, row_of}
-use Rattle.ipg_read.specs.Asked.{Answer, stuck, passed, taken, Opening}
+use Rattle.ipg_scan.specs.declared.row.Row.{Row as Coded}
+use Rattle.ipg_scan.specs.declared.due.Due.{Due}
+use Rattle.ipg_scan.specs.declared.due.Rows.{Rows}
+use Rattle.ipg_scan.specs.declared.due.Rows.TheVariants as Some_rows
+use Rattle.ipg_scan.specs.declared.due.Next.{Next}
+use Rattle.ipg_scan.specs.declared.due.Next.TheVariants as N
+use Rattle.ipg_scan.specs.declared.due.Symbols.{Symbols}
+use Rattle.ipg_scan.specs.declared.due.Symbols.TheVariants as S
+use Rattle.ipg_scan.specs.declared.due.Begin.{Begin}
+use Rattle.ipg_scan.specs.declared.due.Answer.{Answer as Answered}
+use Rattle.ipg_scan.specs.declared.due.Answer.TheVariants.{Stuck, Passed, Taken}
+use Rattle.ipg_scan.specs.Rowed.{Row, row_of}
+use Rattle.ipg_scan.specs.Asked.{Answer, stuck, passed, taken, Opening}
 
 abbrev pub rows_in : Rows → List Row
 rows_in Some_rows.Zero = []

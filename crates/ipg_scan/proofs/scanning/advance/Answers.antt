@@ -1,10 +1,10 @@
 use Rattle.std.proofs.Common.{◌∙◌, ap, sym}
-use Rattle.ipg_read.specs.Lexemes.{tok_of}
-use Rattle.ipg_read.specs.Rowed.{rows_of}
-use Rattle.ipg_read.specs.Asked as A
-use Rattle.ipg_read.specs.Answered.{rows_in, answer_of}
-use Rattle.ipg_read.proofs.Scans.{passes}
-use Rattle.ipg_read.proofs.scan.advance.Goals as goal
+use Rattle.ipg_scan.specs.Lexemes.{tok_of}
+use Rattle.ipg_scan.specs.Rowed.{rows_of}
+use Rattle.ipg_scan.specs.Asked as A
+use Rattle.ipg_scan.specs.Answered.{rows_in, answer_of}
+use Rattle.ipg_scan.proofs.Scans.{passes}
+use Rattle.ipg_scan.proofs.scanning.advance.Goals as goal
 
 pub loop-entry-preserved : goal.loop-entry-preserved
 loop-entry-preserved c =

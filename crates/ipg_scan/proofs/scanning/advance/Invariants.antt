@@ -1,8 +1,8 @@
 use Rattle.std.proofs.Common.{◌≡◌, length}
-use Rattle.ipg_read.specs.Lexemes.{tok_of}
-use Rattle.ipg_read.specs.Rowed.{rows_of}
-use Rattle.ipg_read.specs.Asked as A
-use Rattle.ipg_read.proofs.scan.advance.Given as goal
+use Rattle.ipg_scan.specs.Lexemes.{tok_of}
+use Rattle.ipg_scan.specs.Rowed.{rows_of}
+use Rattle.ipg_scan.specs.Asked as A
+use Rattle.ipg_scan.proofs.scanning.advance.Given as goal
 
 abbrev pub decreases-loop-entry : goal.decreases-loop-entry
 decreases-loop-entry l = length l.due

@@ -2,11 +2,11 @@
 
 ghost use Rattle.std.specs.Prelude.{◌≡◌, ◌+◌, ◌<◌, ◌^◌, [], ◌∷◌, ◌++◌, OnOk, IfOk};
 ghost use Rattle.ipg_syntax.specs.Classes.{classes};
-ghost use Rattle.ipg_read.specs.Lexemes.{tok_of};
-ghost use Rattle.ipg_read.specs.Rowed.{row_of, rows_of};
-ghost use Rattle.ipg_read.specs.Asked as A;
-ghost use Rattle.ipg_read.specs.Answered.{rows_in, next_of};
-ghost use Rattle.ipg_read.specs.Scanned.{step_of, rows_found};
+ghost use Rattle.ipg_scan.specs.Lexemes.{tok_of};
+ghost use Rattle.ipg_scan.specs.Rowed.{row_of, rows_of};
+ghost use Rattle.ipg_scan.specs.Asked as A;
+ghost use Rattle.ipg_scan.specs.Answered.{rows_in, next_of};
+ghost use Rattle.ipg_scan.specs.Scanned.{step_of, rows_found};
 
 use crate::due::{Answer, Due, Next, Rows, ask};
 use crate::lexeme::{Lexeme, lexeme_of};

@@ -1,13 +1,13 @@
 -- What the code's tokens and operators stand for.
 use Rattle.ipg_ast.specs.declared.grammar.Ident.{Ident}
 use Rattle.ipg_syntax.specs.Classes as C
-use Rattle.ipg_read.specs.declared.lexeme.Label.{Label}
-use Rattle.ipg_read.specs.declared.lexeme.Infix.{Infix}
-use Rattle.ipg_read.specs.declared.lexeme.Infix.TheVariants.{Either, Both, Op}
-use Rattle.ipg_read.specs.declared.lexeme.Lexeme.{Lexeme}
-use Rattle.ipg_read.specs.declared.lexeme.Lexeme.TheVariants.{Name, Number, Text, Sign, Bang, Question, Colon, Dot, Comma, Equals, Arrow, Semicolon}
-use Rattle.ipg_read.specs.declared.lexeme.Lexeme.TheVariants.{LeftParen, RightParen, LeftBracket, RightBracket, LeftBrace, RightBrace, For}
-use Rattle.ipg_read.specs.declared.lexeme.Lexeme.TheVariants.{To, Do, Switch, Case, Else, Where, Start, End, Eoi, Many, Stray}
+use Rattle.ipg_scan.specs.declared.lexeme.Label.{Label}
+use Rattle.ipg_scan.specs.declared.lexeme.Infix.{Infix}
+use Rattle.ipg_scan.specs.declared.lexeme.Infix.TheVariants.{Either, Both, Op}
+use Rattle.ipg_scan.specs.declared.lexeme.Lexeme.{Lexeme}
+use Rattle.ipg_scan.specs.declared.lexeme.Lexeme.TheVariants.{Name, Number, Text, Sign, Bang, Question, Colon, Dot, Comma, Equals, Arrow, Semicolon}
+use Rattle.ipg_scan.specs.declared.lexeme.Lexeme.TheVariants.{LeftParen, RightParen, LeftBracket, RightBracket, LeftBrace, RightBrace, For}
+use Rattle.ipg_scan.specs.declared.lexeme.Lexeme.TheVariants.{To, Do, Switch, Case, Else, Where, Start, End, Eoi, Many, Stray}
 
 abbrev pub ident_of : Label → Ident
 ident_of l = record { name = l.name.now; span = l.span }

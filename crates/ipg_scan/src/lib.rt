@@ -1,0 +1,15 @@
+//! The rows of a text's tokens: a scan over a stack of what is due.
+#![tactic(auto)]
+
+mod due;
+mod lexeme;
+mod row;
+mod scanning;
+mod stack;
+#[cfg(test)]
+mod tests;
+
+pub use lexeme::{Infix, Label};
+pub use row::{Extent, Member, Role, Row, Site};
+pub use scanning::{Found, scan};
+pub use stack::Stack;
