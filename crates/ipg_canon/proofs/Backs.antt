@@ -11,10 +11,11 @@ use Rattle.ipg_syntax.specs.Written.{RuleTree, Fits, spell}
 use Rattle.ipg_syntax.specs.Limits.{Over, sizes, first_over}
 use Rattle.ipg_syntax.specs.Machine.{Acts, Read, verdict, start_state}
 use Rattle.ipg_syntax.specs.Counting.{counters}
-use Rattle.ipg_syntax.specs.Making.{trees, made, grammar_of, rules_by}
-use Rattle.ipg_canon.specs.Bare.{bare, bare_rule, every}
+use Rattle.ipg_syntax.specs.Making.{trees, made, rules_by}
+use Rattle.ipg_canon.specs.Bare.{bare, bare_rule}
 use Rattle.ipg_syntax.specs.Reading.{ReadsTree}
 use Rattle.ipg_canon.specs.Laws.{ReadsBack, ReadsTokensBack}
+use Rattle.ipg_syntax.proofs.Makes.{makes_rules}
 use Rattle.ipg_syntax.proofs.TakesRules.{takes}
 use Rattle.ipg_syntax.proofs.Logs.{log_rules}
 use Rattle.ipg_syntax.proofs.Maps.{Maps, plains, on_read, whole_map}
@@ -28,6 +29,8 @@ use Rattle.ipg_canon.proofs.Images.{Of, grammar_tree}
 use Rattle.ipg_canon.proofs.Spelt.{spell_kinds}
 use Rattle.ipg_canon.proofs.Kinded.{same_kinds}
 use Rattle.ipg_canon.proofs.Forms.{formed_fits}
+use Rattle.ipg_syntax.specs.Grammars.{every}
+use Rattle.ipg_syntax.specs.Grammars.{grammar_of}
 
 -- the counters do not look at places
 abbrev blind : Maps counters counters
@@ -107,7 +110,13 @@ same_over : (t u : List RuleTree) → Fits t → Fits u → plains (spell t) ≡
 same_over t u ft fu same = sym (counted t) ∙ ap over_in (same_read counters blind t u ft fu same) ∙ counted u
 
 same_bare : (t u : List RuleTree) → Fits t → Fits u → plains (spell t) ≡ plains (spell u) → bare (grammar_of t) ≡ bare (grammar_of u)
-same_bare t u ft fu same = ap (λ v. record { rules = rules_in v (every bare_rule (rules_by made [] t)) }) (same_read made bared t u ft fu same)
+same_bare t u ft fu same =
+    sym (bare_by t)
+    ∙ ap (λ v. record { rules = rules_in v (every bare_rule (rules_by made [] t)) }) (same_read made bared t u ft fu same)
+    ∙ bare_by u
+  where
+    bare_by : (rs : List RuleTree) → record { rules = every bare_rule (rules_by made [] rs) } ≡ bare (grammar_of rs)
+    bare_by rs = ap (λ rules. record { rules = every bare_rule rules }) (makes_rules [] rs)
 
 -- ---- back
 

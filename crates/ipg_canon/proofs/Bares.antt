@@ -10,10 +10,11 @@ use Rattle.ipg_ast.specs.declared.grammar.Alt.{Alt, out-roll-Alt, roll-Alt}
 use Rattle.ipg_ast.specs.declared.grammar.Rule.{Rule, out-roll-Rule, roll-Rule}
 use Rattle.ipg_ast.specs.declared.grammar.Term.{Term}
 use Rattle.ipg_syntax.specs.Classes.{Infix, either, both, op}
-use Rattle.ipg_canon.specs.Bare.{bare_ident, bare_step, bare_expr, every, bare_place, bare_slot, bare_case, bare_term, bare_local_alt, bare_local}
+use Rattle.ipg_canon.specs.Bare.{bare_ident, bare_step, bare_expr, bare_place, bare_slot, bare_case, bare_term, bare_local_alt, bare_local}
 use Rattle.ipg_canon.specs.Bare.{bare_alt, bare_rule}
-use Rattle.ipg_syntax.specs.Making.{made, last, infix_expr, alt_of, rule_of}
+use Rattle.ipg_syntax.specs.Making.{made, last}
 use Rattle.ipg_syntax.proofs.Maps.{Maps}
+use Rattle.ipg_syntax.specs.Grammars.{every, infix_expr, alt_of, rule_of}
 
 pub bare_infix : (i : Infix) (a b : Expr) → bare_expr (infix_expr i a b) ≡ infix_expr i (bare_expr a) (bare_expr b)
 bare_infix either a b = ap bare_expr (sym (rolls-Either a b)) ∙ fold-roll-Expr Expr bare_step (Expr-F.Either a b)

@@ -16,12 +16,11 @@ use Rattle.ipg_syntax.specs.Written.{spell_expr, spell_case, spell_cases, spell_
 use Rattle.ipg_syntax.specs.Written.{prefix_level, Each, SomeEach, PlaceFits, CaseFits, TermFits, TermsFit, LocalFits, AltFits, RuleFits, Fits}
 use Rattle.ipg_syntax.specs.Limits.{Size, past, depth, is_over, first_over, expr_size, place_sizes, slot_sizes, case_sizes, cases_sizes, term_sizes}
 use Rattle.ipg_syntax.specs.Limits.{terms_sizes, local_alts_sizes, locals_sizes, alt_sizes, alts_sizes, locals_in, rules_sizes, sizes}
-use Rattle.ipg_canon.specs.Bare.{every}
-use Rattle.ipg_syntax.specs.Making.{made, expr_by, place_by, term_by, grammar_of}
 use Rattle.ipg_canon.specs.Laws.{ReadsFormed}
 use Rattle.ipg_syntax.proofs.Frames.{level_high}
-use Rattle.ipg_canon.proofs.Images.{made_case, made_local_alt, made_local, made_alt, made_rule, cases_made, grammar_made}
 use Rattle.ipg_canon.proofs.Forms.{Within, form_tree, form_made, depth_form, length_every, rule_counted}
+use Rattle.ipg_syntax.specs.Grammars.{every, made_expr, made_place, made_case, made_term}
+use Rattle.ipg_syntax.specs.Grammars.{made_local_alt, made_local, made_alt, made_rule, grammar_of}
 
 -- ---- sizes
 
@@ -82,7 +81,7 @@ tree_stands (choose c at a b) l high stand = record {
       (and_from (form_tree a).fits (form_tree b).fits (tree_stands a 0 (lit≤ tt) stand.2).fits (tree_stands b 0 (lit≤ tt) stand.3).fits);
 }
 
-formed_expr : (e : ExprTree) (at : ℕ) → Stands 0 e → Within (expr_size at e ∷ []) → IsFormedExpr (expr_by made e)
+formed_expr : (e : ExprTree) (at : ℕ) → Stands 0 e → Within (expr_size at e ∷ []) → IsFormedExpr (made_expr e)
 formed_expr e at stand within = record {
   fits = ap (λ f. f.fits) (form_made e) ∙ (tree_stands e 0 (lit≤ tt) stand).fits;
   depth = subst (λ n. n ≤ 64) (sym (ap (λ f. f.depth) (form_made e) ∙ depth_form e)) (ltb-false 64 (depth e) within.0);
@@ -90,7 +89,7 @@ formed_expr e at stand within = record {
 
 -- ---- places, slots, terms
 
-formed_place : (p : PlaceTree) (at : ℕ) → PlaceFits p → Within (place_sizes at p) → IsFormedPlace (place_by made p)
+formed_place : (p : PlaceTree) (at : ℕ) → PlaceFits p → Within (place_sizes at p) → IsFormedPlace (made_place p)
 formed_place anywhere at fits within = tt
 formed_place (long e) at fits within = formed_expr e (at + 1) fits within
 formed_place (ends l r) at fits within =
@@ -118,7 +117,7 @@ all_each : {X : Type 0} (P : X → Type 0) (xs : List X) → SomeEach P xs → E
 all_each P [] some = absurd some
 all_each P (x ∷ xs) some = some
 
-formed_term : (t : TermTree) (at : ℕ) → TermFits t → Within (term_sizes at t) → IsFormedTerm (term_by made t)
+formed_term : (t : TermTree) (at : ℕ) → TermFits t → Within (term_sizes at t) → IsFormedTerm (made_term t)
 formed_term (slot_term s) at fits within = formed_place s.place (at + 1) fits within
 formed_term (set_term x e) at fits within = formed_expr e (at + 1 + 1 + 1) fits within
 formed_term (test_term span e) at fits within = formed_expr e (at + 1 + 1) fits within
@@ -134,15 +133,14 @@ formed_term (repeat_term x a b i l r) at fits within =
 formed_term (many_term span i p) at fits within = formed_place p (at + 1 + 1) fits within
 formed_term (pick_term span cs s) at fits within =
     let mid : ℕ = past (at + 1 + 1) (spell_cases cs) + 1 in
-    let first : List Size = cases_sizes (at + 1 + 1) cs in
-    let same = sym (cases_made [] cs) in (
-      subst (λ xs. 0 < length xs) same (filled made_case CaseFits cs fits.0),
-      subst (AllByRecursion IsFormedCase) same (formed_cases cs (at + 1 + 1) (all_each CaseFits cs fits.0) (within_left first (slot_sizes mid s) within)),
+    let first : List Size = cases_sizes (at + 1 + 1) cs in (
+      filled made_case CaseFits cs fits.0,
+      formed_cases cs (at + 1 + 1) (all_each CaseFits cs fits.0) (within_left first (slot_sizes mid s) within),
       formed_place s.place (mid + 1) fits.1 (within_right first (slot_sizes mid s) within),
     )
 
 formed_terms : (n at : ℕ) (ts : List TermTree) → n ≤ 256 → Each TermFits ts → Within (terms_sizes n at ts)
-    → AllByRecursion IsFormedTerm (every (term_by made) ts) × (n + length ts ≤ 256)
+    → AllByRecursion IsFormedTerm (every made_term ts) × (n + length ts ≤ 256)
 formed_terms n at [] few fits within = (tt, omega (arith, few))
 formed_terms n at (t ∷ ts) few fits within =
     let next : ℕ = past at (spell_term t) in
@@ -150,10 +148,10 @@ formed_terms n at (t ∷ ts) few fits within =
     let others = formed_terms (n + 1) next ts (ltb-false 256 (n + 1) within.0) fits.1 (within_right (term_sizes at t) rest within.1) in
     ((formed_term t at fits.0 (within_left (term_sizes at t) rest within.1), others.0), omega (arith, others.1))
 
-all_formed_terms : (at : ℕ) (ts : List TermTree) → TermsFit ts → Within (terms_sizes 0 at ts) → IsFormedTerms (every (term_by made) ts)
+all_formed_terms : (at : ℕ) (ts : List TermTree) → TermsFit ts → Within (terms_sizes 0 at ts) → IsFormedTerms (every made_term ts)
 all_formed_terms at ts fits within =
     let all = formed_terms 0 at ts (lit≤ tt) (all_each TermFits ts fits) within in
-    record { count = (filled (term_by made) TermFits ts fits, omega (arith, all.1, length_every (term_by made) ts)); each = all.0 }
+    record { count = (filled made_term TermFits ts fits, omega (arith, all.1, length_every made_term ts)); each = all.0 }
 
 formed_local_alts : (n at : ℕ) (las : List (List TermTree)) → n ≤ 64 → Each TermsFit las → Within (local_alts_sizes n at las)
     → AllByRecursion IsFormedLocalAlt (every made_local_alt las) × (n + length las ≤ 64)
@@ -161,7 +159,7 @@ formed_local_alts n at [] few fits within = (tt, omega (arith, few))
 formed_local_alts n at (ts ∷ las) few fits within =
     let next : ℕ = past (at + 1) (spell_terms ts) in
     let rest : List Size = local_alts_sizes (n + 1) next las in
-    let shown = sym (out-roll-Alt (record { terms = every (term_by made) ts; locals = [] })) in
+    let shown = sym (out-roll-Alt (record { terms = every made_term ts; locals = [] })) in
     let others = formed_local_alts (n + 1) next las (ltb-false 64 (n + 1) within.0) fits.1 (within_right (terms_sizes 0 (at + 1) ts) rest within.1) in (
       (
         record {
@@ -194,7 +192,7 @@ formed_locals k at (l ∷ ls) few fits within =
 
 formed_alt : (k at : ℕ) (a : AltTree) → k ≤ 1024 → AltFits a → Within (alt_sizes k at a) → IsFormedAlt (made_alt a) × (k + length a.locals ≤ 1024)
 formed_alt k at a few fits within =
-    let shown = sym (out-roll-Alt (record { terms = every (term_by made) a.terms; locals = every made_local a.locals })) in
+    let shown = sym (out-roll-Alt (record { terms = every made_term a.terms; locals = every made_local a.locals })) in
     let from : ℕ = past at (spell_terms a.terms) + 1 + 1 in
     let first : List Size = terms_sizes 0 at a.terms in
     let rest : List Size = locals_sizes k from a.locals in
@@ -237,9 +235,7 @@ formed_rules k at (r ∷ rs) few fits within =
 formed_tree : (rs : List RuleTree) → Fits rs → first_over (sizes rs) ≡ None → IsFormed (grammar_of rs)
 formed_tree rs fits none =
     let all = formed_rules 0 0 rs (lit≤ tt) (all_each RuleFits rs fits) (none_within (sizes rs) none) in
-    let formed : IsFormed (record { rules = every made_rule rs }) =
-    record { some = filled made_rule RuleFits rs fits; count = omega (arith, all.1); each = all.0 } in
-    subst IsFormed (sym (grammar_made rs)) formed
+    record { some = filled made_rule RuleFits rs fits; count = omega (arith, all.1); each = all.0 }
 
 pub reads_formed : ReadsFormed
 reads_formed text g r = subst IsFormed (sym r.is) (formed_tree r.tree r.reads.fits r.within)

@@ -24,9 +24,8 @@ use Rattle.ipg_syntax.specs.Written.{spell_expr, spell_case, spell_cases, spell_
 use Rattle.ipg_syntax.specs.Written.{prefix_level, Each, SomeEach, PlaceFits, CaseFits, TermFits, TermsFit, LocalFits, AltFits, RuleFits, Fits}
 use Rattle.ipg_syntax.specs.Limits.{Size, past, depth, is_over, first_over, expr_size, place_sizes, slot_sizes, case_sizes, cases_sizes, term_sizes}
 use Rattle.ipg_syntax.specs.Limits.{terms_sizes, local_alts_sizes, locals_sizes, alt_sizes, alts_sizes, locals_in, rules_sizes, sizes}
-use Rattle.ipg_canon.specs.Bare.{every}
-use Rattle.ipg_syntax.specs.Making.{made, infix_expr, expr_by, place_by, term_by, grammar_of}
-use Rattle.ipg_canon.proofs.Images.{made_case, made_local_alt, made_local, made_alt, made_rule, cases_made, grammar_made}
+use Rattle.ipg_syntax.specs.Grammars.{every, infix_expr, made_expr, made_place, made_case, made_term}
+use Rattle.ipg_syntax.specs.Grammars.{made_local_alt, made_local, made_alt, made_rule, grammar_of}
 
 -- ---- expressions
 
@@ -70,24 +69,24 @@ infix_form both x y = ap form_of (sym (rolls-Both x y)) ∙ fold-roll-Expr Form 
 infix_form (op o) x y =
     ap form_of (sym (rolls-Two o x y)) ∙ fold-roll-Expr Form form_step (Expr-F.Two o x y) ∙ ap (λ l. infixed l (form_of x) (form_of y)) (same_level o)
 
-pub form_made : (e : ExprTree) → form_of (expr_by made e) ≡ form_tree e
+pub form_made : (e : ExprTree) → form_of (made_expr e) ≡ form_tree e
 form_made (num z) = ap form_of (sym (rolls-Num z)) ∙ fold-roll-Expr Form form_step (Expr-F.Num z)
 form_made eoi = ap form_of (sym rolls-Eoi) ∙ fold-roll-Expr Form form_step Expr-F.Eoi
 form_made (own i) = ap form_of (sym (rolls-Id i)) ∙ fold-roll-Expr Form form_step (Expr-F.Id i)
 form_made (part i f) = ap form_of (sym (rolls-Part i f)) ∙ fold-roll-Expr Form form_step (Expr-F.Part i f)
 form_made (item i e f) =
-    ap form_of (sym (rolls-Item i (expr_by made e) f)) ∙ fold-roll-Expr Form form_step (Expr-F.Item i (expr_by made e) f)
+    ap form_of (sym (rolls-Item i (made_expr e) f)) ∙ fold-roll-Expr Form form_step (Expr-F.Item i (made_expr e) f)
     ∙ ap (λ x. alone (x.depth + 1) x.fits) (form_made e)
 form_made (group e) =
-    ap form_of (sym (rolls-Group (expr_by made e))) ∙ fold-roll-Expr Form form_step (Expr-F.Group (expr_by made e))
+    ap form_of (sym (rolls-Group (made_expr e))) ∙ fold-roll-Expr Form form_step (Expr-F.Group (made_expr e))
     ∙ ap (λ x. alone (x.depth + 1) x.fits) (form_made e)
-form_made (neg e) = ap form_of (sym (rolls-Neg (expr_by made e))) ∙ fold-roll-Expr Form form_step (Expr-F.Neg (expr_by made e)) ∙ ap prefixed (form_made e)
-form_made (isnt e) = ap form_of (sym (rolls-Not (expr_by made e))) ∙ fold-roll-Expr Form form_step (Expr-F.Not (expr_by made e)) ∙ ap prefixed (form_made e)
-form_made (two i a b) = infix_form i (expr_by made a) (expr_by made b) ∙ ap₂ (infixed (level i)) (form_made a) (form_made b)
+form_made (neg e) = ap form_of (sym (rolls-Neg (made_expr e))) ∙ fold-roll-Expr Form form_step (Expr-F.Neg (made_expr e)) ∙ ap prefixed (form_made e)
+form_made (isnt e) = ap form_of (sym (rolls-Not (made_expr e))) ∙ fold-roll-Expr Form form_step (Expr-F.Not (made_expr e)) ∙ ap prefixed (form_made e)
+form_made (two i a b) = infix_form i (made_expr a) (made_expr b) ∙ ap₂ (infixed (level i)) (form_made a) (form_made b)
 form_made (choose c at a b) =
-    let w : Expr = expr_by made c in
-    let x : Expr = expr_by made a in
-    let y : Expr = expr_by made b in
+    let w : Expr = made_expr c in
+    let x : Expr = made_expr a in
+    let y : Expr = made_expr b in
     ap form_of (sym (rolls-Cond w x y)) ∙ fold-roll-Expr Form form_step (Expr-F.Cond w x y)
     ∙ ap (λ f. record {
       level = 0;
@@ -157,12 +156,12 @@ within_first [] within = refl
 within_first (z ∷ zs) within =
     ap (λ b. cond b (Some (record { which = z.which; at = z.at })) (first_over zs)) within.0 ∙ within_first zs within.1
 
-expr_formed : (e : ExprTree) (at : ℕ) → IsFormedExpr (expr_by made e) → Stands 0 e × Within (expr_size at e ∷ [])
+expr_formed : (e : ExprTree) (at : ℕ) → IsFormedExpr (made_expr e) → Stands 0 e × Within (expr_size at e ∷ [])
 expr_formed e at formed =
     let shallow : depth e ≤ 64 = subst (λ n. n ≤ 64) (ap (λ f. f.depth) (form_made e) ∙ depth_form e) formed.depth in
     (form_stands e 0 (any_level (form_tree e).level) (ap (λ f. f.fits) (sym (form_made e)) ∙ formed.fits), (le-ltb 64 (depth e) shallow, tt))
 
-place_formed : (p : PlaceTree) (at : ℕ) → IsFormedPlace (place_by made p) → PlaceFits p × Within (place_sizes at p)
+place_formed : (p : PlaceTree) (at : ℕ) → IsFormedPlace (made_place p) → PlaceFits p × Within (place_sizes at p)
 place_formed anywhere at formed = (tt, tt)
 place_formed (long e) at formed = expr_formed e (at + 1) formed
 place_formed (ends l r) at formed =
@@ -192,7 +191,7 @@ pub length_every : {X Y : Type 0} (f : X → Y) (xs : List X) → length (every 
 length_every f [] = refl
 length_every f (x ∷ xs) = ap suc (length_every f xs)
 
-term_formed : (t : TermTree) (at : ℕ) → IsFormedTerm (term_by made t) → TermFits t × Within (term_sizes at t)
+term_formed : (t : TermTree) (at : ℕ) → IsFormedTerm (made_term t) → TermFits t × Within (term_sizes at t)
 term_formed (slot_term s) at formed = place_formed s.place (at + 1) formed
 term_formed (set_term x e) at formed = expr_formed e (at + 1 + 1 + 1) formed
 term_formed (test_term span e) at formed = expr_formed e (at + 1 + 1) formed
@@ -208,13 +207,11 @@ term_formed (repeat_term x a b i l r) at formed =
 term_formed (many_term span i p) at formed = place_formed p (at + 1 + 1) formed
 term_formed (pick_term span cs s) at formed =
     let mid : ℕ = past (at + 1 + 1) (spell_cases cs) + 1 in
-    let all : AllByRecursion IsFormedCase (every made_case cs) = subst (AllByRecursion IsFormedCase) (cases_made [] cs) formed.1 in
-    let some : 0 < length (every made_case cs) = subst (λ xs. 0 < length xs) (cases_made [] cs) formed.0 in
-    let cases = cases_formed cs (at + 1 + 1) all in
+    let cases = cases_formed cs (at + 1 + 1) formed.1 in
     let slot = place_formed s.place (mid + 1) formed.2 in
-    ((some_from made_case CaseFits cs some cases.0, slot.0), within_append (cases_sizes (at + 1 + 1) cs) (slot_sizes mid s) cases.1 slot.1)
+    ((some_from made_case CaseFits cs formed.0 cases.0, slot.0), within_append (cases_sizes (at + 1 + 1) cs) (slot_sizes mid s) cases.1 slot.1)
 
-terms_formed : (n at : ℕ) (ts : List TermTree) → AllByRecursion IsFormedTerm (every (term_by made) ts) → n + length ts ≤ 256
+terms_formed : (n at : ℕ) (ts : List TermTree) → AllByRecursion IsFormedTerm (every made_term ts) → n + length ts ≤ 256
     → Each TermFits ts × Within (terms_sizes n at ts)
 terms_formed n at [] formed few = (tt, tt)
 terms_formed n at (t ∷ ts) formed few =
@@ -224,19 +221,19 @@ terms_formed n at (t ∷ ts) formed few =
     let rest = terms_formed (n + 1) next ts formed.1 fewer in
     ((first.0, rest.0), (le-ltb 256 (n + 1) (omega (arith, fewer)), within_append (term_sizes at t) (terms_sizes (n + 1) next ts) first.1 rest.1))
 
-all_terms_formed : (at : ℕ) (ts : List TermTree) → IsFormedTerms (every (term_by made) ts) → TermsFit ts × Within (terms_sizes 0 at ts)
+all_terms_formed : (at : ℕ) (ts : List TermTree) → IsFormedTerms (every made_term ts) → TermsFit ts × Within (terms_sizes 0 at ts)
 all_terms_formed at ts formed =
-    let few : 0 + length ts ≤ 256 = omega (arith, formed.count.1, length_every (term_by made) ts) in
+    let few : 0 + length ts ≤ 256 = omega (arith, formed.count.1, length_every made_term ts) in
     let all = terms_formed 0 at ts formed.each few in
-    (some_from (term_by made) TermFits ts formed.count.0 all.0, all.1)
+    (some_from made_term TermFits ts formed.count.0 all.0, all.1)
 
 local_alts_formed : (n at : ℕ) (las : List (List TermTree)) → AllByRecursion IsFormedLocalAlt (every made_local_alt las) → n + length las ≤ 64
     → Each TermsFit las × Within (local_alts_sizes n at las)
 local_alts_formed n at [] formed few = (tt, tt)
 local_alts_formed n at (ts ∷ las) formed few =
     let next : ℕ = past (at + 1) (spell_terms ts) in
-    let terms : IsFormedTerms (every (term_by made) ts) =
-    subst IsFormedTerms (ap (λ a. a.terms) (out-roll-Alt (record { terms = every (term_by made) ts; locals = [] }))) formed.0.terms in
+    let terms : IsFormedTerms (every made_term ts) =
+    subst IsFormedTerms (ap (λ a. a.terms) (out-roll-Alt (record { terms = every made_term ts; locals = [] }))) formed.0.terms in
     let first = all_terms_formed (at + 1) ts terms in
     let fewer : n + 1 + length las ≤ 64 = omega (arith, few) in
     let rest = local_alts_formed (n + 1) next las formed.1 fewer in (
@@ -275,7 +272,7 @@ locals_formed k at (l ∷ ls) formed few =
 
 alt_formed : (k at : ℕ) (a : AltTree) → IsFormedAlt (made_alt a) → k + length a.locals ≤ 1024 → AltFits a × Within (alt_sizes k at a)
 alt_formed k at a formed few =
-    let shown = out-roll-Alt (record { terms = every (term_by made) a.terms; locals = every made_local a.locals }) in
+    let shown = out-roll-Alt (record { terms = every made_term a.terms; locals = every made_local a.locals }) in
     let from : ℕ = past at (spell_terms a.terms) + 1 + 1 in
     let terms = all_terms_formed at a.terms (subst IsFormedTerms (ap (λ x. x.terms) shown) formed.terms) in
     let locals = locals_formed k from a.locals (subst (AllByRecursion IsFormedLocal) (ap (λ x. x.locals) shown) formed.locals) few in
@@ -304,7 +301,7 @@ locals_counted [] = refl
 locals_counted (a ∷ alts) =
     sum_by_from Shape.locals_in (0 + Shape.locals_in (made_alt a)) (every made_alt alts)
     ∙ ap₂ (λ m n. 0 + m + n)
-    (ap (λ x. length x.locals) (out-roll-Alt (record { terms = every (term_by made) a.terms; locals = every made_local a.locals }))
+    (ap (λ x. length x.locals) (out-roll-Alt (record { terms = every made_term a.terms; locals = every made_local a.locals }))
     ∙ length_every made_local a.locals)
     (locals_counted alts)
     ∙ (let none : 0 + length a.locals + locals_in alts ≡ length a.locals + locals_in alts = omega arith in none)
@@ -337,8 +334,7 @@ rules_formed k at (r ∷ rs) formed few =
 
 -- a well formed grammar's tree fits, and passes no limit
 pub formed_fits : (rs : List RuleTree) → IsFormed (grammar_of rs) → Fits rs × (first_over (sizes rs) ≡ None)
-formed_fits rs made_formed =
-    let formed : IsFormed (record { rules = every made_rule rs }) = subst IsFormed (grammar_made rs) made_formed in
+formed_fits rs formed =
     let few : 0 + count_rules (every made_rule rs) ≤ 1024 = omega (arith, formed.count) in
     let all = rules_formed 0 0 rs formed.each few in
     (some_from made_rule RuleFits rs formed.some all.0, within_first (sizes rs) all.1)

@@ -1,5 +1,5 @@
 -- Each well formed grammar of the public types is made of a tree.
-use Rattle.std.proofs.Common.{◌≡◌, List, [], ◌∷◌, ◌++◌, refl, ap, ap₂, ◌∙◌, sym, subst, append_assoc, append-nil}
+use Rattle.std.proofs.Common.{◌≡◌, List, [], ◌∷◌, refl, ap, ap₂, ◌∙◌, sym, subst}
 use Rattle.std.specs.List.{AllByRecursion}
 use Rattle.ipg_ast.specs.declared.grammar.Expr.{Expr, roll-Expr, map-Expr}
 use Rattle.ipg_ast.specs.declared.grammar.Expr.TheOpen.{Expr-F}
@@ -19,16 +19,14 @@ use Rattle.ipg_ast.specs.declared.grammar.Rule.{Rule, out-Rule, roll-out-Rule}
 use Rattle.ipg_ast.specs.declared.grammar.Grammar.{Grammar}
 use Rattle.ipg_ast.specs.Shape.{IsFormedTerm, IsFormedTerms, IsFormedLocalAlt, IsFormedLocal, IsFormedAlt, IsFormedRule, IsFormed}
 use Rattle.ipg_syntax.specs.Classes.{either, both, op}
-use Rattle.ipg_syntax.specs.Written.{ExprTree, num, eoi, own, part, item, group, neg, isnt, two, choose, anywhere, long, ends, CaseTree, TermTree}
-use Rattle.ipg_syntax.specs.Written.{slot_term, set_term, test_term, repeat_term, many_term, pick_term, LocalTree, AltTree, RuleTree}
-use Rattle.ipg_canon.specs.Bare.{every}
-use Rattle.ipg_syntax.specs.Making.{made, last, alt_of, rule_of, expr_by, place_by, slot_by, cases_by, term_by, terms_by, local_alts_by, locals_by}
-use Rattle.ipg_syntax.specs.Making.{alts_by, rules_by, grammar_of}
-use Rattle.ipg_syntax.proofs.Selfs.{moved}
+use Rattle.ipg_syntax.specs.Written.{ExprTree, num, eoi, own, part, item, group, neg, isnt, two, choose, anywhere, long, ends}
+use Rattle.ipg_syntax.specs.Written.{slot_term, set_term, test_term, repeat_term, many_term, pick_term}
+use Rattle.ipg_syntax.specs.Grammars.{every, made_expr, made_place, made_slot, made_case, made_term, alt_of, rule_of}
+use Rattle.ipg_syntax.specs.Grammars.{made_local_alt, made_local, made_alt, made_rule, grammar_of}
 
 pub record ExprOf (e : Expr) : Type 0 where
   pub tree : ExprTree
-  pub is : expr_by made tree ≡ e
+  pub is : made_expr tree ≡ e
 
 abbrev Child : Type 0
 Child = (e : Expr) × ExprOf e
@@ -50,64 +48,11 @@ layer (Both a b) = record { tree = two both a.1.tree b.1.tree; is = ap₂ (λ x 
 layer (Either a b) = record { tree = two either a.1.tree b.1.tree; is = ap₂ (λ x y. E.Either x y) a.1.is b.1.is ∙ sym (rolls-Either a.0 b.0) }
 layer (Cond c a b) = record {
   tree = choose c.1.tree (record { from = 0; to = 0 }) a.1.tree b.1.tree;
-  is = ap (λ x. E.Cond x (expr_by made a.1.tree) (expr_by made b.1.tree)) c.1.is ∙ ap₂ (λ x y. E.Cond c.0 x y) a.1.is b.1.is ∙ sym (rolls-Cond c.0 a.0 b.0);
+  is = ap (λ x. E.Cond x (made_expr a.1.tree) (made_expr b.1.tree)) c.1.is ∙ ap₂ (λ x y. E.Cond c.0 x y) a.1.is b.1.is ∙ sym (rolls-Cond c.0 a.0 b.0);
 }
 
 pub expr_of : (e : Expr) → ExprOf e
 expr_of = ind-Expr ExprOf (λ x y is. subst (λ z. ExprOf (roll-Expr z)) is (layer y))
-
--- ---- what trees are made into, member by member
-
-abbrev pub made_case : CaseTree → Case
-made_case c = record { cond = expr_by made c.test; slot = slot_by made c.slot }
-
-abbrev pub made_local_alt : List TermTree → Alt
-made_local_alt ts = alt_of (every (term_by made) ts) []
-
-abbrev pub made_local : LocalTree → Rule
-made_local l = rule_of l.head (every made_local_alt l.alts)
-
-abbrev pub made_alt : AltTree → Alt
-made_alt a = alt_of (every (term_by made) a.terms) (every made_local a.locals)
-
-abbrev pub made_rule : RuleTree → Rule
-made_rule r = rule_of r.head (every made_alt r.alts)
-
-pub cases_made : (before : List Case) (cs : List CaseTree) → cases_by made before cs ≡ before ++ every made_case cs
-cases_made before [] = sym (append-nil before)
-cases_made before (c ∷ cs) = cases_made (last before (made_case c)) cs ∙ append_assoc before (made_case c ∷ []) (every made_case cs)
-
-pub terms_made : (before : List Term) (ts : List TermTree) → terms_by made before ts ≡ before ++ every (term_by made) ts
-terms_made before [] = sym (append-nil before)
-terms_made before (t ∷ ts) = terms_made (last before (term_by made t)) ts ∙ append_assoc before (term_by made t ∷ []) (every (term_by made) ts)
-
-local_alts_made : (before : List Alt) (las : List (List TermTree)) → local_alts_by made before las ≡ before ++ every made_local_alt las
-local_alts_made before [] = sym (append-nil before)
-local_alts_made before (ts ∷ las) =
-    local_alts_made (last before (alt_of (terms_by made [] ts) [])) las
-    ∙ moved before (alt_of (terms_by made [] ts) []) (made_local_alt ts) (every made_local_alt las) (ap (λ x. alt_of x []) (terms_made [] ts))
-
-locals_made : (before : List Rule) (ls : List LocalTree) → locals_by made before ls ≡ before ++ every made_local ls
-locals_made before [] = sym (append-nil before)
-locals_made before (l ∷ ls) =
-    locals_made (last before (rule_of l.head (local_alts_by made [] l.alts))) ls
-    ∙ moved before (rule_of l.head (local_alts_by made [] l.alts)) (made_local l) (every made_local ls) (ap (rule_of l.head) (local_alts_made [] l.alts))
-
-alts_made : (before : List Alt) (alts : List AltTree) → alts_by made before alts ≡ before ++ every made_alt alts
-alts_made before [] = sym (append-nil before)
-alts_made before (a ∷ alts) =
-    alts_made (last before (alt_of (terms_by made [] a.terms) (locals_by made [] a.locals))) alts
-    ∙ moved before (alt_of (terms_by made [] a.terms) (locals_by made [] a.locals)) (made_alt a) (every made_alt alts)
-    (ap₂ alt_of (terms_made [] a.terms) (locals_made [] a.locals))
-
-rules_made : (before : List Rule) (rs : List RuleTree) → rules_by made before rs ≡ before ++ every made_rule rs
-rules_made before [] = sym (append-nil before)
-rules_made before (r ∷ rs) =
-    rules_made (last before (rule_of r.head (alts_by made [] r.alts))) rs
-    ∙ moved before (rule_of r.head (alts_by made [] r.alts)) (made_rule r) (every made_rule rs) (ap (rule_of r.head) (alts_made [] r.alts))
-
-pub grammar_made : (rs : List RuleTree) → grammar_of rs ≡ record { rules = every made_rule rs }
-grammar_made rs = ap (λ x. record { rules = x }) (rules_made [] rs)
 
 -- ---- each well formed grammar is made of a tree
 
@@ -129,12 +74,12 @@ all_any : {Y : Type 0} (ys : List Y) → AllByRecursion Any ys
 all_any [] = tt
 all_any (y ∷ ys) = (tt, all_any ys)
 
-place_tree : (p : Place) → Of (place_by made) p
+place_tree : (p : Place) → Of made_place p
 place_tree Open = record { tree = anywhere; is = refl }
 place_tree (Length e) = record { tree = long (expr_of e).tree; is = ap (λ x. Length x) (expr_of e).is }
 place_tree (Ends l r) = record { tree = ends (expr_of l).tree (expr_of r).tree; is = ap₂ (λ x y. Ends x y) (expr_of l).is (expr_of r).is }
 
-slot_tree : (s : Slot) → Of (slot_by made) s
+slot_tree : (s : Slot) → Of made_slot s
 slot_tree s = record {
   tree = record { what = s.what; span = s.span; place = (place_tree s.place).tree };
   is = ap (λ p. record { what = s.what; span = s.span; place = p }) (place_tree s.place).is;
@@ -146,26 +91,26 @@ case_tree c any = record {
   is = ap₂ (λ e s. record { cond = e; slot = s }) (expr_of c.cond).is (slot_tree c.slot).is;
 }
 
-term_tree : (t : Term) → IsFormedTerm t → Of (term_by made) t
+term_tree : (t : Term) → IsFormedTerm t → Of made_term t
 term_tree (T.Slot s) any = record { tree = slot_term (slot_tree s).tree; is = ap (λ x. T.Slot x) (slot_tree s).is }
 term_tree (T.Set x e) any = record { tree = set_term x (expr_of e).tree; is = ap (λ y. T.Set x y) (expr_of e).is }
 term_tree (T.Test at e) any = record { tree = test_term at (expr_of e).tree; is = ap (λ y. T.Test at y) (expr_of e).is }
 term_tree (T.Repeat x a b i l r) any = record {
   tree = repeat_term x (expr_of a).tree (expr_of b).tree i (expr_of l).tree (expr_of r).tree;
-  is = ap₂ (λ c d. T.Repeat x c d i (expr_by made (expr_of l).tree) (expr_by made (expr_of r).tree)) (expr_of a).is (expr_of b).is
+  is = ap₂ (λ c d. T.Repeat x c d i (made_expr (expr_of l).tree) (made_expr (expr_of r).tree)) (expr_of a).is (expr_of b).is
       ∙ ap₂ (λ c d. T.Repeat x a b i c d) (expr_of l).is (expr_of r).is;
 }
 term_tree (T.Many at i p) any = record { tree = many_term at i (place_tree p).tree; is = ap (λ x. T.Many at i x) (place_tree p).is }
 term_tree (T.Pick at cs s) any =
     let cases : Of (every made_case) cs = each_of made_case Any case_tree cs (all_any cs) in
-    record { tree = pick_term at cases.tree (slot_tree s).tree; is = ap₂ (λ x y. T.Pick at x y) (cases_made [] cases.tree ∙ cases.is) (slot_tree s).is }
+    record { tree = pick_term at cases.tree (slot_tree s).tree; is = ap₂ (λ x y. T.Pick at x y) cases.is (slot_tree s).is }
 
-terms_tree : (ts : List Term) → IsFormedTerms ts → Of (every (term_by made)) ts
-terms_tree ts formed = each_of (term_by made) IsFormedTerm term_tree ts formed.each
+terms_tree : (ts : List Term) → IsFormedTerms ts → Of (every made_term) ts
+terms_tree ts formed = each_of made_term IsFormedTerm term_tree ts formed.each
 
 local_alt_tree : (a : Alt) → IsFormedLocalAlt a → Of made_local_alt a
 local_alt_tree a formed =
-    let ts : Of (every (term_by made)) (out-Alt a).terms = terms_tree (out-Alt a).terms formed.terms in
+    let ts : Of (every made_term) (out-Alt a).terms = terms_tree (out-Alt a).terms formed.terms in
     record { tree = ts.tree; is = ap₂ alt_of ts.is (sym formed.no_locals) ∙ roll-out-Alt a }
 
 local_tree : (r : Rule) → IsFormedLocal r → Of made_local r
@@ -175,7 +120,7 @@ local_tree r formed =
 
 alt_tree : (a : Alt) → IsFormedAlt a → Of made_alt a
 alt_tree a formed =
-    let ts : Of (every (term_by made)) (out-Alt a).terms = terms_tree (out-Alt a).terms formed.terms in
+    let ts : Of (every made_term) (out-Alt a).terms = terms_tree (out-Alt a).terms formed.terms in
     let ls : Of (every made_local) (out-Alt a).locals = each_of made_local IsFormedLocal local_tree (out-Alt a).locals formed.locals in
     record { tree = record { terms = ts.tree; locals = ls.tree }; is = ap₂ alt_of ts.is ls.is ∙ roll-out-Alt a }
 
@@ -187,4 +132,4 @@ rule_tree r formed =
 pub grammar_tree : (g : Grammar) → IsFormed g → Of grammar_of g
 grammar_tree g formed =
     let rules : Of (every made_rule) g.rules = each_of made_rule IsFormedRule rule_tree g.rules formed.each in
-    record { tree = rules.tree; is = grammar_made rules.tree ∙ ap (λ rs. record { rules = rs }) rules.is }
+    record { tree = rules.tree; is = ap (λ rs. record { rules = rs }) rules.is }

@@ -25,9 +25,8 @@ use Rattle.ipg_syntax.specs.Written.{Toks, ExprTree, num, eoi, own, part, item, 
 use Rattle.ipg_syntax.specs.Written.{SlotTree, CaseTree, TermTree, slot_term, set_term, test_term, repeat_term, many_term, pick_term, LocalTree}
 use Rattle.ipg_syntax.specs.Written.{AltTree, RuleTree, field_tok, what_tok, spell_expr, spell_place, spell_slot, spell_case, spell_cases, spell_term}
 use Rattle.ipg_syntax.specs.Written.{spell_terms, spell_local_alts, spell_local, spell_locals, spell_where, spell_alt, spell_alts, spell_rule, spell}
-use Rattle.ipg_canon.specs.Bare.{every}
-use Rattle.ipg_syntax.specs.Making.{made, infix_expr, alt_of, expr_by, place_by, slot_by, cases_by, term_by, grammar_of}
-use Rattle.ipg_canon.proofs.Images.{made_case, made_local_alt, made_local, made_alt, made_rule, cases_made, grammar_made}
+use Rattle.ipg_syntax.specs.Grammars.{every, infix_expr, made_expr, made_place, made_slot, made_case, made_term, alt_of}
+use Rattle.ipg_syntax.specs.Grammars.{made_local_alt, made_local, made_alt, made_rule, grammar_of}
 
 abbrev pub infix_sign : Infix → List ℕ
 infix_sign either = codes "||"
@@ -83,7 +82,7 @@ field_kind (Attribute i) = refl
 field_kind Start = refl
 field_kind End = refl
 
-expr_kinds : (e : ExprTree) → kinds_of (spell_expr e) ≡ expr_tokens (expr_by made e)
+expr_kinds : (e : ExprTree) → kinds_of (spell_expr e) ≡ expr_tokens (made_expr e)
 expr_kinds (num z) = sym (ap expr_tokens (sym (rolls-Num z)) ∙ fold-roll-Expr Tokens expr_step (Expr-F.Num z))
 expr_kinds eoi = sym (ap expr_tokens (sym rolls-Eoi) ∙ fold-roll-Expr Tokens expr_step Expr-F.Eoi)
 expr_kinds (own i) = sym (ap expr_tokens (sym (rolls-Id i)) ∙ fold-roll-Expr Tokens expr_step (Expr-F.Id i))
@@ -91,24 +90,24 @@ expr_kinds (part i f) =
     ap (λ ts. Name i.name ∷ Symbol (codes ".") ∷ ts) (field_kind f)
     ∙ sym (ap expr_tokens (sym (rolls-Part i f)) ∙ fold-roll-Expr Tokens expr_step (Expr-F.Part i f))
 expr_kinds (item i e f) =
-    let x : Expr = expr_by made e in
+    let x : Expr = made_expr e in
     ap (λ ts. Name i.name ∷ Symbol (codes "(") ∷ ts)
     (in_a_row (spell_expr e) (right_paren ∷ dot ∷ field_tok f ∷ []) (expr_tokens x) (Symbol (codes ")") ∷ Symbol (codes ".") ∷ field_tokens f) (expr_kinds e)
     (ap (λ ts. Symbol (codes ")") ∷ Symbol (codes ".") ∷ ts) (field_kind f)))
     ∙ sym (ap expr_tokens (sym (rolls-Item i x f)) ∙ fold-roll-Expr Tokens expr_step (Expr-F.Item i x f))
 expr_kinds (group e) =
-    let x : Expr = expr_by made e in
+    let x : Expr = made_expr e in
     ap (λ ts. Symbol (codes "(") ∷ ts) (in_a_row (spell_expr e) (right_paren ∷ []) (expr_tokens x) (Symbol (codes ")") ∷ []) (expr_kinds e) refl)
     ∙ sym (ap expr_tokens (sym (rolls-Group x)) ∙ fold-roll-Expr Tokens expr_step (Expr-F.Group x))
 expr_kinds (neg e) =
-    let x : Expr = expr_by made e in
+    let x : Expr = made_expr e in
     ap (λ ts. Symbol (codes "-") ∷ ts) (expr_kinds e) ∙ sym (ap expr_tokens (sym (rolls-Neg x)) ∙ fold-roll-Expr Tokens expr_step (Expr-F.Neg x))
 expr_kinds (isnt e) =
-    let x : Expr = expr_by made e in
+    let x : Expr = made_expr e in
     ap (λ ts. Symbol (codes "!") ∷ ts) (expr_kinds e) ∙ sym (ap expr_tokens (sym (rolls-Not x)) ∙ fold-roll-Expr Tokens expr_step (Expr-F.Not x))
 expr_kinds (two i a b) =
-    let x : Expr = expr_by made a in
-    let y : Expr = expr_by made b in
+    let x : Expr = made_expr a in
+    let y : Expr = made_expr b in
     in_a_row (spell_expr a) (sign i ∷ spell_expr b) (expr_tokens x) (Symbol (infix_sign i) ∷ expr_tokens y) (expr_kinds a)
     (ap (λ ts. Symbol (infix_sign i) ∷ ts) (expr_kinds b))
     ∙ sym (infix_tokens i x y)
@@ -118,23 +117,23 @@ expr_kinds (two i a b) =
     infix_tokens both x y = ap expr_tokens (sym (rolls-Both x y)) ∙ fold-roll-Expr Tokens expr_step (Expr-F.Both x y)
     infix_tokens (op o) x y = ap expr_tokens (sym (rolls-Two o x y)) ∙ fold-roll-Expr Tokens expr_step (Expr-F.Two o x y)
 expr_kinds (choose c at a b) =
-    let w : Expr = expr_by made c in
-    let x : Expr = expr_by made a in
-    let y : Expr = expr_by made b in
+    let w : Expr = made_expr c in
+    let x : Expr = made_expr a in
+    let y : Expr = made_expr b in
     in_a_row (spell_expr c) (question at ∷ (spell_expr a ++ (colon ∷ spell_expr b))) (expr_tokens w)
     (Symbol (codes "?") ∷ (expr_tokens x ++ (Symbol (codes ":") ∷ expr_tokens y))) (expr_kinds c)
     (ap (λ ts. Symbol (codes "?") ∷ ts) (in_a_row (spell_expr a) (colon ∷ spell_expr b) (expr_tokens x) (Symbol (codes ":") ∷ expr_tokens y) (expr_kinds a)
     (ap (λ ts. Symbol (codes ":") ∷ ts) (expr_kinds b))))
     ∙ sym (ap expr_tokens (sym (rolls-Cond w x y)) ∙ fold-roll-Expr Tokens expr_step (Expr-F.Cond w x y))
 
-place_kinds : (p : PlaceTree) → kinds_of (spell_place p) ≡ place_tokens (place_by made p)
+place_kinds : (p : PlaceTree) → kinds_of (spell_place p) ≡ place_tokens (made_place p)
 place_kinds anywhere = refl
 place_kinds (long e) =
-    ap (λ ts. Symbol (codes "[") ∷ ts) (in_a_row (spell_expr e) (right_bracket ∷ []) (expr_tokens (expr_by made e)) (Symbol (codes "]") ∷ [])
+    ap (λ ts. Symbol (codes "[") ∷ ts) (in_a_row (spell_expr e) (right_bracket ∷ []) (expr_tokens (made_expr e)) (Symbol (codes "]") ∷ [])
     (expr_kinds e) refl)
 place_kinds (ends l r) =
-    let x : Tokens = expr_tokens (expr_by made l) in
-    let y : Tokens = expr_tokens (expr_by made r) in
+    let x : Tokens = expr_tokens (made_expr l) in
+    let y : Tokens = expr_tokens (made_expr r) in
     ap (λ ts. Symbol (codes "[") ∷ ts) (in_a_row (spell_expr l) (comma ∷ (spell_expr r ++ (right_bracket ∷ []))) x
     (Symbol (codes ",") ∷ (y ++ (Symbol (codes "]") ∷ []))) (expr_kinds l)
     (ap (λ ts. Symbol (codes ",") ∷ ts) (in_a_row (spell_expr r) (right_bracket ∷ []) y (Symbol (codes "]") ∷ []) (expr_kinds r) refl)))
@@ -143,44 +142,44 @@ what_kind : (w : What) (at : Span) → kind_of (what_tok w at) ≡ what_token w
 what_kind (TextWhat bs) at = refl
 what_kind (Call n) at = refl
 
-slot_kinds : (s : SlotTree) → kinds_of (spell_slot s) ≡ slot_tokens (slot_by made s)
+slot_kinds : (s : SlotTree) → kinds_of (spell_slot s) ≡ slot_tokens (made_slot s)
 slot_kinds s = ap₂ (λ t ts. t ∷ ts) (what_kind s.what s.span) (place_kinds s.place)
 
 case_kinds : (c : CaseTree) → kinds_of (spell_case c) ≡ case_tokens (made_case c)
 case_kinds c = ap (λ ts. Word (codes "case") ∷ Symbol (codes "(") ∷ ts)
-    (in_a_row (spell_expr c.test) (right_paren ∷ spell_slot c.slot) (expr_tokens (expr_by made c.test))
-    (Symbol (codes ")") ∷ slot_tokens (slot_by made c.slot)) (expr_kinds c.test)
+    (in_a_row (spell_expr c.test) (right_paren ∷ spell_slot c.slot) (expr_tokens (made_expr c.test))
+    (Symbol (codes ")") ∷ slot_tokens (made_slot c.slot)) (expr_kinds c.test)
     (ap (λ ts. Symbol (codes ")") ∷ ts) (slot_kinds c.slot)))
 
 cases_kinds : (cs : List CaseTree) → kinds_of (spell_cases cs) ≡ cases_tokens (every made_case cs)
 cases_kinds [] = refl
 cases_kinds (c ∷ cs) = in_a_row (spell_case c) (spell_cases cs) (case_tokens (made_case c)) (cases_tokens (every made_case cs)) (case_kinds c) (cases_kinds cs)
 
-term_kinds : (t : TermTree) → kinds_of (spell_term t) ≡ term_tokens (term_by made t)
+term_kinds : (t : TermTree) → kinds_of (spell_term t) ≡ term_tokens (made_term t)
 term_kinds (slot_term s) = slot_kinds s
 term_kinds (set_term x e) = ap (λ ts. Symbol (codes "{") ∷ Name x.name ∷ Symbol (codes "=") ∷ ts)
-    (in_a_row (spell_expr e) (right_brace ∷ []) (expr_tokens (expr_by made e)) (Symbol (codes "}") ∷ []) (expr_kinds e) refl)
+    (in_a_row (spell_expr e) (right_brace ∷ []) (expr_tokens (made_expr e)) (Symbol (codes "}") ∷ []) (expr_kinds e) refl)
 term_kinds (test_term at e) = ap (λ ts. Symbol (codes "?") ∷ Symbol (codes "(") ∷ ts)
-    (in_a_row (spell_expr e) (right_paren ∷ []) (expr_tokens (expr_by made e)) (Symbol (codes ")") ∷ []) (expr_kinds e) refl)
+    (in_a_row (spell_expr e) (right_paren ∷ []) (expr_tokens (made_expr e)) (Symbol (codes ")") ∷ []) (expr_kinds e) refl)
 term_kinds (repeat_term x a b i l r) =
-    let end : Tokens = Word (codes "do") ∷ Name i.name ∷ place_tokens (place_by made (ends l r)) in
+    let end : Tokens = Word (codes "do") ∷ Name i.name ∷ place_tokens (made_place (ends l r)) in
     ap (λ ts. Word (codes "for") ∷ Name x.name ∷ Symbol (codes "=") ∷ ts)
-    (in_a_row (spell_expr a) (to_word ∷ (spell_expr b ++ (do_word ∷ name i ∷ spell_place (ends l r)))) (expr_tokens (expr_by made a))
-    (Word (codes "to") ∷ (expr_tokens (expr_by made b) ++ end)) (expr_kinds a)
-    (ap (λ ts. Word (codes "to") ∷ ts) (in_a_row (spell_expr b) (do_word ∷ name i ∷ spell_place (ends l r)) (expr_tokens (expr_by made b)) end (expr_kinds b)
+    (in_a_row (spell_expr a) (to_word ∷ (spell_expr b ++ (do_word ∷ name i ∷ spell_place (ends l r)))) (expr_tokens (made_expr a))
+    (Word (codes "to") ∷ (expr_tokens (made_expr b) ++ end)) (expr_kinds a)
+    (ap (λ ts. Word (codes "to") ∷ ts) (in_a_row (spell_expr b) (do_word ∷ name i ∷ spell_place (ends l r)) (expr_tokens (made_expr b)) end (expr_kinds b)
     (ap (λ ts. Word (codes "do") ∷ Name i.name ∷ ts) (place_kinds (ends l r))))))
 term_kinds (many_term at i p) = ap (λ ts. Word (codes "many") ∷ Name i.name ∷ ts) (place_kinds p)
 term_kinds (pick_term at cs s) =
-    let end : Tokens = Word (codes "else") ∷ (slot_tokens (slot_by made s) ++ (Symbol (codes "}") ∷ [])) in
+    let end : Tokens = Word (codes "else") ∷ (slot_tokens (made_slot s) ++ (Symbol (codes "}") ∷ [])) in
     ap (λ ts. Word (codes "switch") ∷ Symbol (codes "{") ∷ ts)
-    (in_a_row (spell_cases cs) (else_word ∷ (spell_slot s ++ (right_brace ∷ []))) (cases_tokens (cases_by made [] cs)) end
-    (cases_kinds cs ∙ ap cases_tokens (sym (cases_made [] cs)))
-    (ap (λ ts. Word (codes "else") ∷ ts) (in_a_row (spell_slot s) (right_brace ∷ []) (slot_tokens (slot_by made s)) (Symbol (codes "}") ∷ [])
+    (in_a_row (spell_cases cs) (else_word ∷ (spell_slot s ++ (right_brace ∷ []))) (cases_tokens (every made_case cs)) end
+    (cases_kinds cs)
+    (ap (λ ts. Word (codes "else") ∷ ts) (in_a_row (spell_slot s) (right_brace ∷ []) (slot_tokens (made_slot s)) (Symbol (codes "}") ∷ [])
     (slot_kinds s) refl)))
 
-terms_kinds : (ts : List TermTree) → kinds_of (spell_terms ts) ≡ terms_tokens (every (term_by made) ts)
+terms_kinds : (ts : List TermTree) → kinds_of (spell_terms ts) ≡ terms_tokens (every made_term ts)
 terms_kinds [] = refl
-terms_kinds (t ∷ ts) = in_a_row (spell_term t) (spell_terms ts) (term_tokens (term_by made t)) (terms_tokens (every (term_by made) ts)) (term_kinds t)
+terms_kinds (t ∷ ts) = in_a_row (spell_term t) (spell_terms ts) (term_tokens (made_term t)) (terms_tokens (every made_term ts)) (term_kinds t)
     (terms_kinds ts)
 
 terms_in : (ts : List Term) (ls : List Rule) → (out-Alt (alt_of ts ls)).terms ≡ ts
@@ -191,7 +190,7 @@ local_alts_kinds m [] = refl
 local_alts_kinds m (ts ∷ las) = ap (λ toks. kind_of m ∷ toks)
     (in_a_row (spell_terms ts) (spell_local_alts slash las) (terms_tokens (out-Alt (made_local_alt ts)).terms)
     (local_alts_from (Symbol (codes "/")) (every made_local_alt las))
-    (terms_kinds ts ∙ ap terms_tokens (sym (terms_in (every (term_by made) ts) []))) (local_alts_kinds slash las))
+    (terms_kinds ts ∙ ap terms_tokens (sym (terms_in (every made_term ts) []))) (local_alts_kinds slash las))
 
 local_kinds : (l : LocalTree) → kinds_of (spell_local l) ≡ local_tokens (made_local l)
 local_kinds l =
@@ -213,7 +212,7 @@ where_kinds (l ∷ ls) = ap (λ toks. Word (codes "where") ∷ Symbol (codes "{"
 
 alt_kinds : (a : AltTree) → kinds_of (spell_alt a) ≡ alt_tokens (made_alt a)
 alt_kinds a =
-    let ts : List Term = every (term_by made) a.terms in
+    let ts : List Term = every made_term a.terms in
     let ls : List Rule = every made_local a.locals in
     in_a_row (spell_terms a.terms) (spell_where a.locals) (terms_tokens ts) (where_tokens ls) (terms_kinds a.terms) (where_kinds a.locals)
     ∙ ap (λ x. terms_tokens x.terms ++ where_tokens x.locals) (sym (out-roll-Alt (record { terms = ts; locals = ls })))
@@ -237,4 +236,4 @@ rules_kinds (r ∷ rs) = in_a_row (spell_rule r) (spell rs) (rule_tokens (made_r
 
 -- the kinds of a tree's tokens
 pub spell_kinds : (rs : List RuleTree) → kinds_of (spell rs) ≡ grammar_tokens (grammar_of rs)
-spell_kinds rs = rules_kinds rs ∙ ap grammar_tokens (sym (grammar_made rs))
+spell_kinds = rules_kinds

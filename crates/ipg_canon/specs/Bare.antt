@@ -1,5 +1,4 @@
 -- A grammar without the places of its tokens.
-use Rattle.std.specs.Prelude.{List, [], ◌∷◌}
 use Rattle.ipg_ast.specs.declared.grammar.Ident.{Ident}
 use Rattle.ipg_ast.specs.declared.grammar.Span.{Span}
 use Rattle.ipg_ast.specs.declared.grammar.Field.{Field}
@@ -18,6 +17,7 @@ use Rattle.ipg_ast.specs.declared.grammar.Term.TheVariants.{Slot as SlotTerm, Se
 use Rattle.ipg_ast.specs.declared.grammar.Alt.{Alt, out-Alt, roll-Alt}
 use Rattle.ipg_ast.specs.declared.grammar.Rule.{Rule, out-Rule, roll-Rule}
 use Rattle.ipg_ast.specs.declared.grammar.Grammar.{Grammar}
+use Rattle.ipg_syntax.specs.Grammars.{every}
 
 abbrev pub no_span : Span
 no_span = record { from = 0; to = 0 }
@@ -47,10 +47,6 @@ bare_step (Cond c a b) = E.Cond c a b
 
 abbrev pub bare_expr : Expr → Expr
 bare_expr = fold-Expr Expr bare_step
-
-abbrev pub every : {A B : Type 0} → (A → B) → List A → List B
-every f [] = []
-every f (x ∷ xs) = f x ∷ every f xs
 
 abbrev pub bare_place : Place → Place
 bare_place Open = Open

@@ -8,7 +8,8 @@ use Rattle.ipg_tokens.specs.Lexical.{tokens_of}
 use Rattle.ipg_tokens.specs.Shaped.{IsShaped, canonical_text}
 use Rattle.ipg_tokens.specs.declared.token.Token.{Token}
 use Rattle.ipg_syntax.specs.Reading.{Reads, ReadsWithin, read_of}
-use Rattle.ipg_canon.specs.Bare.{bare, every}
+use Rattle.ipg_canon.specs.Bare.{bare}
+use Rattle.ipg_syntax.specs.Grammars.{every}
 
 abbrev pub kinds : List Token → List TokenKind
 kinds ts = every (λ t. t.kind) ts

@@ -14,6 +14,7 @@ mod KeepsRules
 pub mod Runs
 mod Closers
 pub mod Selfs
+pub mod Makes
 pub mod Counts
 mod Lexed
 pub mod Outcomes

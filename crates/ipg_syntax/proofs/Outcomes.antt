@@ -11,7 +11,8 @@ use Rattle.ipg_syntax.specs.Written.{Toks, RuleTree, Fits, spell}
 use Rattle.ipg_syntax.specs.Limits.{sizes, first_over}
 use Rattle.ipg_syntax.specs.Machine.{Read, State, verdict, start_state}
 use Rattle.ipg_syntax.specs.Counting.{counters}
-use Rattle.ipg_syntax.specs.Making.{trees, made, grammar_of}
+use Rattle.ipg_syntax.specs.Making.{trees, made}
+use Rattle.ipg_syntax.specs.Grammars.{grammar_of}
 use Rattle.ipg_syntax.specs.Reading.{ReadsTree, place_of, tokens_answer, counted_answer, within_answer, made_answer, read_of}
 use Rattle.ipg_syntax.specs.Laws.{IsGrammar, Begins, EndsBefore, first_place, Breaks}
 use Rattle.ipg_syntax.proofs.TakesRules.{takes}
@@ -19,6 +20,7 @@ use Rattle.ipg_syntax.proofs.Plain.{fault, same_fault}
 use Rattle.ipg_syntax.proofs.Runs.{OnGood, OnBad, Spelled, Stuck, run_spelled, run_stuck}
 use Rattle.ipg_syntax.proofs.Closers.{IsGood, close_pos, closers_good}
 use Rattle.ipg_syntax.proofs.Selfs.{self_rules}
+use Rattle.ipg_syntax.proofs.Makes.{makes_rules}
 use Rattle.ipg_syntax.proofs.Counts.{counted}
 
 -- ---- a grammar
@@ -36,7 +38,9 @@ grammar_answer text tree r =
 
 pub made_grammar : (text : List ℕ) (tree : List RuleTree) (r : ReadsTree text tree) → within_answer text r.tokens None ≡ Ok (grammar_of tree)
 made_grammar text tree r =
-    ap (λ toks. made_answer text r.tokens (verdict made 0 (start_state made) toks)) (sym r.spelled) ∙ ap (made_answer text r.tokens) (takes made tree r.fits)
+    ap (λ toks. made_answer text r.tokens (verdict made 0 (start_state made) toks)) (sym r.spelled)
+    ∙ ap (made_answer text r.tokens) (takes made tree r.fits)
+    ∙ ap (λ rules. Ok (record { rules = rules })) (makes_rules [] tree)
 
 -- ---- no grammar
 

@@ -11,7 +11,8 @@ use Rattle.ipg_syntax.specs.Classes.{classes}
 use Rattle.ipg_syntax.specs.Written.{RuleTree, spell}
 use Rattle.ipg_syntax.specs.Limits.{Over, sizes, first_over}
 use Rattle.ipg_syntax.specs.Machine.{Read, verdict, start_state}
-use Rattle.ipg_syntax.specs.Making.{trees, grammar_of}
+use Rattle.ipg_syntax.specs.Making.{trees}
+use Rattle.ipg_syntax.specs.Grammars.{grammar_of}
 use Rattle.ipg_syntax.specs.Reading.{ReadsTree, ReadsWithin, place_of, tokens_answer, within_answer, read_of}
 use Rattle.ipg_syntax.specs.Laws.{IsGrammar, Begins, EndsBefore, first_place, Breaks, PassesLimit, IsOfTokens, Refused, OneGrammar}
 use Rattle.ipg_syntax.specs.Laws.{ReadsExactly, RefusedExactly, AlwaysOneAnswer, SyntaxPlace, LimitPlace, TokensFirst}

@@ -1,6 +1,7 @@
--- what the public contracts rest on: tokens by class, grammars as written with their tokens, and their limits
+-- what the public contracts rest on: tokens by class, grammars as written with their tokens, what they are, and their limits
 pub mod Classes
 pub mod Written
+pub mod Grammars
 pub mod Limits
 -- the machine that reads tokens, whatever it makes, and what it counts and makes
 pub mod Machine

@@ -1,6 +1,5 @@
 -- The actions that make trees, those that make the public types, and what a tree makes by any actions.
 use Rattle.std.specs.Prelude.{List, [], ◌∷◌, ◌++◌}
-use Rattle.ipg_ast.specs.declared.grammar.Ident.{Ident}
 use Rattle.ipg_ast.specs.declared.grammar.Expr.{Expr}
 use Rattle.ipg_ast.specs.declared.grammar.Expr.TheVariants as E
 use Rattle.ipg_ast.specs.declared.grammar.Place.{Place}
@@ -9,11 +8,10 @@ use Rattle.ipg_ast.specs.declared.grammar.Slot.{Slot}
 use Rattle.ipg_ast.specs.declared.grammar.Case.{Case}
 use Rattle.ipg_ast.specs.declared.grammar.Term.{Term}
 use Rattle.ipg_ast.specs.declared.grammar.Term.TheVariants as T
-use Rattle.ipg_ast.specs.declared.grammar.Alt.{Alt, roll-Alt}
-use Rattle.ipg_ast.specs.declared.grammar.Rule.{Rule, roll-Rule}
-use Rattle.ipg_ast.specs.declared.grammar.Grammar.{Grammar}
-use Rattle.ipg_syntax.specs.Classes.{Infix, either, both, op}
+use Rattle.ipg_ast.specs.declared.grammar.Alt.{Alt}
+use Rattle.ipg_ast.specs.declared.grammar.Rule.{Rule}
 use Rattle.ipg_syntax.specs.Written
+use Rattle.ipg_syntax.specs.Grammars.{infix_expr, alt_of, rule_of}
 use Rattle.ipg_syntax.specs.Machine.{Acts}
 
 abbrev pub last : {A : Type 0} → List A → A → List A
@@ -72,17 +70,6 @@ trees = record {
   saw_term = λ ts at log. tt;
   saw_expr = λ e at log. tt;
 }
-
-abbrev pub infix_expr : Infix → Expr → Expr → Expr
-infix_expr either a b = E.Either a b
-infix_expr both a b = E.Both a b
-infix_expr (op o) a b = E.Two o a b
-
-abbrev pub alt_of : List Term → List Rule → Alt
-alt_of ts ls = roll-Alt (record { terms = ts; locals = ls })
-
-abbrev pub rule_of : Ident → List Alt → Rule
-rule_of n alts = roll-Rule (record { name = n; alts = alts })
 
 -- the public types; the log is empty
 abbrev pub made : Acts
@@ -192,7 +179,3 @@ alts_by A before (a ∷ rest) = alts_by A (A.with_alt before (terms_by A A.no_te
 abbrev pub rules_by : (A : Acts) → A.Rules → List Written.RuleTree → A.Rules
 rules_by A before [] = before
 rules_by A before (r ∷ rs) = rules_by A (A.with_rule before r.head (alts_by A A.no_alts r.alts)) rs
-
--- the grammar that a tree is of
-abbrev pub grammar_of : List Written.RuleTree → Grammar
-grammar_of rs = record { rules = rules_by made [] rs }

@@ -10,7 +10,8 @@ use Rattle.ipg_syntax.specs.Written.{RuleTree, Fits, spell}
 use Rattle.ipg_syntax.specs.Limits.{Over, sizes, first_over}
 use Rattle.ipg_syntax.specs.Machine.{Read, verdict, start_state}
 use Rattle.ipg_syntax.specs.Counting.{counters}
-use Rattle.ipg_syntax.specs.Making.{made, grammar_of}
+use Rattle.ipg_syntax.specs.Grammars.{grammar_of}
+use Rattle.ipg_syntax.specs.Making.{made}
 
 -- a tree that stands at its levels has just the text's tokens
 pub record ReadsTree (text : List ℕ) (t : List RuleTree) : Type 0 where
