@@ -4,7 +4,9 @@ use Rattle.ipg_num.specs.declared.op.Answer.{Answer}
 use Rattle.ipg_num.specs.declared.op.Answer.TheVariants.{Val}
 use Rattle.ipg_core.specs.Environment.{Environment}
 use Rattle.ipg_table.specs.declared.row.Op.{Op}
+use Rattle.ipg_core.specs.Eval.{on_value}
 use Rattle.ipg_table.specs.Running.{Next, computed, on_top, run}
+use Rattle.ipg_table.specs.Stack.{Leaves}
 
 run_drop : (env : Environment) (room k : ℕ) (ops : List Op) (stack : List ℤ) → run env room k ops stack ≡ run env room 0 (drop k ops) stack
 run_drop env room zero [] stack = refl
@@ -32,3 +34,7 @@ turn_end env room (x ∷ left) op stack answer is within does =
 pub all_run : (env : Environment) (room : ℕ) (left : List Op) (stack : List ℤ) → length left ≤ 0 → run env room 0 left stack ≡ on_top stack (λ z rest. Val z)
 all_run env room [] stack h = refl
 all_run env room (x ∷ left) stack h = absurd (omega arith)
+
+pub joined_on : (env : Environment) (room : ℕ) (ops left behind : List Op) (answer next : Answer) (a : ℤ) → Leaves env room [] ops left answer
+    → answer ≡ Val a → Leaves env room (a ∷ []) left behind next → Leaves env room [] ops behind next
+joined_on env room ops left behind answer next a so_far is joined = so_far ∙ ap (λ v. on_value v (λ z. run env room 0 left (z ∷ []))) is ∙ joined

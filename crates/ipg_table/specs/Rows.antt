@@ -19,6 +19,7 @@ use Rattle.ipg_table.specs.declared.row.Action.TheVariants.{Slot, Set, Test, Rep
 use Rattle.ipg_table.specs.declared.row.Instr.{Instr}
 use Rattle.ipg_table.specs.declared.row.AltRow.{AltRow}
 use Rattle.ipg_table.specs.declared.row.RuleRow.{RuleRow}
+use Rattle.ipg_table.specs.declared.tables.Tables.TheInside.{Inside}
 use Rattle.ipg_table.specs.Code.{code, depth}
 
 pub record Rows : Type 0 where
@@ -36,6 +37,21 @@ pub record Rows : Type 0 where
   pub names : List Span
   -- no expression nests deeper
   pub depth : ℕ
+
+-- what the tables hold
+abbrev pub rows_of : Inside → Rows
+rows_of t = record {
+  rules = t.rules.items;
+  alts = t.alts.items;
+  instrs = t.instrs.items;
+  cases = t.cases.items;
+  ops = t.ops.items;
+  sets = t.sets.items;
+  syms = t.syms.items;
+  bytes = t.bytes.items;
+  names = t.names.items;
+  depth = t.depth;
+}
 
 -- the rows at a span, as far as there are any
 abbrev pub rows_at : {A : Type 0} → List A → Span → List A

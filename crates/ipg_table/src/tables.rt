@@ -37,36 +37,13 @@ pub struct Tables {
 }
 
 impl Model for Tables {
-    ghost use Rattle.ipg_table.specs.Rows.{Rows, Tabled};
+    ghost use Rattle.ipg_table.specs.Rows.{Rows, Tabled, rows_of};
 
     ghost Value = { Rows };
 
-    ghost view = { λ t. record {
-      rules = t.rules.items;
-      alts = t.alts.items;
-      instrs = t.instrs.items;
-      cases = t.cases.items;
-      ops = t.ops.items;
-      sets = t.sets.items;
-      syms = t.syms.items;
-      bytes = t.bytes.items;
-      names = t.names.items;
-      depth = t.depth;
-    } };
+    ghost view = { λ t. rows_of t };
 
-    ghost invariant = { λ t. Tabled
-        (record {
-          rules = t.rules.items;
-          alts = t.alts.items;
-          instrs = t.instrs.items;
-          cases = t.cases.items;
-          ops = t.ops.items;
-          sets = t.sets.items;
-          syms = t.syms.items;
-          bytes = t.bytes.items;
-          names = t.names.items;
-          depth = t.depth;
-        }) };
+    ghost invariant = { λ t. Tabled (rows_of t) };
 }
 
 fn rule_rows(

@@ -1,13 +1,13 @@
 //! The value of an expression, computed from its rows on a stack that is lent.
 
-ghost use Rattle.std.specs.Prelude.{◌≡◌, ◌≤◌, ℕ, suc, [], ◌∷◌, length, not, true, false, nat_lt, pos, IfSome, MatchOption, if◌then◌else◌};
+ghost use Rattle.std.specs.Prelude.{◌≡◌, ◌≤◌, ℕ, [], ◌∷◌, length, drop, not, true, false, nat_lt, pos, IfSome, MatchOption, if◌then◌else◌};
 ghost use Rattle.ipg_num.specs.Number.{limited, flag, apply_of, negate_of};
 ghost use Rattle.ipg_core.specs.Eval as spec;
 ghost use Rattle.ipg_core.specs.Environment.{Environment};
 ghost use Rattle.ipg_core.specs.Environment as envs;
 ghost use Rattle.ipg_table.specs.Running.{computed, on_top, run};
 ghost use Rattle.ipg_table.specs.Running as running;
-ghost use Rattle.ipg_table.specs.Stack.{stacked, Turns, StackWithin};
+ghost use Rattle.ipg_table.specs.Stack.{stacked, Turns, StackWithin, Puts, Leaves};
 
 use crate::look::past;
 use crate::results::Results;
@@ -306,24 +306,63 @@ fn step<R: Results>(op: &Op, results: &R, area: &mut [i64], top: usize) -> Turn
     }
 }
 
-/// What a single row computes, where it takes nothing off the stack: no stack is needed then.
+/// The value of a row that takes nothing off the stack.
 #[inline]
-fn alone<R: Results>(ops: &[Op], results: &R) -> Option<Answer>
-    ensures { (env : Environment) (room : ℕ) → R.stands results.now env → IfSome result (λ answer. answer ≡ run env (suc room) 0 ops.now []) }
+fn single<R: Results>(op: &Op, results: &R) -> Option<Answer>
+    ensures { (env : Environment) (room : ℕ) → R.stands results.now env → IfSome result (Puts env room op.now) }
 {
-    if ops.len() != 1 {
-        return None;
-    }
-    match &ops[0] {
+    match op {
         Op::Num(value) => Some(kept(Answer::Val(*value))),
         Op::Eoi => Some(kept(whole(results.eoi()))),
         Op::Own(attr) => Some(kept(found(results.own(*attr)))),
+        Op::Outer(attr) => Some(kept(found(results.outer(*attr)))),
+        Op::Loop => Some(kept(found(results.item()))),
         Op::Seen { term, sym, field } => Some(kept(found(results.seen(*term, sym, *field)))),
         _ => None,
     }
 }
 
-/// What rows compute, row by row on the stack. It stays apart, so that a single row is evaluated where it is asked for.
+/// What the operator behind a row that takes nothing makes of a number and the value of that row.
+#[inline]
+fn joined<R: Results>(a: i64, rows: &[Op], results: &R) -> Option<Answer>
+    requires { 2 ≤ length rows.now }
+    ensures { (env : Environment) (room : ℕ) → R.stands results.now env → 2 ≤ room → IfSome result (Leaves env room (a ∷ []) rows.now (drop 2 rows.now)) }
+{
+    match &rows[1] {
+        Op::Two(op) => match single(&rows[0], results) {
+            Some(Answer::Val(b)) => Some(kept(apply(*op, a, b))),
+            other => other,
+        },
+        _ => None,
+    }
+}
+
+/// What rows compute that need no stack: a row that takes nothing off it, and behind that such rows, each with an operator.
+#[inline]
+#[tactic(auto, using(crate::proofs::Turning::joined_on))]
+fn in_hand<R: Results>(ops: &[Op], results: &R, room: usize) -> Option<Answer>
+    requires { 1 ≤ room }
+    ensures { (env : Environment) → R.stands results.now env → IfSome result (λ answer. answer ≡ run env room 0 ops.now []) }
+{
+    if ops.is_empty() {
+        return None;
+    }
+    let mut answer = single(&ops[0], results)?;
+    let mut left = past(ops, 1);
+    while let Answer::Val(a) = answer {
+        if left.is_empty() {
+            return Some(answer);
+        }
+        if room < 2 || left.len() < 2 {
+            return None;
+        }
+        answer = joined(a, left, results)?;
+        left = past(left, 2);
+    }
+    Some(answer)
+}
+
+/// What rows compute, row by row on the stack. It stays apart, so that rows that need no stack are evaluated where they are asked for.
 #[inline(never)]
 fn on_stack<R: Results>(ops: &[Op], results: &R, area: &mut [i64]) -> Answer
     ensures value { (env : Environment) → R.stands results.now env → result ≡ run env (length area.old) 0 ops.now [] }
@@ -353,7 +392,7 @@ pub(crate) fn evaluate<R: Results>(ops: &[Op], results: &R, area: &mut [i64]) ->
     ensures area { length area.new ≡ length area.old }
 {
     if !area.is_empty() {
-        if let Some(answer) = alone(ops, results) {
+        if let Some(answer) = in_hand(ops, results, area.len()) {
             return answer;
         }
     }
