@@ -6,3 +6,5 @@ pub mod Sink
 pub mod Shelf
 pub mod Stored
 pub mod Tray
+-- What the sink over a writer tells.
+pub mod Gathered

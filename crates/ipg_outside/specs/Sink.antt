@@ -40,8 +40,3 @@ abbrev pub AppendsPart : Option (List ℕ) → Option (List ℕ) → List ℕ �
 AppendsPart None after piece = ⊤
 AppendsPart (Some xs) None piece = ⊥
 AppendsPart (Some xs) (Some ys) piece = IsPrefix xs ys × IsPrefix ys (xs ++ piece)
-
--- what is told of a writer's known bytes and the bytes that wait for it
-abbrev pub output_with : Option (List ℕ) → List ℕ → Option Output
-output_with None held = None
-output_with (Some written) held = Some (record { written = written; held = held })

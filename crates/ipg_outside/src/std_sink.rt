@@ -2,7 +2,8 @@
 ghost use Rattle.std.specs.Prelude.{◌≡◌, ℕ, ◌≤◌, [], Option, OnOk, OnErr};
 ghost use Rattle.std.specs.Io.KnownBytes.{Appends};
 ghost use Rattle.ipg_outside.specs.Faults.{Rose};
-ghost use Rattle.ipg_outside.specs.Sink.{AppendsPart, output_with, Tells, Takes, HandsOn, Breaks};
+ghost use Rattle.ipg_outside.specs.Gathered.{gathered};
+ghost use Rattle.ipg_outside.specs.Sink.{AppendsPart, Tells, Takes, HandsOn, Breaks};
 
 use crate::sink::{Sink, SinkFault};
 use arrayvec::ArrayVec;
@@ -45,10 +46,8 @@ impl<W: io::Write + Drop> StdSink<W> {
     }
 
     fn hand_on(&mut self) -> Result<(), SinkFault>
-        ensures handed_on { OnOk result
-            (Tells (output_with (W.contents self.old.out) self.old.held.items) (output_with (W.contents self.new.out) self.new.held.items) HandsOn) }
-        ensures broken { OnErr result
-            (Tells (output_with (W.contents self.old.out) self.old.held.items) (output_with (W.contents self.new.out) self.new.held.items) (Breaks [])) }
+        ensures handed_on { OnOk result (Tells (gathered W.contents self.old) (gathered W.contents self.new) HandsOn) }
+        ensures broken { OnErr result (Tells (gathered W.contents self.old) (gathered W.contents self.new) (Breaks [])) }
         ensures none_held { self.new.held.items ≡ [] }
         ensures failed { OnErr result (Rose self.old.faults self.new.faults) }
         ensures counts { self.old.faults ≤ self.new.faults }
@@ -58,37 +57,23 @@ impl<W: io::Write + Drop> StdSink<W> {
         self.count(answer)
     }
 
-    fn pass_on(&mut self, piece: &[u8]) -> Result<(), SinkFault>
-        requires { self.old.held.items ≡ [] }
-        ensures taken { OnOk result
-            (Tells (output_with (W.contents self.old.out) self.old.held.items) (output_with (W.contents self.new.out) self.new.held.items) (Takes piece.now)) }
-        ensures broken { OnErr result
-            (Tells (output_with (W.contents self.old.out) self.old.held.items) (output_with (W.contents self.new.out) self.new.held.items) (Breaks piece.now)) }
-        ensures failed { OnErr result (Rose self.old.faults self.new.faults) }
-        ensures counts { self.old.faults ≤ self.new.faults }
-    {
-        let answer = write_whole(&mut self.out, piece);
-        self.count(answer)
-    }
-
     /// Hands on what is held, then a piece for which there is no room beside it.
     #[cold]
     #[inline(never)]
     fn write_past(&mut self, piece: &[u8]) -> Result<(), SinkFault>
-        ensures taken { OnOk result
-            (Tells (output_with (W.contents self.old.out) self.old.held.items) (output_with (W.contents self.new.out) self.new.held.items) (Takes piece.now)) }
-        ensures broken { OnErr result
-            (Tells (output_with (W.contents self.old.out) self.old.held.items) (output_with (W.contents self.new.out) self.new.held.items) (Breaks piece.now)) }
+        ensures taken { OnOk result (Tells (gathered W.contents self.old) (gathered W.contents self.new) (Takes piece.now)) }
+        ensures broken { OnErr result (Tells (gathered W.contents self.old) (gathered W.contents self.new) (Breaks piece.now)) }
         ensures failed { OnErr result (Rose self.old.faults self.new.faults) }
         ensures counts { self.old.faults ≤ self.new.faults }
     {
         self.hand_on()?;
-        self.pass_on(piece)
+        let answer = write_whole(&mut self.out, piece);
+        self.count(answer)
     }
 }
 
 impl<W: io::Write + Drop> Sink for StdSink<W> {
-    ghost output = { λ sink. output_with (W.contents sink.out) sink.held.items };
+    ghost output = { λ sink. gathered W.contents sink };
 
     ghost faults = { λ sink. sink.faults };
 
