@@ -1,8 +1,9 @@
--- What comes next of words and digits, and lines as words behind words.
+-- What comes next of words and digits, and lines as pieces behind pieces.
 use Rattle.std.proofs.Common.{◌≡◌, ℕ, ◌+◌, ◌<◌, ◌/◌, ◌%◌, List, [], ◌∷◌, ◌++◌, length, get_or, drop, map, refl, sym, ap, ◌∙◌, add-one, append_assoc}
 use Rattle.std.proofs.Common.{suc, zero, ◌≤◌, ℤ, None, arith}
 use Rattle.std.specs.Prelude.{decimal, codes, slice_get}
 use Rattle.std.proofs.Math.Seq.{drop-cons}
+use Rattle.std.proofs.lemmas.Grind.{flat_map-append}
 use Rattle.ipg_core.specs.declared.grammar.CoreRule.{CoreRule}
 use Rattle.ipg_core.specs.Grammar.{Grammar}
 use Rattle.ipg_core.specs.Lines.{line, digit, hex_digits, rule_name, set_word, attr_word}
@@ -11,16 +12,25 @@ use Rattle.ipg_core.specs.Tree.{Tree, Node, rule_of, attrs_of}
 use Rattle.ipg_table.specs.declared.row.RuleRow.{RuleRow}
 use Rattle.ipg_table.specs.Rows.{Rows, Each, HoldsRule}
 use Rattle.ipg_parsed.specs.Visits.{size_of}
+use Rattle.ipg_parsed.specs.declared.walk.Visit.{Visit}
 use Rattle.ipg_tree.specs.Line.{head_line}
-use Rattle.ipg_tree.specs.declared.words.Word.{Word}
-use Rattle.ipg_tree.specs.Words.{word_text, words_text, spaced}
+use Rattle.ipg_tree.specs.declared.line.Places.{Places}
+use Rattle.ipg_tree.specs.Words.{spaced, parted}
 
 at_index : {X : Type 0} (f : List X → List ℕ) (xs : List X) (i : ℕ) (d : X) → i < length xs → f (drop i xs) ≡ f (get_or xs i d ∷ drop (i + 1) xs)
 at_index f xs i d h = ap f (drop-cons xs i d h ∙ ap (λ k. get_or xs i d ∷ drop k xs) (sym (add-one i)))
 
-pub next_digits : (bytes : List ℕ) (i d : ℕ) (two : List ℕ) → i < length bytes → two ≡ digit (get_or bytes i d / 16) ∷ digit (get_or bytes i d % 16) ∷ []
-    → hex_digits (drop i bytes) ≡ two ++ hex_digits (drop (i + 1) bytes)
-next_digits bytes i d two h e = at_index hex_digits bytes i d h ∙ ap (λ t. t ++ hex_digits (drop (i + 1) bytes)) (sym e)
+-- the digits of bytes behind others
+pub digits_append : (xs ys : List ℕ) → hex_digits (xs ++ ys) ≡ hex_digits xs ++ hex_digits ys
+digits_append [] ys = refl
+digits_append (x ∷ xs) ys = ap (λ t. digit (x / 16) ∷ digit (x % 16) ∷ t) (digits_append xs ys)
+
+-- the digits of the last byte go before those that there are
+pub last_digits : (left front : List ℕ) (b : ℕ) (two piece next all : List ℕ) → left ≡ front ++ b ∷ [] → two ≡ digit (b / 16) ∷ digit (b % 16) ∷ []
+    → next ≡ two ++ piece → hex_digits left ++ piece ≡ all → hex_digits front ++ next ≡ all
+last_digits left front b two piece next all split is more h =
+    ap (λ t. hex_digits front ++ t) (more ∙ ap (λ t. t ++ piece) is) ∙ sym (append_assoc (hex_digits front) (hex_digits (b ∷ [])) piece)
+    ∙ ap (λ t. t ++ piece) (sym (ap hex_digits split ∙ digits_append front (b ∷ []))) ∙ h
 
 pub next_spaced : {X : Type 0} (f : X → List ℕ) (xs : List X) (i : ℕ) (d : X) → i < length xs
     → spaced (map f (drop i xs)) ≡ (32 ∷ f (get_or xs i d)) ++ spaced (map f (drop (i + 1) xs))
@@ -30,21 +40,27 @@ line_spaced : (w : List ℕ) (ws : List (List ℕ)) → line (w ∷ ws) ≡ w ++
 line_spaced w [] = refl
 line_spaced w (x ∷ ws) = ap (λ l. w ++ 32 ∷ l) (line_spaced x ws ∙ sym (append_assoc x (spaced ws) (10 ∷ [])))
 
-spaced_append : (xs ys : List (List ℕ)) → spaced (xs ++ ys) ≡ spaced xs ++ spaced ys
-spaced_append [] ys = refl
-spaced_append (x ∷ xs) ys = ap (λ l. 32 ∷ (x ++ l)) (spaced_append xs ys) ∙ sym (append_assoc (32 ∷ x) (spaced xs) (spaced ys))
+-- the first words of a line, and then the others
+pub line_pieces : (ws : List (List ℕ)) (w : List ℕ) (more : List (List ℕ)) → parted ws [] ++ line (w ∷ more) ≡ line (ws ++ w ∷ more)
+line_pieces [] w more = refl
+line_pieces (v ∷ []) w more = append_assoc v (32 ∷ []) (line (w ∷ more))
+line_pieces (v ∷ u ∷ ws) w more = append_assoc v (32 ∷ parted (u ∷ ws) []) (line (w ∷ more)) ∙ ap (λ l. v ++ 32 ∷ l) (line_pieces (u ∷ ws) w more)
 
--- the three pieces of a line
-pub line_pieces : (w : List ℕ) (words : List Word) → w ++ (words_text words ++ 10 ∷ []) ≡ line (w ∷ map word_text words)
-line_pieces w words = sym (line_spaced w (map word_text words))
+-- the first words of a leaf's line
+abbrev pub first_words : Visit → List ℕ → List (List ℕ)
+first_words visit kind = decimal visit.depth ∷ kind ∷ decimal visit.from ∷ decimal visit.to ∷ []
 
--- the four of a line with attributes
-pub attrs_pieces : (w : List ℕ) (words : List Word) (attrs : List (List ℕ))
-    → w ++ (words_text words ++ (spaced attrs ++ 10 ∷ [])) ≡ line (w ∷ (map word_text words ++ attrs))
-attrs_pieces w words attrs =
-    let ws = map word_text words in
-    ap (λ t. w ++ t) (sym (append_assoc (spaced ws) (spaced attrs) (10 ∷ [])) ∙ ap (λ t. t ++ 10 ∷ []) (sym (spaced_append ws attrs)))
-    ∙ sym (line_spaced w (ws ++ attrs))
+-- the words of places
+abbrev pub place_words : Places → List (List ℕ)
+place_words p = decimal p.from ∷ decimal p.to ∷ set_word (codes "start") (decimal p.start) ∷ set_word (codes "end") (decimal p.end) ∷ []
+
+-- the pieces of a line with attributes
+pub attrs_pieces : (depth name : List ℕ) (places attrs : List (List ℕ))
+    → parted (depth ∷ []) [] ++ (name ++ (spaced places ++ (spaced attrs ++ 10 ∷ []))) ≡ line (depth ∷ name ∷ (places ++ attrs))
+attrs_pieces depth name places attrs =
+    ap (λ t. parted (depth ∷ []) [] ++ (name ++ t))
+    (sym (append_assoc (spaced places) (spaced attrs) (10 ∷ [])) ∙ ap (λ t. t ++ 10 ∷ []) (sym (flat_map-append (λ word. 32 ∷ word) places attrs)))
+    ∙ ap (λ t. parted (depth ∷ []) [] ++ t) (sym (line_spaced name (places ++ attrs))) ∙ line_pieces (depth ∷ []) name (places ++ attrs)
 
 -- what the words of a node say is its line
 pub head_words : (g : Grammar) (depth at : ℕ) (one : Tree) (name : List ℕ) (to start end from_start from_end : ℕ) (attrs : List (ℕ × ℤ))

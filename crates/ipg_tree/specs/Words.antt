@@ -1,19 +1,11 @@
--- The words of a line, and the texts that stand for them.
-use Rattle.std.specs.Prelude.{ℕ, List, ◌∷◌, map, flat_map, decimal}
-use Rattle.ipg_core.specs.Lines.{hex, short_hex, set_word}
-use Rattle.ipg_tree.specs.declared.words.Word.{Word}
-use Rattle.ipg_tree.specs.declared.words.Word.TheVariants.{Text, Number, Set, Bytes, Start}
+-- Words of a line.
+use Rattle.std.specs.Prelude.{ℕ, List, [], ◌∷◌, ◌++◌, flat_map}
 
-abbrev pub word_text : Word → List ℕ
-word_text (Text text) = text.now
-word_text (Number n) = decimal n
-word_text (Set name n) = set_word name.now (decimal n)
-word_text (Bytes bytes) = hex bytes.now
-word_text (Start bytes) = short_hex bytes.now
-
--- words that follow others on a line
+-- words that follow others, each behind a space
 abbrev pub spaced : List (List ℕ) → List ℕ
 spaced words = flat_map (λ word. 32 ∷ word) words
 
-abbrev pub words_text : List Word → List ℕ
-words_text words = spaced (map word_text words)
+-- words, each before a space, and what follows them
+abbrev pub parted : List (List ℕ) → List ℕ → List ℕ
+parted [] rest = rest
+parted (word ∷ words) rest = word ++ 32 ∷ parted words rest

@@ -1,6 +1,6 @@
 //! Lines of what isn't a node.
 
-ghost use Rattle.std.specs.Prelude.{◌≡◌, ◌∷◌, [], ℕ, List, decimal, slice_get, Some, codes};
+ghost use Rattle.std.specs.Prelude.{◌≡◌, ◌+◌, ◌≤◌, ◌++◌, ◌∷◌, [], ℕ, List, decimal, length, slice_get, Some, codes};
 ghost use Rattle.ipg_core.specs.declared.grammar.Sym.{Sym};
 ghost use Rattle.ipg_core.specs.Grammar.{Grammar};
 ghost use Rattle.ipg_core.specs.Lines as spec;
@@ -9,34 +9,44 @@ ghost use Rattle.ipg_nodes.specs.declared.kid.Kid.{Kid as Row};
 ghost use Rattle.ipg_nodes.specs.Stored.{Source, StandKids};
 ghost use Rattle.ipg_table.specs.Rows.{StandFor};
 ghost use Rattle.ipg_tree.specs.Puts.{Puts};
-ghost use Rattle.ipg_tree.specs.Words.{word_text};
+ghost use Rattle.ipg_tree.specs.Words.{parted};
 
-use crate::line::put_line;
 use crate::names::{primitive_name, sym_name};
-use crate::words::Word;
+use crate::tail::Tail;
+use crate::words::{put, put_bytes, put_start};
 use ipg_core::grammar::Primitive;
 use ipg_nodes::RunId;
 use ipg_outside::{Sink, SinkFault};
 use ipg_parsed::{Parsed, Visit};
 use std::alloc::Allocator;
 
-/// Writes a line of a depth, a kind, the ends of an interval, and a word.
-pub(crate) fn put_leaf<'w, S: Sink>(
-    out: &mut S,
-    visit: Visit,
-    kind: &'w [u8],
-    shown: Word<'w>,
-) -> Result<(), SinkFault>
-    ensures { Puts result (spec.line (decimal visit.depth ∷ kind.now ∷ decimal visit.from ∷ decimal visit.to ∷ word_text shown.entry ∷ []))
-        (S.output out.old) (S.faults out.old) (S.output out.new) (S.faults out.new) }
+/// Puts the first words of a leaf's line before what follows them.
+fn prepend_words(line: &mut Tail, visit: Visit, kind: &[u8])
+    requires { length kind.now + length line.old ≤ 64 }
+    ensures { line.new ≡ parted (decimal visit.depth ∷ kind.now ∷ decimal visit.from ∷ decimal visit.to ∷ []) line.old }
 {
-    let words = [
-        Word::Text(kind),
-        Word::Number(visit.from),
-        Word::Number(visit.to),
-        shown,
-    ];
-    put_line(out, visit.depth, &words)
+    line.prepend(b" ");
+    line.prepend_number(visit.to);
+    line.prepend(b" ");
+    line.prepend_number(visit.from);
+    line.prepend(b" ");
+    line.prepend(kind);
+    line.prepend(b" ");
+    line.prepend_number(visit.depth);
+}
+
+/// Writes the line of a number of at most 32 bits.
+fn put_low<S: Sink>(out: &mut S, visit: Visit, kind: &[u8], low: u32) -> Result<(), SinkFault>
+    requires { length kind.now ≤ 5 }
+    ensures { Puts result (spec.line (decimal visit.depth ∷ kind.now ∷ decimal visit.from ∷ decimal visit.to ∷ spec.set_word (codes "val")
+        (decimal low) ∷ [])) (S.output out.old) (S.faults out.old) (S.output out.new) (S.faults out.new) }
+{
+    let mut line = Tail::new();
+    line.prepend(b"\n");
+    line.prepend_number(u64::from(low));
+    line.prepend(b"val=");
+    prepend_words(&mut line, visit, kind);
+    put(out, line.as_slice())
 }
 
 /// Writes the line of a number of 64 bits.
@@ -47,17 +57,18 @@ fn put_halves<S: Sink>(
     high: u32,
     low: u32,
 ) -> Result<(), SinkFault>
+    requires { length kind.now ≤ 5 }
     ensures { Puts result (spec.line (decimal visit.depth ∷ kind.now ∷ decimal visit.from ∷ decimal visit.to ∷ spec.set_word (codes "hi")
         (decimal high) ∷ spec.set_word (codes "lo") (decimal low) ∷ [])) (S.output out.old) (S.faults out.old) (S.output out.new) (S.faults out.new) }
 {
-    let words = [
-        Word::Text(kind),
-        Word::Number(visit.from),
-        Word::Number(visit.to),
-        Word::Set(b"hi", u64::from(high)),
-        Word::Set(b"lo", u64::from(low)),
-    ];
-    put_line(out, visit.depth, &words)
+    let mut line = Tail::new();
+    line.prepend(b"\n");
+    line.prepend_number(u64::from(low));
+    line.prepend(b" lo=");
+    line.prepend_number(u64::from(high));
+    line.prepend(b"hi=");
+    prepend_words(&mut line, visit, kind);
+    put(out, line.as_slice())
 }
 
 /// Writes the line of a number: both halves of one of 64 bits, else its value.
@@ -74,28 +85,97 @@ pub(crate) fn put_value<S: Sink>(
     let kind = primitive_name(prim);
     match prim {
         Primitive::U64LE | Primitive::U64BE => put_halves(out, visit, kind, high, low),
-        _ => put_leaf(out, visit, kind, Word::Set(b"val", u64::from(low))),
+        _ => put_low(out, visit, kind, low),
     }
 }
 
-/// Writes the line of an array or a repetition.
-pub(crate) fn put_items<'p, A: Allocator + Clone + Drop, S: Sink>(
+/// Writes the first words of a leaf's line.
+fn put_words<S: Sink>(out: &mut S, visit: Visit, kind: &[u8]) -> Result<(), SinkFault>
+    requires { length kind.now ≤ 5 }
+    ensures { Puts result (parted (decimal visit.depth ∷ kind.now ∷ decimal visit.from ∷ decimal visit.to ∷ []) [])
+        (S.output out.old) (S.faults out.old) (S.output out.new) (S.faults out.new) }
+{
+    let mut piece = Tail::new();
+    prepend_words(&mut piece, visit, kind);
+    put(out, piece.as_slice())
+}
+
+/// Writes the line of a terminal.
+pub(crate) fn put_text<S: Sink>(out: &mut S, visit: Visit, text: &[u8]) -> Result<(), SinkFault>
+    ensures { Puts result (spec.line (decimal visit.depth ∷ codes "tok" ∷ decimal visit.from ∷ decimal visit.to ∷ spec.hex text.now ∷ []))
+        (S.output out.old) (S.faults out.old) (S.output out.new) (S.faults out.new) }
+{
+    put_words(out, visit, b"tok")?;
+    put_bytes(out, text)?;
+    put(out, b"\n")
+}
+
+/// Writes the line of raw bytes.
+pub(crate) fn put_raw<S: Sink>(out: &mut S, visit: Visit, bytes: &[u8]) -> Result<(), SinkFault>
+    ensures { Puts result (spec.line (decimal visit.depth ∷ codes "Bytes" ∷ decimal visit.from ∷ decimal visit.to ∷ spec.short_hex bytes.now ∷ []))
+        (S.output out.old) (S.faults out.old) (S.output out.new) (S.faults out.new) }
+{
+    put_words(out, visit, b"Bytes")?;
+    put_start(out, bytes)?;
+    put(out, b"\n")
+}
+
+/// Writes a depth and a kind.
+fn put_kind<S: Sink>(out: &mut S, depth: u64, kind: &[u8]) -> Result<(), SinkFault>
+    requires { length kind.now ≤ 5 }
+    ensures { Puts result (parted (decimal depth ∷ kind.now ∷ []) []) (S.output out.old) (S.faults out.old) (S.output out.new) (S.faults out.new) }
+{
+    let mut piece = Tail::new();
+    piece.prepend(b" ");
+    piece.prepend(kind);
+    piece.prepend(b" ");
+    piece.prepend_number(depth);
+    put(out, piece.as_slice())
+}
+
+/// Writes a number as the last word of a line.
+fn put_count<S: Sink>(out: &mut S, n: u64) -> Result<(), SinkFault>
+    ensures { Puts result (32 ∷ decimal n ++ 10 ∷ []) (S.output out.old) (S.faults out.old) (S.output out.new) (S.faults out.new) }
+{
+    let mut piece = Tail::new();
+    piece.prepend(b"\n");
+    piece.prepend_number(n);
+    piece.prepend(b" ");
+    put(out, piece.as_slice())
+}
+
+/// Writes a line of a depth, a kind, a name and a count.
+fn put_counted<S: Sink>(
     out: &mut S,
-    p: &'p Parsed<'_, A>,
+    depth: u64,
+    kind: &[u8],
+    name: &[u8],
+    count: u64,
+) -> Result<(), SinkFault>
+    requires { length kind.now ≤ 5 }
+    ensures { Puts result (spec.line (decimal depth ∷ kind.now ∷ name.now ∷ decimal count ∷ []))
+        (S.output out.old) (S.faults out.old) (S.output out.new) (S.faults out.new) }
+{
+    put_kind(out, depth, kind)?;
+    put(out, name)?;
+    put_count(out, count)
+}
+
+/// Writes the line of an array or a repetition.
+pub(crate) fn put_items<A: Allocator + Clone + Drop, S: Sink>(
+    out: &mut S,
+    p: &Parsed<'_, A>,
     visit: Visit,
-    kind: &'p [u8],
+    kind: &[u8],
     sym: u32,
     list: RunId,
 ) -> Result<(), SinkFault>
+    requires { length kind.now ≤ 5 }
     ensures { (src : Source) (g : Grammar) (at : ℕ) (one : Sym) (rows : List Row) (items : Kids) → StandFor p.now.parse.tables g
         → slice_get p.now.parse.tables.syms sym ≡ Some one → slice_get p.now.parse.store.kids list.place ≡ Some rows
         → StandKids src p.now.parse.store at rows items
         → Puts result (spec.items_line g visit.depth kind.now one items) (S.output out.old) (S.faults out.old) (S.output out.new) (S.faults out.new) }
 {
-    let words = [
-        Word::Text(kind),
-        Word::Text(sym_name(p.tables(), sym)),
-        Word::Number(p.items(list).len() as u64),
-    ];
-    put_line(out, visit.depth, &words)
+    let name = sym_name(p.tables(), sym);
+    put_counted(out, visit.depth, kind, name, p.items(list).len() as u64)
 }

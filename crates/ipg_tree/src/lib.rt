@@ -5,6 +5,7 @@ mod leaf;
 mod line;
 mod names;
 mod printing;
+mod tail;
 #[cfg(test)]
 mod tests;
 mod words;

@@ -1,6 +1,6 @@
 //! The lines of a printed tree.
 
-ghost use Rattle.std.specs.Prelude.{◌≡◌, ◌+◌, ◌≤◌, ◌^◌, ◌++◌, ◌∷◌, [], ℕ, ℤ, List, decimal, map, slice_get, Some};
+ghost use Rattle.std.specs.Prelude.{◌≡◌, ◌+◌, ◌≤◌, ◌^◌, ◌++◌, ◌∷◌, [], ℕ, decimal, map, codes};
 ghost use Rattle.ipg_core.specs.Grammar.{Grammar};
 ghost use Rattle.ipg_core.specs.Lines as spec;
 ghost use Rattle.ipg_core.specs.Tree.{Tree, rule_of};
@@ -8,23 +8,52 @@ ghost use Rattle.ipg_nodes.specs.Stored.{Source, StandsTree};
 ghost use Rattle.ipg_table.specs.Rows.{StandFor};
 ghost use Rattle.ipg_tree.specs.Line.{head_line};
 ghost use Rattle.ipg_tree.specs.Puts.{Puts};
-ghost use Rattle.ipg_tree.specs.Words.{word_text, spaced};
+ghost use Rattle.ipg_tree.specs.Words.{spaced, parted};
 
 use crate::names::rule_name;
-use crate::words::{Word, put, put_attr, put_number, put_words};
+use crate::tail::Tail;
+use crate::words::{put, put_attr};
 use ipg_nodes::RunId;
 use ipg_outside::{Sink, SinkFault};
 use ipg_parsed::Parsed;
 use ipg_table::tables::Tables;
 use std::alloc::Allocator;
 
-/// Writes a line of a depth and words.
-pub(crate) fn put_line<S: Sink>(out: &mut S, depth: u64, words: &[Word]) -> Result<(), SinkFault>
-    ensures { Puts result (spec.line (decimal depth ∷ map word_text words.now)) (S.output out.old) (S.faults out.old) (S.output out.new) (S.faults out.new) }
+/// The places that a node's line shows: the ends of its part, and where it begins and ends to touch bytes.
+#[derive(Clone, Copy)]
+struct Places {
+    from: u64,
+    to: u64,
+    start: u64,
+    end: u64,
+}
+
+/// Writes a depth, before a space.
+fn put_depth<S: Sink>(out: &mut S, depth: u64) -> Result<(), SinkFault>
+    ensures { Puts result (parted (decimal depth ∷ []) []) (S.output out.old) (S.faults out.old) (S.output out.new) (S.faults out.new) }
 {
-    put_number(out, depth)?;
-    put_words(out, words)?;
-    put(out, b"\n")
+    let mut piece = Tail::new();
+    piece.prepend(b" ");
+    piece.prepend_number(depth);
+    put(out, piece.as_slice())
+}
+
+/// Writes places, each behind a space.
+fn put_places<S: Sink>(out: &mut S, places: Places) -> Result<(), SinkFault>
+    ensures { Puts result (spaced (decimal places.from ∷ decimal places.to ∷ spec.set_word (codes "start") (decimal places.start)
+        ∷ spec.set_word (codes "end") (decimal places.end) ∷ []))
+        (S.output out.old) (S.faults out.old) (S.output out.new) (S.faults out.new) }
+{
+    let mut piece = Tail::new();
+    piece.prepend_number(places.end);
+    piece.prepend(b" end=");
+    piece.prepend_number(places.start);
+    piece.prepend(b" start=");
+    piece.prepend_number(places.to);
+    piece.prepend(b" ");
+    piece.prepend_number(places.from);
+    piece.prepend(b" ");
+    put(out, piece.as_slice())
 }
 
 /// Writes a space and an attribute with its value.
@@ -47,20 +76,23 @@ fn put_attrs<S: Sink>(out: &mut S, tables: &Tables, attrs: &[(u32, i64)]) -> Res
     Ok(())
 }
 
-/// Writes a line of a depth, words, and attributes.
+/// Writes a line of a depth, a name, places, and attributes.
 fn put_with_attrs<S: Sink>(
     out: &mut S,
     tables: &Tables,
     depth: u64,
-    words: &[Word],
+    name: &[u8],
+    places: Places,
     attrs: &[(u32, i64)],
 ) -> Result<(), SinkFault>
     ensures { (g : Grammar) → StandFor tables.now g
-        → Puts result (spec.line (decimal depth ∷ (map word_text words.now ++ map (spec.attr_word g) attrs.now))) (S.output out.old) (S.faults out.old)
+        → Puts result (spec.line (decimal depth ∷ name.now ∷ decimal places.from ∷ decimal places.to ∷ spec.set_word (codes "start")
+        (decimal places.start) ∷ spec.set_word (codes "end") (decimal places.end) ∷ map (spec.attr_word g) attrs.now)) (S.output out.old) (S.faults out.old)
         (S.output out.new) (S.faults out.new) }
 {
-    put_number(out, depth)?;
-    put_words(out, words)?;
+    put_depth(out, depth)?;
+    put(out, name)?;
+    put_places(out, places)?;
     put_attrs(out, tables, attrs)?;
     put(out, b"\n")
 }
@@ -95,12 +127,18 @@ pub(crate) fn put_node<A: Allocator + Clone + Drop, S: Sink>(
         → at + 2 ^ 32 ≤ 2 ^ 64 → Puts result (head_line g depth at one) (S.output out.old) (S.faults out.old) (S.output out.new) (S.faults out.new) }
 {
     let ends = p.ends(node);
-    let words = [
-        Word::Text(node_name(p, node)),
-        Word::Number(at),
-        Word::Number(place(at, p.size(node))),
-        Word::Set(b"start", place(at, ends.start)),
-        Word::Set(b"end", place(at, ends.end)),
-    ];
-    put_with_attrs(out, p.tables(), depth, &words, p.attrs(node))
+    let places = Places {
+        from: at,
+        to: place(at, p.size(node)),
+        start: place(at, ends.start),
+        end: place(at, ends.end),
+    };
+    put_with_attrs(
+        out,
+        p.tables(),
+        depth,
+        node_name(p, node),
+        places,
+        p.attrs(node),
+    )
 }

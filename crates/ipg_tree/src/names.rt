@@ -1,6 +1,6 @@
 //! The names and texts that lines show.
 
-ghost use Rattle.std.specs.Prelude.{◌≡◌, ℕ, List, slice_get, Some};
+ghost use Rattle.std.specs.Prelude.{◌≡◌, ◌≤◌, ℕ, List, length, slice_get, Some};
 ghost use Rattle.ipg_core.specs.Grammar.{Grammar};
 ghost use Rattle.ipg_core.specs.declared.grammar.Sym.{Sym as AnySym};
 ghost use Rattle.ipg_core.specs.declared.grammar.Sym.TheVariants.{Text as AnyText};
@@ -22,7 +22,8 @@ pub(crate) fn rule_name(tables: &Tables, rule: u32) -> &[u8]
 }
 
 pub(crate) fn primitive_name(prim: Primitive) -> &'static [u8]
-    ensures { result.now ≡ spec.primitive_name prim }
+    ensures name { result.now ≡ spec.primitive_name prim }
+    ensures short { length result.now ≤ 5 }
 {
     match prim {
         Primitive::U8 => b"U8",

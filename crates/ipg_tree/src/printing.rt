@@ -11,10 +11,9 @@ ghost use Rattle.ipg_tree.specs.Line.{line_of};
 ghost use Rattle.ipg_tree.specs.Puts.{Puts};
 ghost use Rattle.ipg_tree.specs.Shares.{Shares, IsTree};
 
-use crate::leaf::{put_items, put_leaf, put_value};
+use crate::leaf::{put_items, put_raw, put_text, put_value};
 use crate::line::put_node;
 use crate::names::text_of;
-use crate::words::Word;
 use ipg_nodes::Kid;
 use ipg_outside::{Sink, SinkFault};
 use ipg_parsed::{Parsed, Visit};
@@ -31,20 +30,14 @@ fn put_visit<A: Allocator + Clone + Drop, S: Sink>(
 {
     match visit.kid {
         Kid::Node { id, .. } => put_node(out, p, visit.depth, visit.from, id),
-        Kid::Text { sym, .. } => {
-            let text = Word::Bytes(text_of(p.tables(), sym));
-            put_leaf(out, visit, b"tok", text)
-        }
+        Kid::Text { sym, .. } => put_text(out, visit, text_of(p.tables(), sym)),
         Kid::Number {
             prim,
             high,
             low,
             ..
         } => put_value(out, visit, prim, high, low),
-        Kid::Raw { .. } => {
-            let bytes = Word::Start(p.part(visit.from, visit.to));
-            put_leaf(out, visit, b"Bytes", bytes)
-        }
+        Kid::Raw { .. } => put_raw(out, visit, p.part(visit.from, visit.to)),
         Kid::Array { sym, items } => put_items(out, p, visit, b"for", sym, items),
         Kid::Many { sym, items } => put_items(out, p, visit, b"many", sym, items),
     }

@@ -1,5 +1,4 @@
-use crate::leaf::{put_leaf, put_value};
-use crate::words::Word;
+use crate::leaf::{put_raw, put_text, put_value};
 use ipg_core::grammar::Primitive;
 use ipg_nodes::Kid;
 use ipg_outside::{MemSink, SinkFault};
@@ -20,9 +19,9 @@ fn lines_of_leaves(rt: HostRuntime) -> Result<(), Fail> {
     let mut out = MemSink::new(rt.alloc(), 1 << 10, &[])?;
     let bytes = [0xabu8; 33];
     let wrote = [
-        put_leaf(&mut out, at(3, 1, 3), b"tok", Word::Bytes(b"\x00\xff")),
-        put_leaf(&mut out, at(1, 9, 9), b"Bytes", Word::Start(b"")),
-        put_leaf(&mut out, at(2, 0, 33), b"Bytes", Word::Start(&bytes)),
+        put_text(&mut out, at(3, 1, 3), b"\x00\xff"),
+        put_raw(&mut out, at(1, 9, 9), b""),
+        put_raw(&mut out, at(2, 0, 33), &bytes),
         put_value(&mut out, at(1, 0, 8), Primitive::U64LE, 1, 2),
         put_value(&mut out, at(12, 8, 9), Primitive::U8, 0, 255),
     ];
@@ -36,9 +35,9 @@ fn lines_of_leaves(rt: HostRuntime) -> Result<(), Fail> {
 
 #[test]
 fn a_write_fails_in_mid_line(rt: HostRuntime) -> Result<(), Fail> {
-    let mut out = MemSink::new(rt.alloc(), 1 << 10, &[3])?;
-    let wrote = put_leaf(&mut out, at(3, 1, 3), b"tok", Word::Bytes(b"\x00\xff"));
+    let mut out = MemSink::new(rt.alloc(), 1 << 10, &[1])?;
+    let wrote = put_text(&mut out, at(3, 1, 3), b"\x00\xff");
     assert_eq!(rt; wrote, Err(SinkFault::Failed));
-    assert_eq!(rt; out.bytes(), b"3 tok ".as_slice());
+    assert_eq!(rt; out.bytes(), b"3 tok 1 3 00ff".as_slice());
     Ok(())
 }

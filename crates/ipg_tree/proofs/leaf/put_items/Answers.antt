@@ -10,11 +10,11 @@ pub returns : goal.returns
 returns g c src grammar at one rows items stand is_sym are_rows kids =
     let tables = sym c.tables.ensures in
     let is_one = subst (λ t. slice_get t.syms c.args.sym ≡ Some one) tables is_sym in
-    let name = c.sym_name.ensures grammar one (subst (λ t. StandFor t grammar) tables stand) is_one in
+    let name = c.sym_name-name.ensures grammar one (subst (λ t. StandFor t grammar) tables stand) is_one in
     let count = ap length (c.items.ensures rows are_rows) ∙ count_rows src _ at rows items kids in
     let d = decimal c.args.visit.depth in
     let k = c.args.kind.now in
     let is =
     ap (λ n. line (d ∷ k ∷ n ∷ decimal (length c.items.result.now) ∷ [])) name
     ∙ ap (λ n. line (d ∷ k ∷ sym_name grammar one ∷ decimal n ∷ [])) count in
-    as_text c.put_line.result _ _ _ _ _ _ is c.put_line.ensures
+    as_text c.put_counted.result _ _ _ _ _ _ is c.put_counted.ensures

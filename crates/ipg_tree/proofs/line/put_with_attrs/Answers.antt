@@ -1,31 +1,40 @@
 use Rattle.std.proofs.Common.{refl, sym, map}
 use Rattle.ipg_core.specs.Lines.{attr_word}
 use Rattle.ipg_tree.proofs.Putting.{begun, more, next, exits, ended}
-use Rattle.ipg_tree.proofs.Pieces.{attrs_pieces}
+use Rattle.ipg_tree.proofs.Pieces.{attrs_pieces, place_words}
 use Rattle.ipg_tree.proofs.line.put_with_attrs.Goals as goal
 
-pub returns-in_err-put_number : goal.returns-in_err-put_number
-returns-in_err-put_number g c grammar stand =
-    exits _ c.from_residual.result c.from_residual.ensures.1 _ (sym (attrs_pieces _ c.args.words.now (map (attr_word grammar) c.args.attrs.now))) (begun _ _ _)
-    c.in_err-put_number.ensures
+pub returns-in_err-put_depth : goal.returns-in_err-put_depth
+returns-in_err-put_depth g c grammar stand =
+    exits _ c.from_residual.result c.from_residual.ensures.1 _ (sym (attrs_pieces _ c.args.name.now (place_words c.args.places) (map (attr_word grammar) c.args.attrs.now)))
+    (begun _ _ _) c.in_err-put_depth.ensures
 
-pub returns-in_err-put_words : goal.returns-in_err-put_words
-returns-in_err-put_words g c grammar stand =
-    exits _ c.from_residual-in_err-put_words.result c.from_residual-in_err-put_words.ensures.1 _ refl
-    (next (sym (attrs_pieces _ c.args.words.now (map (attr_word grammar) c.args.attrs.now))) (begun _ _ _) c.in_ok-put_number.ensures)
-    c.in_err-put_words.ensures
+pub returns-in_err-put : goal.returns-in_err-put
+returns-in_err-put g c grammar stand =
+    exits _ c.from_residual-in_err-put.result c.from_residual-in_err-put.ensures.1 _ refl
+    (next (sym (attrs_pieces _ c.args.name.now (place_words c.args.places) (map (attr_word grammar) c.args.attrs.now))) (begun _ _ _) c.in_ok-put_depth.ensures)
+    c.in_err-put.ensures
+
+pub returns-in_err-put_places : goal.returns-in_err-put_places
+returns-in_err-put_places g c grammar stand =
+    exits _ c.from_residual-in_err-put_places.result c.from_residual-in_err-put_places.ensures.1 _ refl
+    (more
+    (next (sym (attrs_pieces _ c.args.name.now (place_words c.args.places) (map (attr_word grammar) c.args.attrs.now))) (begun _ _ _) c.in_ok-put_depth.ensures)
+    c.in_ok-put.ensures) c.in_err-put_places.ensures
 
 pub returns-in_err-put_attrs : goal.returns-in_err-put_attrs
 returns-in_err-put_attrs g c grammar stand =
     exits _ c.from_residual-in_err-put_attrs.result c.from_residual-in_err-put_attrs.ensures.1 _ refl
     (more
-    (next (sym (attrs_pieces _ c.args.words.now (map (attr_word grammar) c.args.attrs.now))) (begun _ _ _) c.in_ok-put_number.ensures)
-    c.in_ok-put_words.ensures) (c.in_err-put_attrs.ensures grammar stand)
+    (more
+    (next (sym (attrs_pieces _ c.args.name.now (place_words c.args.places) (map (attr_word grammar) c.args.attrs.now))) (begun _ _ _) c.in_ok-put_depth.ensures)
+    c.in_ok-put.ensures) c.in_ok-put_places.ensures) (c.in_err-put_attrs.ensures grammar stand)
 
 pub returns : goal.returns
 returns g c grammar stand =
-    ended c.put.result _ _
+    ended c.put-2.result _ _
     (more
     (more
-    (next (sym (attrs_pieces _ c.args.words.now (map (attr_word grammar) c.args.attrs.now))) (begun _ _ _) c.in_ok-put_number.ensures)
-    c.in_ok-put_words.ensures) (c.in_ok-put_attrs.ensures grammar stand)) c.put.ensures
+    (more
+    (next (sym (attrs_pieces _ c.args.name.now (place_words c.args.places) (map (attr_word grammar) c.args.attrs.now))) (begun _ _ _) c.in_ok-put_depth.ensures)
+    c.in_ok-put.ensures) c.in_ok-put_places.ensures) (c.in_ok-put_attrs.ensures grammar stand)) c.put-2.ensures

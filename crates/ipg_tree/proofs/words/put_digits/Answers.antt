@@ -1,12 +1,20 @@
-use Rattle.ipg_tree.proofs.Putting.{next, exits}
-use Rattle.ipg_tree.proofs.Pieces.{next_digits}
+use Rattle.std.proofs.Common.{◌≡◌, [], ap, arith, ◌∙◌}
+use Rattle.std.proofs.lemmas.Grind.{common_steps}
+use Rattle.ipg_core.specs.Lines.{hex_digits}
+use Rattle.ipg_tree.proofs.Putting.{next, exits, all_put}
+use Rattle.ipg_tree.proofs.Pieces.{digits_append}
 use Rattle.ipg_tree.proofs.words.put_digits.Goals as goal
 
-pub returns-in_err-put : goal.returns-in_err-put
-returns-in_err-put g c =
-    exits _ c.from_residual.result c.from_residual.ensures.1 _ (next_digits c.args.bytes.now c.loop-byte.byte-index _ _ c.loop-byte-test.true c.digits.ensures)
-    c.loop-byte.invariant c.in_err-put.ensures
+pub returns-in_err-put_some : goal.returns-in_err-put_some
+returns-in_err-put_some g c =
+    exits _ c.from_residual.result c.from_residual.ensures.1 _ (ap hex_digits c.split_at.ensures.by_index.0 ∙ digits_append _ _)
+    c.loop-left.invariant c.in_err-put_some.ensures
 
-pub loop-byte-preserved : goal.loop-byte-preserved
-loop-byte-preserved g c =
-    next (next_digits c.args.bytes.now c.loop-byte.byte-index _ _ c.loop-byte-test.true c.digits.ensures) c.loop-byte.invariant c.in_ok-put.ensures
+pub loop-left-preserved : goal.loop-left-preserved
+loop-left-preserved g c =
+    next (ap hex_digits c.split_at.ensures.by_index.0 ∙ digits_append _ _) c.loop-left.invariant c.in_ok-put_some.ensures
+
+pub returns : goal.returns
+returns g c =
+    let none : c.loop-left.left.now ≡ [] = grind (arith, common_steps) in
+    all_put (ap hex_digits none) c.loop-left.invariant
