@@ -1,12 +1,11 @@
 -- One row after another, as the loop takes them.
-use Rattle.std.proofs.Common.{◌≡◌, ℕ, zero, suc, ◌+◌, ◌<◌, ◌≤◌, List, [], ◌∷◌, length, drop, get_or, refl, sym, ap, ◌∙◌, arith, ℤ}
+use Rattle.std.proofs.Common.{◌≡◌, ℕ, zero, suc, ◌+◌, ◌<◌, ◌≤◌, List, [], ◌∷◌, length, drop, get_or, refl, sym, ap, ◌∙◌, arith, ℤ, Option, Some, None, IfSome}
 use Rattle.ipg_num.specs.declared.op.Answer.{Answer}
 use Rattle.ipg_num.specs.declared.op.Answer.TheVariants.{Val}
 use Rattle.ipg_core.specs.Environment.{Environment}
 use Rattle.ipg_table.specs.declared.row.Op.{Op}
-use Rattle.ipg_core.specs.Eval.{on_value}
 use Rattle.ipg_table.specs.Running.{Next, computed, on_top, run}
-use Rattle.ipg_table.specs.Stack.{Leaves}
+use Rattle.ipg_table.specs.Stack.{Puts}
 
 run_drop : (env : Environment) (room k : ℕ) (ops : List Op) (stack : List ℤ) → run env room k ops stack ≡ run env room 0 (drop k ops) stack
 run_drop env room zero [] stack = refl
@@ -35,6 +34,10 @@ pub all_run : (env : Environment) (room : ℕ) (left : List Op) (stack : List �
 all_run env room [] stack h = refl
 all_run env room (x ∷ left) stack h = absurd (omega arith)
 
-pub joined_on : (env : Environment) (room : ℕ) (ops left behind : List Op) (answer next : Answer) (a : ℤ) → Leaves env room [] ops left answer
-    → answer ≡ Val a → Leaves env room (a ∷ []) left behind next → Leaves env room [] ops behind next
-joined_on env room ops left behind answer next a so_far is joined = so_far ∙ ap (λ v. on_value v (λ z. run env room 0 left (z ∷ []))) is ∙ joined
+pub one_run : (env : Environment) (room : ℕ) (ops : List Op) (op : Op) (number : Option ℤ) → op ≡ get_or ops 0 op → length ops ≡ 1 → 1 ≤ room
+    → IfSome number (Puts env room op) → IfSome number (λ z. run env room 0 ops [] ≡ Val z)
+one_run env room [] op number is one within puts = absurd (omega arith)
+one_run env room (x ∷ y ∷ ops) op number is one within puts = absurd (omega arith)
+one_run env room (x ∷ []) op None is one within puts = puts
+one_run env room (x ∷ []) op (Some z) is one within puts =
+    ap (λ o. computed env room o [] (λ k s. run env room k [] s)) (sym is) ∙ puts [] (λ k s. run env room k [] s) (omega arith)

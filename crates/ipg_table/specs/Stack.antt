@@ -1,12 +1,11 @@
 -- The operand stack as the code keeps it: numbers from the start of an area, the last one on top.
 use Rattle.std.specs.Prelude.{◌≡◌, ℕ, zero, suc, ◌≤◌, ◌<◌, List, [], ◌∷◌, length, get_or, ℤ, pos}
 use Rattle.ipg_num.specs.declared.op.Answer.{Answer}
+use Rattle.ipg_core.specs.Environment.{Environment}
+use Rattle.ipg_table.specs.declared.row.Op.{Op}
 use Rattle.ipg_table.specs.declared.value.Turn.{Turn}
 use Rattle.ipg_table.specs.declared.value.Turn.TheVariants.{On, End}
-use Rattle.ipg_core.specs.Environment.{Environment}
-use Rattle.ipg_core.specs.Eval.{on_value}
-use Rattle.ipg_table.specs.declared.row.Op.{Op}
-use Rattle.ipg_table.specs.Running.{Next, computed, run}
+use Rattle.ipg_table.specs.Running.{Next, computed}
 
 -- the stack, from the top down
 abbrev pub stacked : List ℤ → ℕ → List ℤ
@@ -23,10 +22,6 @@ abbrev pub StackWithin : Turn → List ℤ → Type 0
 StackWithin (On skip top) area = top ≤ length area
 StackWithin (End answer) area = Unit {0}
 
--- a row puts this value on any stack with room for it
-abbrev pub Puts : Environment → ℕ → Op → Answer → Type 0
-Puts env room op answer = (stack : List ℤ) (next : Next) → length stack < room → computed env room op stack next ≡ on_value answer (λ z. next 0 (z ∷ stack))
-
--- rows leave this value in place of a stack, and the rows behind them run on
-abbrev pub Leaves : Environment → ℕ → List ℤ → List Op → List Op → Answer → Type 0
-Leaves env room stack rows behind answer = run env room 0 rows stack ≡ on_value answer (λ z. run env room 0 behind (z ∷ []))
+-- a row puts this number on any stack with room for it
+abbrev pub Puts : Environment → ℕ → Op → ℤ → Type 0
+Puts env room op z = (stack : List ℤ) (next : Next) → length stack < room → computed env room op stack next ≡ next 0 (z ∷ stack)

@@ -3,11 +3,12 @@
 ghost use Rattle.std.specs.Prelude.{◌≡◌, ◌≤◌, ℕ, [], ◌∷◌, length, drop, not, true, false, nat_lt, pos, IfSome, MatchOption, if◌then◌else◌};
 ghost use Rattle.ipg_num.specs.Number.{limited, flag, apply_of, negate_of};
 ghost use Rattle.ipg_core.specs.Eval as spec;
+ghost use Rattle.ipg_core.specs.Eval.{on_value};
 ghost use Rattle.ipg_core.specs.Environment.{Environment};
 ghost use Rattle.ipg_core.specs.Environment as envs;
 ghost use Rattle.ipg_table.specs.Running.{computed, on_top, run};
 ghost use Rattle.ipg_table.specs.Running as running;
-ghost use Rattle.ipg_table.specs.Stack.{stacked, Turns, StackWithin, Puts, Leaves};
+ghost use Rattle.ipg_table.specs.Stack.{stacked, Turns, StackWithin, Puts};
 
 use crate::look::past;
 use crate::results::Results;
@@ -306,63 +307,79 @@ fn step<R: Results>(op: &Op, results: &R, area: &mut [i64], top: usize) -> Turn
     }
 }
 
-/// The value of a row that takes nothing off the stack.
-#[inline]
-fn single<R: Results>(op: &Op, results: &R) -> Option<Answer>
+/// The number that an answer is, if it is one.
+fn number(answer: Answer) -> Option<i64>
+    ensures { IfSome result (λ z. on_value answer limited ≡ Answer.Val z) }
+{
+    match kept(answer) {
+        Answer::Val(value) => Some(value),
+        _ => None,
+    }
+}
+
+/// The number that a row puts on the stack where it takes nothing off it, if it puts one.
+#[inline(always)]
+fn single<R: Results>(op: &Op, results: &R) -> Option<i64>
     ensures { (env : Environment) (room : ℕ) → R.stands results.now env → IfSome result (Puts env room op.now) }
 {
     match op {
-        Op::Num(value) => Some(kept(Answer::Val(*value))),
-        Op::Eoi => Some(kept(whole(results.eoi()))),
-        Op::Own(attr) => Some(kept(found(results.own(*attr)))),
-        Op::Outer(attr) => Some(kept(found(results.outer(*attr)))),
-        Op::Loop => Some(kept(found(results.item()))),
-        Op::Seen { term, sym, field } => Some(kept(found(results.seen(*term, sym, *field)))),
+        Op::Num(value) => number(Answer::Val(*value)),
+        Op::Eoi => number(whole(results.eoi())),
+        Op::Own(attr) => number(found(results.own(*attr))),
+        Op::Outer(attr) => number(found(results.outer(*attr))),
+        Op::Loop => number(found(results.item())),
+        Op::Seen { term, sym, field } => number(found(results.seen(*term, sym, *field))),
         _ => None,
     }
 }
 
-/// What the operator behind a row that takes nothing makes of a number and the value of that row.
-#[inline]
-fn joined<R: Results>(a: i64, rows: &[Op], results: &R) -> Option<Answer>
+/// The number that a single row computes, where it takes nothing off the stack: no stack is needed then.
+#[inline(always)]
+fn alone<R: Results>(ops: &[Op], results: &R) -> Option<i64>
+    ensures { (env : Environment) (room : ℕ) → R.stands results.now env → 1 ≤ room → IfSome result (λ z. run env room 0 ops.now [] ≡ Answer.Val z) }
+{
+    if ops.len() == 1 {
+        single(&ops[0], results)
+    } else {
+        None
+    }
+}
+
+/// What the operator behind a row makes of a number and that row's, where it is a number.
+#[inline(always)]
+fn joined<R: Results>(a: i64, rows: &[Op], results: &R) -> Option<i64>
     requires { 2 ≤ length rows.now }
-    ensures { (env : Environment) (room : ℕ) → R.stands results.now env → 2 ≤ room → IfSome result (Leaves env room (a ∷ []) rows.now (drop 2 rows.now)) }
+    ensures { (env : Environment) (room : ℕ) → R.stands results.now env → 2 ≤ room
+        → IfSome result (λ z. run env room 0 rows.now (a ∷ []) ≡ run env room 0 (drop 2 rows.now) (z ∷ [])) }
 {
     match &rows[1] {
-        Op::Two(op) => match single(&rows[0], results) {
-            Some(Answer::Val(b)) => Some(kept(apply(*op, a, b))),
-            other => other,
-        },
+        Op::Two(op) => {
+            let b = single(&rows[0], results)?;
+            number(apply(*op, a, b))
+        }
         _ => None,
     }
 }
 
-/// What rows compute that need no stack: a row that takes nothing off it, and behind that such rows, each with an operator.
+/// The number that rows compute which need no stack: a row that takes nothing off it, and behind that such rows, each with
+/// its operator.
 #[inline]
-#[tactic(auto, using(crate::proofs::Turning::joined_on))]
-fn in_hand<R: Results>(ops: &[Op], results: &R, room: usize) -> Option<Answer>
-    requires { 1 ≤ room }
-    ensures { (env : Environment) → R.stands results.now env → IfSome result (λ answer. answer ≡ run env room 0 ops.now []) }
+fn in_hand<R: Results>(ops: &[Op], results: &R) -> Option<i64>
+    ensures { (env : Environment) (room : ℕ) → R.stands results.now env → 2 ≤ room → IfSome result (λ z. run env room 0 ops.now [] ≡ Answer.Val z) }
 {
     if ops.is_empty() {
         return None;
     }
-    let mut answer = single(&ops[0], results)?;
+    let mut value = single(&ops[0], results)?;
     let mut left = past(ops, 1);
-    while let Answer::Val(a) = answer {
-        if left.is_empty() {
-            return Some(answer);
-        }
-        if room < 2 || left.len() < 2 {
-            return None;
-        }
-        answer = joined(a, left, results)?;
+    while left.len() >= 2 {
+        value = joined(value, left, results)?;
         left = past(left, 2);
     }
-    Some(answer)
+    if left.is_empty() { Some(value) } else { None }
 }
 
-/// What rows compute, row by row on the stack. It stays apart, so that rows that need no stack are evaluated where they are asked for.
+/// What rows compute, row by row on the stack.
 #[inline(never)]
 fn on_stack<R: Results>(ops: &[Op], results: &R, area: &mut [i64]) -> Answer
     ensures value { (env : Environment) → R.stands results.now env → result ≡ run env (length area.old) 0 ops.now [] }
@@ -385,6 +402,20 @@ fn on_stack<R: Results>(ops: &[Op], results: &R, area: &mut [i64]) -> Answer
     }
 }
 
+/// What several rows compute. It stays apart, so that a single row is evaluated where it is asked for.
+#[inline(never)]
+fn longer<R: Results>(ops: &[Op], results: &R, area: &mut [i64]) -> Answer
+    ensures value { (env : Environment) → R.stands results.now env → result ≡ run env (length area.old) 0 ops.now [] }
+    ensures area { length area.new ≡ length area.old }
+{
+    if area.len() >= 2 {
+        if let Some(value) = in_hand(ops, results) {
+            return Answer::Val(value);
+        }
+    }
+    on_stack(ops, results, area)
+}
+
 /// What rows compute.
 #[inline]
 pub(crate) fn evaluate<R: Results>(ops: &[Op], results: &R, area: &mut [i64]) -> Answer
@@ -392,9 +423,9 @@ pub(crate) fn evaluate<R: Results>(ops: &[Op], results: &R, area: &mut [i64]) ->
     ensures area { length area.new ≡ length area.old }
 {
     if !area.is_empty() {
-        if let Some(answer) = in_hand(ops, results, area.len()) {
-            return answer;
+        if let Some(value) = alone(ops, results) {
+            return Answer::Val(value);
         }
     }
-    on_stack(ops, results, area)
+    longer(ops, results, area)
 }

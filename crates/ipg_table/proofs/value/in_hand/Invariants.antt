@@ -1,11 +1,12 @@
-use Rattle.std.proofs.Common.{[], length}
+use Rattle.std.proofs.Common.{◌≡◌, ◌≤◌, ℕ, [], ◌∷◌, length}
 use Rattle.ipg_core.specs.Environment.{Environment}
-use Rattle.ipg_table.specs.Stack.{Leaves}
+use Rattle.ipg_table.specs.Running.{run}
 use Rattle.ipg_table.proofs.value.in_hand.Given as goal
 
-abbrev pub decreases-loop-answer : goal.decreases-loop-answer
-decreases-loop-answer g l = length l.left
+abbrev pub decreases-loop-left : goal.decreases-loop-left
+decreases-loop-left g l = length l.left
 
--- the value so far, and what is left, compute what all rows do
-abbrev pub invariant-loop-answer : goal.invariant-loop-answer
-invariant-loop-answer g l = (env : Environment) → g.R.Results.stands l.results env → Leaves env l.room [] l.ops l.left l.answer
+-- what is left computes on the number so far what all rows do
+abbrev pub invariant-loop-left : goal.invariant-loop-left
+invariant-loop-left g l = (env : Environment) (room : ℕ) → g.R.Results.stands l.results env → 2 ≤ room
+    → run env room 0 l.ops [] ≡ run env room 0 l.left (l.value ∷ [])
