@@ -37,7 +37,7 @@ pub fn built<'a>(alloc: Global, rows: &[Row<'a>]) -> Result<List<Rule>, AllocErr
     for row in rows {
         make(&mut build, *row)?;
     }
-    Ok(build.rules)
+    Ok(replace(&mut build.rules, List::new(alloc)))
 }
 
 fn blank(alloc: Global) -> Build
@@ -178,7 +178,7 @@ fn part<'a>(build: &mut Build, member: Member<'a>) -> Result<(), AllocError>
     let field = field(build.alloc, member)?;
     match build.names.pop() {
         Some(name) => put(build, Expr::Part(name, field)),
-        None => Ok(()),
+        None => Ok(drop(field)),
     }
 }
 
@@ -191,7 +191,7 @@ fn item<'a>(build: &mut Build, member: Member<'a>) -> Result<(), AllocError>
             let index = held(build)?;
             put(build, Expr::Item(name, index, field))
         }
-        None => Ok(()),
+        None => Ok(drop(field)),
     }
 }
 
@@ -280,11 +280,13 @@ fn place(exprs: &mut Stack<Expr>, extent: Extent) -> Place
 fn with_place(slot: Slot, place: Place) -> Slot
     ensures { result ≡ B.placed slot place }
 {
-    Slot {
-        what: slot.what,
-        span: slot.span,
-        place,
-    }
+    let Slot {
+        what,
+        span,
+        place: open,
+    } = slot;
+    drop(open);
+    Slot { what, span, place }
 }
 
 // terms
@@ -300,7 +302,7 @@ fn slot_term(build: &mut Build, place: Place) -> Result<(), AllocError>
 {
     match build.slots.pop() {
         Some(slot) => put_term(build, Term::Slot(with_place(slot, place))),
-        None => Ok(()),
+        None => Ok(drop(place)),
     }
 }
 
@@ -309,7 +311,7 @@ fn many_term(build: &mut Build, at: Span, place: Place) -> Result<(), AllocError
 {
     match build.names.pop() {
         Some(item) => put_term(build, Term::Many { at, item, place }),
-        None => Ok(()),
+        None => Ok(drop(place)),
     }
 }
 
@@ -322,7 +324,7 @@ fn slot_case(build: &mut Build, place: Place) -> Result<(), AllocError>
             let slot = with_place(slot, place);
             build.cases.push(Case { cond, slot })
         }
-        None => Ok(()),
+        None => Ok(drop(place)),
     }
 }
 
@@ -331,7 +333,7 @@ fn slot_other(build: &mut Build, place: Place) -> Result<(), AllocError>
 {
     match build.slots.pop() {
         Some(slot) => build.slots.push(with_place(slot, place)),
-        None => Ok(()),
+        None => Ok(drop(place)),
     }
 }
 
