@@ -121,6 +121,7 @@ fn array_from<R: Results>(
 }
 
 /// An array is entered by its bounds.
+#[inline(never)]
 pub(crate) fn array<R: Results>(
     site: &Site<'_>,
     results: &R,
@@ -176,6 +177,7 @@ fn many_from<R: Results>(
 }
 
 /// A repetition is entered by its ends.
+#[inline(never)]
 pub(crate) fn many<R: Results>(
     site: &Site<'_>,
     results: &R,

@@ -29,6 +29,7 @@ use ipg_table::tables::Tables;
 use std::alloc::Allocator;
 
 /// What a term makes of what was found for it.
+#[inline(always)]
 fn made<A: Allocator + Clone + Drop>(
     tables: &Tables,
     store: &Store<A>,

@@ -149,6 +149,7 @@ fn repetition<A: Allocator + Clone + Drop>(
 }
 
 /// What a term makes of what was parsed for it, or of that there is none.
+#[inline(always)]
 pub fn taken<A: Allocator + Clone + Drop>(
     tables: &Tables,
     store: &Store<A>,

@@ -31,7 +31,7 @@ pub struct Site<'m> {
 }
 
 /// The value of an expression. `area` is the stack of operands; `depth` of the tables says how long it has to be.
-#[inline]
+#[inline(always)]
 #[tactic(auto, unfolding(ipg_core::specs::Meaning::value_in))]
 pub fn value<R: Results>(tables: &Tables, results: &R, expr: Span, area: &mut [i64]) -> Answer
     requires { tables.now.depth ≤ length area.now }
@@ -48,6 +48,7 @@ pub fn value<R: Results>(tables: &Tables, results: &R, expr: Span, area: &mut [i
 }
 
 /// A symbol between two values, where they are the ends of an interval.
+#[inline(always)]
 fn slot_between(site: &Site<'_>, sym: u32, from: i64, to: i64) -> Found
     requires { length site.now.bytes.now ≡ site.now.size }
     ensures { (src : Source) (st : Stored) (at : ℕ) (f : Frame) (place : Place) (state : State) (slot : CoreSlot)
@@ -61,6 +62,7 @@ fn slot_between(site: &Site<'_>, sym: u32, from: i64, to: i64) -> Found
 }
 
 /// A slot with its left end evaluated.
+#[inline(always)]
 fn slot_from<R: Results>(
     site: &Site<'_>,
     results: &R,
@@ -83,6 +85,7 @@ fn slot_from<R: Results>(
 }
 
 /// A slot: its left end, its right end, a valid interval, its symbol.
+#[inline(always)]
 pub fn slot<R: Results>(site: &Site<'_>, results: &R, row: SlotRow, area: &mut [i64]) -> Found
     requires depth { site.now.tables.now.depth ≤ length area.now }
     requires size { length site.now.bytes.now ≡ site.now.size }
@@ -118,6 +121,7 @@ fn behind_first(rows: &[CaseRow]) -> &[CaseRow]
 }
 
 /// The first branch of a switch whose condition isn't 0, else the last one.
+#[inline(never)]
 pub fn pick<R: Results>(
     site: &Site<'_>,
     results: &R,

@@ -144,6 +144,7 @@ fn number(prim: Primitive, ends: (u32, u32), bytes: &[u8]) -> Found
 }
 
 /// A number, or all the bytes unread.
+#[inline(always)]
 #[tactic(auto, unfolding(ipg_core::specs::Run::finish))]
 fn primitive(prim: Primitive, ends: (u32, u32), bytes: &[u8]) -> Found
     ensures { (src : Source) (st : Stored) (at : ℕ) (f : Frame) (own : Values) → part.part src.input (at + ends.0) (at + ends.1) ≡ bytes.now
@@ -179,6 +180,7 @@ fn call(rule: u32, ends: (u32, u32)) -> Found
 }
 
 /// A symbol on a valid interval of a part.
+#[inline(always)]
 pub(crate) fn symbol(tables: &Tables, bytes: &[u8], sym: u32, ends: (u32, u32)) -> Found
     requires { (ends.0 ≤ ends.1) × (ends.1 ≤ length bytes.now) }
     ensures { (src : Source) (st : Stored) (at : ℕ) (f : Frame) (place : Place) (own : Values) (one : Sym) → src.syms ≡ tables.now.syms

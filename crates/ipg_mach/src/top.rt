@@ -309,6 +309,7 @@ impl<'m, A: Allocator + Clone + Drop> Top<'m, A> {
     }
 
     /// The term at hand has come to this: the call goes on, with its next alternative where there is no tree.
+    #[inline(always)]
     pub fn turned(&mut self, tables: &'m Tables, adv: Advance) -> Result<(), AllocError>
         ensures highest { (src : Source) (frames : List Frame) (lower : List OpenCall) (c : OpenCall) (answer : Result moves.Advance Stop)
             → IsMark self.old.store self.old.floor → IsWorking tables.now src (shown self.old) frames lower c

@@ -127,6 +127,7 @@ impl<'m, A: Allocator + Clone + Drop> Work<'m, A> {
     }
 
     /// The highest call is taken away, and its answer goes to its caller.
+    #[inline(never)]
     fn come_back(&mut self, caller: Frame<'m>, entry: Entry) -> Result<(), AllocError>
         ensures { (src : Source) (e : Evaluation) (c : OpenCall) (lower : List OpenCall) (key : CallKey) (answer : Result Tree Stop)
             → IsAt src (record (staged self.old) { frames = self.old.frames.items ++ caller.entry ∷ [] }) e → e.highest ≡ Holds key answer

@@ -109,14 +109,16 @@ impl<A: Allocator + Clone + Drop> Store<A> {
         self.attrs.reserve(1, count(attrs.len())?)?;
         self.kids.reserve(1, count(kids.len())?)?;
         self.nodes.reserve(1, 1)?;
-        let attrs = self.attrs.place(attrs)?;
-        let kids = self.kids.place(kids)?;
-        self.nodes.place(&[Node {
-            head,
-            levels,
-            attrs,
-            kids,
-        }])
+        let attrs = self.attrs.place_spare(attrs);
+        let kids = self.kids.place_spare(kids);
+        Ok(
+            self.nodes.place_spare(&[Node {
+                head,
+                levels,
+                attrs,
+                kids,
+            }]),
+        )
     }
 
     /// The node at a place; None where there is none.

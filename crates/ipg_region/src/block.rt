@@ -115,6 +115,7 @@ impl<T: Copy, A: Allocator + Clone + Drop> Block<T, A> {
     }
 
     /// Puts a run at the end, where there is room for it.
+    #[inline(always)]
     pub(crate) fn push(&mut self, run: &[T])
         requires one { 1 ≤ self.old.spare.runs }
         requires within { length run.now ≤ self.old.spare.items }

@@ -89,6 +89,8 @@ impl<T: Copy, A: Allocator + Clone + Drop> Blocks<T, A> {
     }
 
     /// Opens a block with at least this room. A last block without runs is given up for it.
+    #[cold]
+    #[inline(never)]
     fn open(&mut self, runs: usize, items: usize) -> Result<(), AllocError>
         ensures kept { self.new.runs ≡ self.old.runs }
         ensures runs { OnOk result (runs ≤ self.new.spare.runs) }
@@ -113,6 +115,7 @@ impl<T: Copy, A: Allocator + Clone + Drop> Blocks<T, A> {
 
     /// Makes room for so many more runs, and so many more items in all of them. Where it opens a
     /// block for them, the block has room for at least `chunk` items.
+    #[inline(always)]
     pub(crate) fn reserve(
         &mut self,
         runs: usize,

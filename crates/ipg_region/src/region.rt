@@ -82,6 +82,23 @@ impl<T: Copy, A: Allocator + Clone + Drop> Region<T, A> {
         Ok(RunId { place })
     }
 
+    /// Puts a run at the end, which `spare` covers, and gives its place.
+    #[inline]
+    pub fn place_spare(&mut self, run: &[T]) -> RunId
+        requires one { 1 ≤ self.old.spare.runs }
+        requires within { length run.now ≤ self.old.spare.items }
+        ensures id { result.place ≡ length self.old.runs }
+        ensures placed { self.new ≡ with_run self.old run.now }
+    {
+        let place = self.blocks.len() as u32;
+        self.blocks.push(run);
+        self.spare = Spare {
+            runs: self.spare.runs - 1,
+            items: self.spare.items - run.len(),
+        };
+        RunId { place }
+    }
+
     /// Sets room aside for this many runs, and this many items in all of them.
     pub fn reserve(&mut self, runs: u32, items: u32) -> Result<(), AllocError>
         ensures ok { OnOk result (self.new ≡ with_room self.old runs items) }

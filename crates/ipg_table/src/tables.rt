@@ -152,7 +152,7 @@ impl Tables {
     }
 
     /// The value of an expression. `area` is the stack of operands, of which nothing is read before it is written.
-    #[inline]
+    #[inline(always)]
     pub fn value<R: Results>(&self, expr: Span, results: &R, area: &mut [i64]) -> Answer
         requires { self.now.depth ≤ length area.now }
         ensures value { (env : Environment) (e : CoreExpr) → R.stands results.now env → HoldsExpr self.now expr e → result ≡ eval e env }

@@ -417,7 +417,7 @@ fn longer<R: Results>(ops: &[Op], results: &R, area: &mut [i64]) -> Answer
 }
 
 /// What rows compute.
-#[inline]
+#[inline(always)]
 pub(crate) fn evaluate<R: Results>(ops: &[Op], results: &R, area: &mut [i64]) -> Answer
     ensures value { (env : Environment) → R.stands results.now env → result ≡ run env (length area.old) 0 ops.now [] }
     ensures area { length area.new ≡ length area.old }
