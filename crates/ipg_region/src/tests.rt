@@ -18,7 +18,7 @@ fn places_reads_and_cuts<A: Allocator + Clone + Drop>(
     assert_eq!(rt; region.mark().place, 1);
     assert!(rt; region.read(first) == [1, 2].as_slice());
     region.reserve(1, 4)?;
-    let again = region.place(&[4, 5, 6, 7])?;
+    let again = region.place_spare(&[4, 5, 6, 7]);
     assert!(rt; region.read(again) == [4, 5, 6, 7].as_slice());
     Ok(())
 }
