@@ -17,9 +17,6 @@ use Rattle.ipg_tree.specs.Line.{head_line}
 use Rattle.ipg_tree.specs.declared.line.Places.{Places}
 use Rattle.ipg_tree.specs.Words.{spaced, parted}
 
-at_index : {X : Type 0} (f : List X → List ℕ) (xs : List X) (i : ℕ) (d : X) → i < length xs → f (drop i xs) ≡ f (get_or xs i d ∷ drop (i + 1) xs)
-at_index f xs i d h = ap f (drop-cons xs i d h ∙ ap (λ k. get_or xs i d ∷ drop k xs) (sym (add-one i)))
-
 -- the digits of bytes behind others
 pub digits_append : (xs ys : List ℕ) → hex_digits (xs ++ ys) ≡ hex_digits xs ++ hex_digits ys
 digits_append [] ys = refl
@@ -34,7 +31,7 @@ last_digits left front b two piece next all split is more h =
 
 pub next_spaced : {X : Type 0} (f : X → List ℕ) (xs : List X) (i : ℕ) (d : X) → i < length xs
     → spaced (map f (drop i xs)) ≡ (32 ∷ f (get_or xs i d)) ++ spaced (map f (drop (i + 1) xs))
-next_spaced f xs i d h = at_index (λ xs. spaced (map f xs)) xs i d h
+next_spaced f xs i d h = ap (λ xs. spaced (map f xs)) (drop-cons xs i d h ∙ ap (λ k. get_or xs i d ∷ drop k xs) (sym (add-one i)))
 
 line_spaced : (w : List ℕ) (ws : List (List ℕ)) → line (w ∷ ws) ≡ w ++ (spaced ws ++ 10 ∷ [])
 line_spaced w [] = refl

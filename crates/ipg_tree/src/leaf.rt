@@ -21,6 +21,7 @@ use ipg_parsed::{Parsed, Visit};
 use std::alloc::Allocator;
 
 /// Puts the first words of a leaf's line before what follows them.
+#[inline(always)]
 fn prepend_words(line: &mut Tail, visit: Visit, kind: &[u8])
     requires { length kind.now + length line.old ≤ 64 }
     ensures { line.new ≡ parted (decimal visit.depth ∷ kind.now ∷ decimal visit.from ∷ decimal visit.to ∷ []) line.old }

@@ -5,10 +5,10 @@ use Rattle.ipg_tree.proofs.leaf.put_counted.Goals as goal
 
 pub returns-in_err-put_kind : goal.returns-in_err-put_kind
 returns-in_err-put_kind g c =
-    exits _ c.from_residual.result c.from_residual.ensures.1 _ (sym (line_pieces (decimal c.args.depth ∷ c.args.kind.now ∷ []) c.args.name.now (decimal c.args.count ∷ []))) (begun _ _ _)
-    c.in_err-put_kind.ensures
+    let is = sym (line_pieces (decimal c.args.depth ∷ c.args.kind.now ∷ []) c.args.name.now (decimal c.args.count ∷ [])) in
+    exits _ c.from_residual.result c.from_residual.ensures.1 _ is (begun _ _ _) c.in_err-put_kind.ensures
 
 pub returns-in_err-put : goal.returns-in_err-put
 returns-in_err-put g c =
-    exits _ c.from_residual-in_err-put.result c.from_residual-in_err-put.ensures.1 _ refl
-    (next (sym (line_pieces (decimal c.args.depth ∷ c.args.kind.now ∷ []) c.args.name.now (decimal c.args.count ∷ []))) (begun _ _ _) c.in_ok-put_kind.ensures) c.in_err-put.ensures
+    let is = sym (line_pieces (decimal c.args.depth ∷ c.args.kind.now ∷ []) c.args.name.now (decimal c.args.count ∷ [])) in
+    exits _ c.from_residual-in_err-put.result c.from_residual-in_err-put.ensures.1 _ refl (next is (begun _ _ _) c.in_ok-put_kind.ensures) c.in_err-put.ensures

@@ -7,14 +7,16 @@ use Rattle.ipg_tree.proofs.leaf.put_raw.Goals as goal
 
 pub returns-in_err-put_words : goal.returns-in_err-put_words
 returns-in_err-put_words g c =
-    exits _ c.from_residual.result c.from_residual.ensures.1 _ (sym (line_pieces (first_words c.args.visit (codes "Bytes")) (short_hex c.args.bytes.now) [])) (begun _ _ _) c.in_err-put_words.ensures
+    let is = sym (line_pieces (first_words c.args.visit (codes "Bytes")) (short_hex c.args.bytes.now) []) in
+    exits _ c.from_residual.result c.from_residual.ensures.1 _ is (begun _ _ _) c.in_err-put_words.ensures
 
 pub returns-in_err-put_start : goal.returns-in_err-put_start
 returns-in_err-put_start g c =
+    let is = sym (line_pieces (first_words c.args.visit (codes "Bytes")) (short_hex c.args.bytes.now) []) in
     exits _ c.from_residual-in_err-put_start.result c.from_residual-in_err-put_start.ensures.1 _ refl
-    (next (sym (line_pieces (first_words c.args.visit (codes "Bytes")) (short_hex c.args.bytes.now) [])) (begun _ _ _) c.in_ok-put_words.ensures) c.in_err-put_start.ensures
+    (next is (begun _ _ _) c.in_ok-put_words.ensures) c.in_err-put_start.ensures
 
 pub returns : goal.returns
 returns g c =
-    ended c.put.result _ _
-    (more (next (sym (line_pieces (first_words c.args.visit (codes "Bytes")) (short_hex c.args.bytes.now) [])) (begun _ _ _) c.in_ok-put_words.ensures) c.in_ok-put_start.ensures) c.put.ensures
+    let is = sym (line_pieces (first_words c.args.visit (codes "Bytes")) (short_hex c.args.bytes.now) []) in
+    ended c.put.result _ _ (more (next is (begun _ _ _) c.in_ok-put_words.ensures) c.in_ok-put_start.ensures) c.put.ensures
