@@ -391,8 +391,7 @@ pub fn form_of(alloc: Global, scope: &Scope, e: &CoreExpr) -> Result<Form, Alloc
 
 /// Puts the facts that the expression isn't 0.
 #[cycle(reading)]
-#[tactic(auto, using(crate::proofs::Puts::then, crate::proofs::Puts::then_last),
-    unfolding(crate::specs::Reading::read, crate::specs::Reading::reading, crate::specs::Reading::plain))]
+#[tactic(auto, using(crate::proofs::Puts::then, crate::proofs::Puts::then_last), unfolding(crate::specs::Reading::read, crate::specs::Reading::reading, crate::specs::Reading::plain))]
 pub fn put_holds(
     alloc: Global,
     out: &mut Vec<Fact>,
@@ -436,8 +435,7 @@ pub fn put_holds(
 
 /// Puts the facts that the expression is 0.
 #[cycle(reading)]
-#[tactic(auto, using(crate::proofs::Puts::then, crate::proofs::Puts::then_last),
-    unfolding(crate::specs::Reading::read, crate::specs::Reading::reading, crate::specs::Reading::plain))]
+#[tactic(auto, using(crate::proofs::Puts::then, crate::proofs::Puts::then_last), unfolding(crate::specs::Reading::read, crate::specs::Reading::reading, crate::specs::Reading::plain))]
 pub fn put_fails(
     alloc: Global,
     out: &mut Vec<Fact>,
