@@ -59,6 +59,7 @@ fn next(item: i64) -> i64
 }
 
 /// An array with one item more.
+#[inline(always)]
 fn one_more(sym: u32, left: u64, item: i64, kid: Kid) -> Advance
     ensures { (src : Source) (st : Stored) (at n u k : ℕ) (state : State) (items : List tree.Kid) (one : tree.Kid) (name : Sym)
         → slice_get src.syms sym ≡ Some name → left ≡ suc k → FitsSigned w64 item → FitsSigned w64 (item +ℤ pos left) → IsItem src st at n kid one
@@ -77,6 +78,7 @@ fn one_more(sym: u32, left: u64, item: i64, kid: Kid) -> Advance
 }
 
 /// What an array makes of its next item.
+#[inline(always)]
 fn array(action: Action, left: u64, item: i64, parsed: Option<Kid>) -> Advance
     ensures { (src : Source) (t : Rows) (st : Stored) (at n u : ℕ) (state : State) (items : List tree.Kid) (e : moves.Entry) (term : CoreTerm)
         (answer : Result tree.Kid Stop) → src.syms ≡ t.syms → HoldsTerm t action term → IsEntry n (entries.Items left item) items e

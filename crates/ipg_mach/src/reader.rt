@@ -188,6 +188,7 @@ impl<'m, A: Allocator + Clone + Drop> Reader<'m, A> {
 
 impl<'m, A: Allocator + Clone + Drop> Top<'m, A> {
     /// What the term at hand makes of the answer of the call that it made: of the child, or of that there is none.
+    #[inline(always)]
     pub fn answered(&self, tables: &Tables, kid: Option<Kid>) -> Advance
         ensures { (src : Source) (frames : List Frame) (lower : List OpenCall) (c : OpenCall) (ask : Asked) (answer : Result Tree Stop)
             → IsWorking tables.now src (shown self.now) frames lower c → (moves.at_hand silent c).asked ≡ ask ∷ [] → EndsBy self.now.frame.entry ask.to

@@ -174,6 +174,7 @@ impl<'m, A: Allocator + Clone + Drop> Top<'m, A> {
     }
 
     /// All terms have run: the call holds its node.
+    #[inline(never)]
     fn close(&mut self, tables: &Tables) -> Result<(), AllocError>
         ensures holds { (src : Source) (frames : List Frame) (lower : List OpenCall) (items : List tree.Kid) (c : OpenCall)
             → IsAtWork tables.now src (shown self.old) frames lower items c
@@ -196,6 +197,7 @@ impl<'m, A: Allocator + Clone + Drop> Top<'m, A> {
     }
 
     /// The terms left run, or the call is closed.
+    #[inline(always)]
     fn run_on(&mut self, tables: &Tables) -> Result<(), AllocError>
         ensures highest { (src : Source) (frames : List Frame) (lower : List OpenCall) (c : OpenCall)
             → IsAtWork tables.now src (shown self.old) frames lower [] c → self.old.frame.entry ≡ Outside

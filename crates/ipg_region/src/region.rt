@@ -83,7 +83,7 @@ impl<T: Copy, A: Allocator + Clone + Drop> Region<T, A> {
     }
 
     /// Puts a run at the end, which `spare` covers, and gives its place.
-    #[inline]
+    #[inline(always)]
     pub fn place_spare(&mut self, run: &[T]) -> RunId
         requires one { 1 ≤ self.old.spare.runs }
         requires within { length run.now ≤ self.old.spare.items }
