@@ -3,12 +3,14 @@ ghost use Rattle.ipg_syntax.specs.Machine.{field_of};
 ghost use Rattle.ipg_scan.specs.Lexemes.{tok_of, infix_of};
 ghost use Rattle.ipg_scan.specs.Rowed.{row_of, member_of};
 ghost use Rattle.ipg_scan.specs.Asked as A;
-ghost use Rattle.ipg_scan.specs.Answered.{answer_of, rows_in, row_in, next_of, symbols_of, opening_of};
+ghost use Rattle.ipg_scan.specs.Answered.{Does, rows_in, row_in, next_of, symbols_of, opening_of};
 
 use crate::lexeme::{Infix, Lexeme, level_of};
+use crate::progress::{Answer, Progress, made, onward, passed, taken};
 use crate::row::{Extent, Member, Role, Row, Site};
 use ipg_ast::Span;
 use ipg_num::Op2;
+use std::alloc::AllocError;
 
 /// What is due: a symbol of the grammar of grammars, a fixed token, or a row that is made when its parts have ended.
 #[derive(Clone, Copy)]
@@ -85,14 +87,6 @@ pub enum Next {
     Four(Due, Due, Due, Due),
 }
 
-/// What is due has ended before the token, or takes it; or no grammar goes on so.
-#[derive(Clone, Copy)]
-pub enum Answer<'a> {
-    Stuck,
-    Passed(Rows<'a>),
-    Taken(Rows<'a>, Next),
-}
-
 /// One symbol, or two.
 #[derive(Clone, Copy)]
 pub enum Symbols {
@@ -107,142 +101,157 @@ pub struct Begin<'a> {
     pub due: Symbols,
 }
 
-pub fn ask<'a>(at: usize, due: Due, token: Lexeme<'a>) -> Answer<'a>
+pub fn ask<'a>(
+    to: &mut Progress<'a>,
+    at: usize,
+    due: Due,
+    token: Lexeme<'a>,
+) -> Result<Answer, AllocError>
     requires { at + 1 < 2 ^ 64 }
-    ensures { answer_of result ≡ A.ask at due (tok_of token.entry) }
+    ensures { Does (A.ask at due (tok_of token.entry)) to.old to.new result }
 {
     match due {
-        Due::Rules => rules(at, token),
-        Due::Rule(site) => rule(at, site, token),
-        Due::Naming => naming(token),
-        Due::Arrow(site) => arrow(site, token),
-        Due::First(site) => first(at, site, token),
-        Due::Tail(site) => tail(at, site, token),
-        Due::WhereOpen => where_open(token),
-        Due::Locals => locals(at, token),
-        Due::After => after(token),
-        Due::Slot(role) => slot(role, token),
-        Due::Place(role) => place(at, role, token),
-        Due::Length(role) => length(at, role, token),
-        Due::Right(role) => right(role, token),
-        Due::SetEquals => equals(at, Due::SetEnd, token),
-        Due::SetEnd => set_end(token),
-        Due::TestOpen(span) => left_paren(at, Due::TestEnd(span), token),
-        Due::TestEnd(span) => test_end(span, token),
-        Due::ForEquals => equals(at, Due::ForTo, token),
-        Due::ForTo => for_to(at, token),
-        Due::ForDo => for_do(token),
-        Due::ForOpen => for_open(at, token),
-        Due::ForComma => for_comma(at, token),
-        Due::ForEnd => for_end(token),
-        Due::PickOpen(span) => pick_open(span, token),
-        Due::FirstCase(span) => first_case(span, token),
-        Due::Cases(span) => cases(span, token),
-        Due::CaseOpen => left_paren(at, Due::CaseEnd, token),
-        Due::CaseEnd => case_end(token),
-        Due::PickEnd(span) => pick_end(span, token),
-        Due::Operand => operand(token),
-        Due::Rest(level) => rest(level, token),
-        Due::AfterName => after_name(token),
-        Due::PartField => part_field(token),
-        Due::IndexEnd => index_end(token),
-        Due::IndexDot => index_dot(token),
-        Due::ItemField => item_field(token),
-        Due::GroupEnd => group_end(token),
-        Due::CondColon => cond_colon(token),
-        Due::Neg => Answer::Passed(Rows::One(Row::Neg)),
-        Due::Not => Answer::Passed(Rows::One(Row::Not)),
-        Due::Two(sign) => Answer::Passed(Rows::One(Row::Two(sign))),
-        Due::Cond => Answer::Passed(Rows::One(Row::Cond)),
-        Due::Whole(from) => Answer::Passed(Rows::One(Row::Whole(from))),
+        Due::Rules => rules(to, at, token),
+        Due::Rule(site) => rule(to, at, site, token),
+        Due::Naming => naming(to, token),
+        Due::Arrow(site) => arrow(to, site, token),
+        Due::First(site) => first(to, at, site, token),
+        Due::Tail(site) => tail(to, at, site, token),
+        Due::WhereOpen => where_open(to, token),
+        Due::Locals => locals(to, at, token),
+        Due::After => after(to, token),
+        Due::Slot(role) => slot(to, role, token),
+        Due::Place(role) => place(to, at, role, token),
+        Due::Length(role) => length(to, at, role, token),
+        Due::Right(role) => right(to, role, token),
+        Due::SetEquals => equals(to, at, Due::SetEnd, token),
+        Due::SetEnd => set_end(to, token),
+        Due::TestOpen(span) => left_paren(to, at, Due::TestEnd(span), token),
+        Due::TestEnd(span) => test_end(to, span, token),
+        Due::ForEquals => equals(to, at, Due::ForTo, token),
+        Due::ForTo => for_to(to, at, token),
+        Due::ForDo => for_do(to, token),
+        Due::ForOpen => for_open(to, at, token),
+        Due::ForComma => for_comma(to, at, token),
+        Due::ForEnd => for_end(to, token),
+        Due::PickOpen(span) => pick_open(to, span, token),
+        Due::FirstCase(span) => first_case(to, span, token),
+        Due::Cases(span) => cases(to, span, token),
+        Due::CaseOpen => left_paren(to, at, Due::CaseEnd, token),
+        Due::CaseEnd => case_end(to, token),
+        Due::PickEnd(span) => pick_end(to, span, token),
+        Due::Operand => operand(to, token),
+        Due::Rest(level) => rest(to, level, token),
+        Due::AfterName => after_name(to, token),
+        Due::PartField => part_field(to, token),
+        Due::IndexEnd => index_end(to, token),
+        Due::IndexDot => index_dot(to, token),
+        Due::ItemField => item_field(to, token),
+        Due::GroupEnd => group_end(to, token),
+        Due::CondColon => cond_colon(to, token),
+        Due::Neg => passed(to, Rows::One(Row::Neg)),
+        Due::Not => passed(to, Rows::One(Row::Not)),
+        Due::Two(sign) => passed(to, Rows::One(Row::Two(sign))),
+        Due::Cond => passed(to, Rows::One(Row::Cond)),
+        Due::Whole(from) => passed(to, Rows::One(Row::Whole(from))),
     }
 }
 
-fn taken<'a>(next: Next) -> Answer<'a>
-    ensures { answer_of result ≡ A.onward (next_of next) }
-{
-    Answer::Taken(Rows::Zero, next)
-}
-
-fn made<'a>(row: Row<'a>) -> Answer<'a>
-    ensures { answer_of result ≡ A.made (row_of row.entry) }
-{
-    Answer::Taken(Rows::One(row), Next::Zero)
-}
-
 /// An expression is due after the token `at`, and then what is given.
-fn expr<'a>(at: usize, then: Due) -> Answer<'a>
+fn expr<'a>(to: &mut Progress<'a>, at: usize, then: Due) -> Result<Answer, AllocError>
     requires { at + 1 < 2 ^ 64 }
-    ensures { answer_of result ≡ A.expr at then }
+    ensures { Does (A.expr at then) to.old to.new result }
 {
-    taken(Next::Four(Due::Operand, Due::Rest(0), Due::Whole(at + 1), then))
+    onward(
+        to,
+        Next::Four(Due::Operand, Due::Rest(0), Due::Whole(at + 1), then),
+    )
 }
 
 // rules
 
-fn rules<'a>(at: usize, token: Lexeme<'a>) -> Answer<'a>
-    ensures { answer_of result ≡ A.rules at (tok_of token.entry) }
+fn rules<'a>(to: &mut Progress<'a>, at: usize, token: Lexeme<'a>) -> Result<Answer, AllocError>
+    ensures { Does (A.rules at (tok_of token.entry)) to.old to.new result }
 {
     match token {
-        Lexeme::Name(name) => Answer::Taken(
+        Lexeme::Name(name) => taken(
+            to,
             Rows::Two(Row::Rule(at), Row::Name(name)),
             Next::Two(Due::Arrow(Site::Global), Due::Rules),
         ),
-        _ => Answer::Stuck,
+        _ => Ok(Answer::Stuck),
     }
 }
 
-fn rule<'a>(at: usize, site: Site, token: Lexeme<'a>) -> Answer<'a>
-    ensures { answer_of result ≡ A.rule at site (tok_of token.entry) }
+fn rule<'a>(
+    to: &mut Progress<'a>,
+    at: usize,
+    site: Site,
+    token: Lexeme<'a>,
+) -> Result<Answer, AllocError>
+    ensures { Does (A.rule at site (tok_of token.entry)) to.old to.new result }
 {
     match token {
-        Lexeme::Name(name) => Answer::Taken(
+        Lexeme::Name(name) => taken(
+            to,
             Rows::Two(Row::Rule(at), Row::Name(name)),
             Next::One(Due::Arrow(site)),
         ),
-        _ => Answer::Stuck,
+        _ => Ok(Answer::Stuck),
     }
 }
 
-fn naming<'a>(token: Lexeme<'a>) -> Answer<'a>
-    ensures { answer_of result ≡ A.naming (tok_of token.entry) }
+fn naming<'a>(to: &mut Progress<'a>, token: Lexeme<'a>) -> Result<Answer, AllocError>
+    ensures { Does (A.naming (tok_of token.entry)) to.old to.new result }
 {
     match token {
-        Lexeme::Name(name) => made(Row::Name(name)),
-        _ => Answer::Stuck,
+        Lexeme::Name(name) => made(to, Row::Name(name)),
+        _ => Ok(Answer::Stuck),
     }
 }
 
-fn arrow<'a>(site: Site, token: Lexeme<'a>) -> Answer<'a>
-    ensures { answer_of result ≡ A.arrow site (tok_of token.entry) }
+fn arrow<'a>(to: &mut Progress<'a>, site: Site, token: Lexeme<'a>) -> Result<Answer, AllocError>
+    ensures { Does (A.arrow site (tok_of token.entry)) to.old to.new result }
 {
     match token {
-        Lexeme::Arrow => taken(Next::Two(Due::First(site), Due::Tail(site))),
-        _ => Answer::Stuck,
+        Lexeme::Arrow => onward(to, Next::Two(Due::First(site), Due::Tail(site))),
+        _ => Ok(Answer::Stuck),
     }
 }
 
-fn first<'a>(at: usize, site: Site, token: Lexeme<'a>) -> Answer<'a>
-    ensures { answer_of result ≡ A.first at site (tok_of token.entry) }
+fn first<'a>(
+    to: &mut Progress<'a>,
+    at: usize,
+    site: Site,
+    token: Lexeme<'a>,
+) -> Result<Answer, AllocError>
+    ensures { Does (A.first at site (tok_of token.entry)) to.old to.new result }
 {
     match opening(token) {
-        Some(opening) => Answer::Taken(
+        Some(opening) => taken(
+            to,
             begun(Row::First(site, at), opening.row),
             alone(opening.due),
         ),
-        None => Answer::Stuck,
+        None => Ok(Answer::Stuck),
     }
 }
 
-fn tail<'a>(at: usize, site: Site, token: Lexeme<'a>) -> Answer<'a>
-    ensures { answer_of result ≡ A.tail at site (tok_of token.entry) }
+fn tail<'a>(
+    to: &mut Progress<'a>,
+    at: usize,
+    site: Site,
+    token: Lexeme<'a>,
+) -> Result<Answer, AllocError>
+    ensures { Does (A.tail at site (tok_of token.entry)) to.old to.new result }
 {
     match opening(token) {
-        Some(opening) => Answer::Taken(
+        Some(opening) => taken(
+            to,
             begun(Row::Term(at), opening.row),
             then(opening.due, Due::Tail(site)),
         ),
-        None => closing(site, token),
+        None => closing(to, site, token),
     }
 }
 
@@ -274,64 +283,70 @@ fn then(symbols: Symbols, last: Due) -> Next
 }
 
 /// The token after a term that begins no other one.
-fn closing<'a>(site: Site, token: Lexeme<'a>) -> Answer<'a>
-    ensures { answer_of result ≡ A.closing site (tok_of token.entry) }
+fn closing<'a>(to: &mut Progress<'a>, site: Site, token: Lexeme<'a>) -> Result<Answer, AllocError>
+    ensures { Does (A.closing site (tok_of token.entry)) to.old to.new result }
 {
     match token {
-        Lexeme::Sign(Infix::Op(Op2::Div)) => Answer::Taken(
+        Lexeme::Sign(Infix::Op(Op2::Div)) => taken(
+            to,
             Rows::One(Row::NextAlt(site)),
             Next::Two(Due::First(site), Due::Tail(site)),
         ),
-        Lexeme::Semicolon => made(Row::EndRule(site)),
-        Lexeme::Where => wherein(site),
-        _ => Answer::Stuck,
+        Lexeme::Semicolon => made(to, Row::EndRule(site)),
+        Lexeme::Where => wherein(to, site),
+        _ => Ok(Answer::Stuck),
     }
 }
 
 /// A local rule has no `where`.
-fn wherein<'a>(site: Site) -> Answer<'a>
-    ensures { answer_of result ≡ A.wherein site }
+fn wherein<'a>(to: &mut Progress<'a>, site: Site) -> Result<Answer, AllocError>
+    ensures { Does (A.wherein site) to.old to.new result }
 {
     match site {
-        Site::Global => Answer::Taken(
+        Site::Global => taken(
+            to,
             Rows::One(Row::Locals),
             Next::Two(Due::WhereOpen, Due::After),
         ),
-        Site::Local => Answer::Stuck,
+        Site::Local => Ok(Answer::Stuck),
     }
 }
 
-fn where_open<'a>(token: Lexeme<'a>) -> Answer<'a>
-    ensures { answer_of result ≡ A.where_open (tok_of token.entry) }
+fn where_open<'a>(to: &mut Progress<'a>, token: Lexeme<'a>) -> Result<Answer, AllocError>
+    ensures { Does (A.where_open (tok_of token.entry)) to.old to.new result }
 {
     match token {
-        Lexeme::LeftBrace => taken(Next::Two(Due::Rule(Site::Local), Due::Locals)),
-        _ => Answer::Stuck,
+        Lexeme::LeftBrace => onward(to, Next::Two(Due::Rule(Site::Local), Due::Locals)),
+        _ => Ok(Answer::Stuck),
     }
 }
 
-fn locals<'a>(at: usize, token: Lexeme<'a>) -> Answer<'a>
-    ensures { answer_of result ≡ A.locals at (tok_of token.entry) }
+fn locals<'a>(to: &mut Progress<'a>, at: usize, token: Lexeme<'a>) -> Result<Answer, AllocError>
+    ensures { Does (A.locals at (tok_of token.entry)) to.old to.new result }
 {
     match token {
-        Lexeme::Name(name) => Answer::Taken(
+        Lexeme::Name(name) => taken(
+            to,
             Rows::Two(Row::Rule(at), Row::Name(name)),
             Next::Two(Due::Arrow(Site::Local), Due::Locals),
         ),
-        Lexeme::RightBrace => made(Row::EndLocals),
-        _ => Answer::Stuck,
+        Lexeme::RightBrace => made(to, Row::EndLocals),
+        _ => Ok(Answer::Stuck),
     }
 }
 
-fn after<'a>(token: Lexeme<'a>) -> Answer<'a>
-    ensures { answer_of result ≡ A.after (tok_of token.entry) }
+fn after<'a>(to: &mut Progress<'a>, token: Lexeme<'a>) -> Result<Answer, AllocError>
+    ensures { Does (A.after (tok_of token.entry)) to.old to.new result }
 {
     match token {
         Lexeme::Sign(Infix::Op(Op2::Div)) => {
-            taken(Next::Two(Due::First(Site::Global), Due::Tail(Site::Global)))
+            onward(
+                to,
+                Next::Two(Due::First(Site::Global), Due::Tail(Site::Global)),
+            )
         }
-        Lexeme::Semicolon => made(Row::Close),
-        _ => Answer::Stuck,
+        Lexeme::Semicolon => made(to, Row::Close),
+        _ => Ok(Answer::Stuck),
     }
 }
 
@@ -367,246 +382,273 @@ fn opened<'a>(due: Symbols) -> Option<Begin<'a>>
     Some(Begin { row: None, due })
 }
 
-fn slot<'a>(role: Role, token: Lexeme<'a>) -> Answer<'a>
-    ensures { answer_of result ≡ A.slot role (tok_of token.entry) }
+fn slot<'a>(to: &mut Progress<'a>, role: Role, token: Lexeme<'a>) -> Result<Answer, AllocError>
+    ensures { Does (A.slot role (tok_of token.entry)) to.old to.new result }
 {
     match token {
         Lexeme::Text(label) => {
-            Answer::Taken(Rows::One(Row::Text(label)), Next::One(Due::Place(role)))
+            taken(to, Rows::One(Row::Text(label)), Next::One(Due::Place(role)))
         }
         Lexeme::Name(label) => {
-            Answer::Taken(Rows::One(Row::Call(label)), Next::One(Due::Place(role)))
+            taken(to, Rows::One(Row::Call(label)), Next::One(Due::Place(role)))
         }
-        _ => Answer::Stuck,
+        _ => Ok(Answer::Stuck),
     }
 }
 
-fn place<'a>(at: usize, role: Role, token: Lexeme<'a>) -> Answer<'a>
+fn place<'a>(
+    to: &mut Progress<'a>,
+    at: usize,
+    role: Role,
+    token: Lexeme<'a>,
+) -> Result<Answer, AllocError>
     requires { at + 1 < 2 ^ 64 }
-    ensures { answer_of result ≡ A.place at role (tok_of token.entry) }
+    ensures { Does (A.place at role (tok_of token.entry)) to.old to.new result }
 {
     match token {
-        Lexeme::LeftBracket => expr(at, Due::Length(role)),
-        _ => Answer::Passed(Rows::One(Row::Placed(Extent::Open, role))),
+        Lexeme::LeftBracket => expr(to, at, Due::Length(role)),
+        _ => passed(to, Rows::One(Row::Placed(Extent::Open, role))),
     }
 }
 
-fn length<'a>(at: usize, role: Role, token: Lexeme<'a>) -> Answer<'a>
+fn length<'a>(
+    to: &mut Progress<'a>,
+    at: usize,
+    role: Role,
+    token: Lexeme<'a>,
+) -> Result<Answer, AllocError>
     requires { at + 1 < 2 ^ 64 }
-    ensures { answer_of result ≡ A.length at role (tok_of token.entry) }
+    ensures { Does (A.length at role (tok_of token.entry)) to.old to.new result }
 {
     match token {
-        Lexeme::RightBracket => made(Row::Placed(Extent::Length, role)),
-        Lexeme::Comma => expr(at, Due::Right(role)),
-        _ => Answer::Stuck,
+        Lexeme::RightBracket => made(to, Row::Placed(Extent::Length, role)),
+        Lexeme::Comma => expr(to, at, Due::Right(role)),
+        _ => Ok(Answer::Stuck),
     }
 }
 
-fn right<'a>(role: Role, token: Lexeme<'a>) -> Answer<'a>
-    ensures { answer_of result ≡ A.right role (tok_of token.entry) }
+fn right<'a>(to: &mut Progress<'a>, role: Role, token: Lexeme<'a>) -> Result<Answer, AllocError>
+    ensures { Does (A.right role (tok_of token.entry)) to.old to.new result }
 {
     match token {
-        Lexeme::RightBracket => made(Row::Placed(Extent::Ends, role)),
-        _ => Answer::Stuck,
+        Lexeme::RightBracket => made(to, Row::Placed(Extent::Ends, role)),
+        _ => Ok(Answer::Stuck),
     }
 }
 
-fn equals<'a>(at: usize, then: Due, token: Lexeme<'a>) -> Answer<'a>
+fn equals<'a>(
+    to: &mut Progress<'a>,
+    at: usize,
+    then: Due,
+    token: Lexeme<'a>,
+) -> Result<Answer, AllocError>
     requires { at + 1 < 2 ^ 64 }
-    ensures { answer_of result ≡ A.equals at then (tok_of token.entry) }
+    ensures { Does (A.equals at then (tok_of token.entry)) to.old to.new result }
 {
     match token {
-        Lexeme::Equals => expr(at, then),
-        _ => Answer::Stuck,
+        Lexeme::Equals => expr(to, at, then),
+        _ => Ok(Answer::Stuck),
     }
 }
 
-fn left_paren<'a>(at: usize, then: Due, token: Lexeme<'a>) -> Answer<'a>
+fn left_paren<'a>(
+    to: &mut Progress<'a>,
+    at: usize,
+    then: Due,
+    token: Lexeme<'a>,
+) -> Result<Answer, AllocError>
     requires { at + 1 < 2 ^ 64 }
-    ensures { answer_of result ≡ A.left_paren at then (tok_of token.entry) }
+    ensures { Does (A.left_paren at then (tok_of token.entry)) to.old to.new result }
 {
     match token {
-        Lexeme::LeftParen => expr(at, then),
-        _ => Answer::Stuck,
+        Lexeme::LeftParen => expr(to, at, then),
+        _ => Ok(Answer::Stuck),
     }
 }
 
-fn set_end<'a>(token: Lexeme<'a>) -> Answer<'a>
-    ensures { answer_of result ≡ A.set_end (tok_of token.entry) }
+fn set_end<'a>(to: &mut Progress<'a>, token: Lexeme<'a>) -> Result<Answer, AllocError>
+    ensures { Does (A.set_end (tok_of token.entry)) to.old to.new result }
 {
     match token {
-        Lexeme::RightBrace => made(Row::Set),
-        _ => Answer::Stuck,
+        Lexeme::RightBrace => made(to, Row::Set),
+        _ => Ok(Answer::Stuck),
     }
 }
 
-fn test_end<'a>(span: Span, token: Lexeme<'a>) -> Answer<'a>
-    ensures { answer_of result ≡ A.test_end span (tok_of token.entry) }
+fn test_end<'a>(to: &mut Progress<'a>, span: Span, token: Lexeme<'a>) -> Result<Answer, AllocError>
+    ensures { Does (A.test_end span (tok_of token.entry)) to.old to.new result }
 {
     match token {
-        Lexeme::RightParen => made(Row::Test(span)),
-        _ => Answer::Stuck,
+        Lexeme::RightParen => made(to, Row::Test(span)),
+        _ => Ok(Answer::Stuck),
     }
 }
 
-fn for_to<'a>(at: usize, token: Lexeme<'a>) -> Answer<'a>
+fn for_to<'a>(to: &mut Progress<'a>, at: usize, token: Lexeme<'a>) -> Result<Answer, AllocError>
     requires { at + 1 < 2 ^ 64 }
-    ensures { answer_of result ≡ A.for_to at (tok_of token.entry) }
+    ensures { Does (A.for_to at (tok_of token.entry)) to.old to.new result }
 {
     match token {
-        Lexeme::To => expr(at, Due::ForDo),
-        _ => Answer::Stuck,
+        Lexeme::To => expr(to, at, Due::ForDo),
+        _ => Ok(Answer::Stuck),
     }
 }
 
-fn for_do<'a>(token: Lexeme<'a>) -> Answer<'a>
-    ensures { answer_of result ≡ A.for_do (tok_of token.entry) }
+fn for_do<'a>(to: &mut Progress<'a>, token: Lexeme<'a>) -> Result<Answer, AllocError>
+    ensures { Does (A.for_do (tok_of token.entry)) to.old to.new result }
 {
     match token {
-        Lexeme::Do => taken(Next::Two(Due::Naming, Due::ForOpen)),
-        _ => Answer::Stuck,
+        Lexeme::Do => onward(to, Next::Two(Due::Naming, Due::ForOpen)),
+        _ => Ok(Answer::Stuck),
     }
 }
 
-fn for_open<'a>(at: usize, token: Lexeme<'a>) -> Answer<'a>
+fn for_open<'a>(to: &mut Progress<'a>, at: usize, token: Lexeme<'a>) -> Result<Answer, AllocError>
     requires { at + 1 < 2 ^ 64 }
-    ensures { answer_of result ≡ A.for_open at (tok_of token.entry) }
+    ensures { Does (A.for_open at (tok_of token.entry)) to.old to.new result }
 {
     match token {
-        Lexeme::LeftBracket => expr(at, Due::ForComma),
-        _ => Answer::Stuck,
+        Lexeme::LeftBracket => expr(to, at, Due::ForComma),
+        _ => Ok(Answer::Stuck),
     }
 }
 
-fn for_comma<'a>(at: usize, token: Lexeme<'a>) -> Answer<'a>
+fn for_comma<'a>(to: &mut Progress<'a>, at: usize, token: Lexeme<'a>) -> Result<Answer, AllocError>
     requires { at + 1 < 2 ^ 64 }
-    ensures { answer_of result ≡ A.for_comma at (tok_of token.entry) }
+    ensures { Does (A.for_comma at (tok_of token.entry)) to.old to.new result }
 {
     match token {
-        Lexeme::Comma => expr(at, Due::ForEnd),
-        _ => Answer::Stuck,
+        Lexeme::Comma => expr(to, at, Due::ForEnd),
+        _ => Ok(Answer::Stuck),
     }
 }
 
-fn for_end<'a>(token: Lexeme<'a>) -> Answer<'a>
-    ensures { answer_of result ≡ A.for_end (tok_of token.entry) }
+fn for_end<'a>(to: &mut Progress<'a>, token: Lexeme<'a>) -> Result<Answer, AllocError>
+    ensures { Does (A.for_end (tok_of token.entry)) to.old to.new result }
 {
     match token {
-        Lexeme::RightBracket => made(Row::Repeat),
-        _ => Answer::Stuck,
+        Lexeme::RightBracket => made(to, Row::Repeat),
+        _ => Ok(Answer::Stuck),
     }
 }
 
-fn pick_open<'a>(span: Span, token: Lexeme<'a>) -> Answer<'a>
-    ensures { answer_of result ≡ A.pick_open span (tok_of token.entry) }
+fn pick_open<'a>(to: &mut Progress<'a>, span: Span, token: Lexeme<'a>) -> Result<Answer, AllocError>
+    ensures { Does (A.pick_open span (tok_of token.entry)) to.old to.new result }
 {
     match token {
-        Lexeme::LeftBrace => taken(Next::One(Due::FirstCase(span))),
-        _ => Answer::Stuck,
+        Lexeme::LeftBrace => onward(to, Next::One(Due::FirstCase(span))),
+        _ => Ok(Answer::Stuck),
     }
 }
 
-fn first_case<'a>(span: Span, token: Lexeme<'a>) -> Answer<'a>
-    ensures { answer_of result ≡ A.first_case span (tok_of token.entry) }
+fn first_case<'a>(
+    to: &mut Progress<'a>,
+    span: Span,
+    token: Lexeme<'a>,
+) -> Result<Answer, AllocError>
+    ensures { Does (A.first_case span (tok_of token.entry)) to.old to.new result }
 {
     match token {
-        Lexeme::Case => taken(Next::Two(Due::CaseOpen, Due::Cases(span))),
-        _ => Answer::Stuck,
+        Lexeme::Case => onward(to, Next::Two(Due::CaseOpen, Due::Cases(span))),
+        _ => Ok(Answer::Stuck),
     }
 }
 
-fn cases<'a>(span: Span, token: Lexeme<'a>) -> Answer<'a>
-    ensures { answer_of result ≡ A.cases span (tok_of token.entry) }
+fn cases<'a>(to: &mut Progress<'a>, span: Span, token: Lexeme<'a>) -> Result<Answer, AllocError>
+    ensures { Does (A.cases span (tok_of token.entry)) to.old to.new result }
 {
     match token {
-        Lexeme::Case => taken(Next::Two(Due::CaseOpen, Due::Cases(span))),
-        Lexeme::Else => taken(Next::Two(Due::Slot(Role::Other), Due::PickEnd(span))),
-        _ => Answer::Stuck,
+        Lexeme::Case => onward(to, Next::Two(Due::CaseOpen, Due::Cases(span))),
+        Lexeme::Else => onward(to, Next::Two(Due::Slot(Role::Other), Due::PickEnd(span))),
+        _ => Ok(Answer::Stuck),
     }
 }
 
-fn case_end<'a>(token: Lexeme<'a>) -> Answer<'a>
-    ensures { answer_of result ≡ A.case_end (tok_of token.entry) }
+fn case_end<'a>(to: &mut Progress<'a>, token: Lexeme<'a>) -> Result<Answer, AllocError>
+    ensures { Does (A.case_end (tok_of token.entry)) to.old to.new result }
 {
     match token {
-        Lexeme::RightParen => taken(Next::One(Due::Slot(Role::Case))),
-        _ => Answer::Stuck,
+        Lexeme::RightParen => onward(to, Next::One(Due::Slot(Role::Case))),
+        _ => Ok(Answer::Stuck),
     }
 }
 
-fn pick_end<'a>(span: Span, token: Lexeme<'a>) -> Answer<'a>
-    ensures { answer_of result ≡ A.pick_end span (tok_of token.entry) }
+fn pick_end<'a>(to: &mut Progress<'a>, span: Span, token: Lexeme<'a>) -> Result<Answer, AllocError>
+    ensures { Does (A.pick_end span (tok_of token.entry)) to.old to.new result }
 {
     match token {
-        Lexeme::RightBrace => made(Row::Pick(span)),
-        _ => Answer::Stuck,
+        Lexeme::RightBrace => made(to, Row::Pick(span)),
+        _ => Ok(Answer::Stuck),
     }
 }
 
 // expressions
 
-fn operand<'a>(token: Lexeme<'a>) -> Answer<'a>
-    ensures { answer_of result ≡ A.operand (tok_of token.entry) }
+fn operand<'a>(to: &mut Progress<'a>, token: Lexeme<'a>) -> Result<Answer, AllocError>
+    ensures { Does (A.operand (tok_of token.entry)) to.old to.new result }
 {
     match token {
-        Lexeme::Number(n) => made(Row::Num(n)),
-        Lexeme::Eoi => made(Row::Eoi),
-        Lexeme::Name(label) => Answer::Taken(
-            Rows::One(Row::Name(label)),
-            Next::One(Due::AfterName),
-        ),
-        Lexeme::LeftParen => taken(Next::Three(Due::Operand, Due::Rest(0), Due::GroupEnd)),
-        Lexeme::Sign(Infix::Op(Op2::Sub)) => taken(Next::Two(Due::Operand, Due::Neg)),
-        Lexeme::Bang => taken(Next::Two(Due::Operand, Due::Not)),
-        _ => Answer::Stuck,
+        Lexeme::Number(n) => made(to, Row::Num(n)),
+        Lexeme::Eoi => made(to, Row::Eoi),
+        Lexeme::Name(label) => taken(to, Rows::One(Row::Name(label)), Next::One(Due::AfterName)),
+        Lexeme::LeftParen => onward(to, Next::Three(Due::Operand, Due::Rest(0), Due::GroupEnd)),
+        Lexeme::Sign(Infix::Op(Op2::Sub)) => onward(to, Next::Two(Due::Operand, Due::Neg)),
+        Lexeme::Bang => onward(to, Next::Two(Due::Operand, Due::Not)),
+        _ => Ok(Answer::Stuck),
     }
 }
 
-fn rest<'a>(level: u8, token: Lexeme<'a>) -> Answer<'a>
-    ensures { answer_of result ≡ A.rest level (tok_of token.entry) }
+fn rest<'a>(to: &mut Progress<'a>, level: u8, token: Lexeme<'a>) -> Result<Answer, AllocError>
+    ensures { Does (A.rest level (tok_of token.entry)) to.old to.new result }
 {
     match token {
-        Lexeme::Sign(sign) => operator(level, sign),
-        Lexeme::Question(_) => question(level),
-        _ => Answer::Passed(Rows::Zero),
+        Lexeme::Sign(sign) => operator(to, level, sign),
+        Lexeme::Question(_) => question(to, level),
+        _ => passed(to, Rows::Zero),
     }
 }
 
 /// What binds more tightly than the operator is its right operand, and all else goes on after it.
-fn operator<'a>(level: u8, sign: Infix) -> Answer<'a>
-    ensures { answer_of result ≡ A.operator level (infix_of sign) }
+fn operator<'a>(to: &mut Progress<'a>, level: u8, sign: Infix) -> Result<Answer, AllocError>
+    ensures { Does (A.operator level (infix_of sign)) to.old to.new result }
 {
     let own = level_of(sign);
     if level <= own {
-        taken(Next::Four(
-            Due::Operand,
-            Due::Rest(own + 1),
-            Due::Two(sign),
-            Due::Rest(level),
-        ))
+        onward(
+            to,
+            Next::Four(
+                Due::Operand,
+                Due::Rest(own + 1),
+                Due::Two(sign),
+                Due::Rest(level),
+            ),
+        )
     } else {
-        Answer::Passed(Rows::Zero)
+        passed(to, Rows::Zero)
     }
 }
 
 /// A conditional binds loosest.
-fn question<'a>(level: u8) -> Answer<'a>
-    ensures { answer_of result ≡ A.question level }
+fn question<'a>(to: &mut Progress<'a>, level: u8) -> Result<Answer, AllocError>
+    ensures { Does (A.question level) to.old to.new result }
 {
     if level == 0 {
-        taken(Next::Four(Due::Operand, Due::Rest(0), Due::CondColon, Due::Rest(0)))
+        onward(
+            to,
+            Next::Four(Due::Operand, Due::Rest(0), Due::CondColon, Due::Rest(0)),
+        )
     } else {
-        Answer::Passed(Rows::Zero)
+        passed(to, Rows::Zero)
     }
 }
 
-fn after_name<'a>(token: Lexeme<'a>) -> Answer<'a>
-    ensures { answer_of result ≡ A.after_name (tok_of token.entry) }
+fn after_name<'a>(to: &mut Progress<'a>, token: Lexeme<'a>) -> Result<Answer, AllocError>
+    ensures { Does (A.after_name (tok_of token.entry)) to.old to.new result }
 {
     match token {
-        Lexeme::Dot => taken(Next::One(Due::PartField)),
-        Lexeme::LeftParen => taken(Next::Three(Due::Operand, Due::Rest(0), Due::IndexEnd)),
-        _ => Answer::Passed(Rows::One(Row::Id)),
+        Lexeme::Dot => onward(to, Next::One(Due::PartField)),
+        Lexeme::LeftParen => onward(to, Next::Three(Due::Operand, Due::Rest(0), Due::IndexEnd)),
+        _ => passed(to, Rows::One(Row::Id)),
     }
 }
 
@@ -622,56 +664,56 @@ fn member<'a>(token: Lexeme<'a>) -> Option<Member<'a>>
     }
 }
 
-fn part_field<'a>(token: Lexeme<'a>) -> Answer<'a>
-    ensures { answer_of result ≡ A.part_field (field_of (tok_of token.entry)) }
+fn part_field<'a>(to: &mut Progress<'a>, token: Lexeme<'a>) -> Result<Answer, AllocError>
+    ensures { Does (A.part_field (field_of (tok_of token.entry))) to.old to.new result }
 {
     match member(token) {
-        Some(member) => made(Row::Part(member)),
-        None => Answer::Stuck,
+        Some(member) => made(to, Row::Part(member)),
+        None => Ok(Answer::Stuck),
     }
 }
 
-fn item_field<'a>(token: Lexeme<'a>) -> Answer<'a>
-    ensures { answer_of result ≡ A.item_field (field_of (tok_of token.entry)) }
+fn item_field<'a>(to: &mut Progress<'a>, token: Lexeme<'a>) -> Result<Answer, AllocError>
+    ensures { Does (A.item_field (field_of (tok_of token.entry))) to.old to.new result }
 {
     match member(token) {
-        Some(member) => made(Row::Item(member)),
-        None => Answer::Stuck,
+        Some(member) => made(to, Row::Item(member)),
+        None => Ok(Answer::Stuck),
     }
 }
 
-fn index_end<'a>(token: Lexeme<'a>) -> Answer<'a>
-    ensures { answer_of result ≡ A.index_end (tok_of token.entry) }
+fn index_end<'a>(to: &mut Progress<'a>, token: Lexeme<'a>) -> Result<Answer, AllocError>
+    ensures { Does (A.index_end (tok_of token.entry)) to.old to.new result }
 {
     match token {
-        Lexeme::RightParen => taken(Next::One(Due::IndexDot)),
-        _ => Answer::Stuck,
+        Lexeme::RightParen => onward(to, Next::One(Due::IndexDot)),
+        _ => Ok(Answer::Stuck),
     }
 }
 
-fn index_dot<'a>(token: Lexeme<'a>) -> Answer<'a>
-    ensures { answer_of result ≡ A.index_dot (tok_of token.entry) }
+fn index_dot<'a>(to: &mut Progress<'a>, token: Lexeme<'a>) -> Result<Answer, AllocError>
+    ensures { Does (A.index_dot (tok_of token.entry)) to.old to.new result }
 {
     match token {
-        Lexeme::Dot => taken(Next::One(Due::ItemField)),
-        _ => Answer::Stuck,
+        Lexeme::Dot => onward(to, Next::One(Due::ItemField)),
+        _ => Ok(Answer::Stuck),
     }
 }
 
-fn group_end<'a>(token: Lexeme<'a>) -> Answer<'a>
-    ensures { answer_of result ≡ A.group_end (tok_of token.entry) }
+fn group_end<'a>(to: &mut Progress<'a>, token: Lexeme<'a>) -> Result<Answer, AllocError>
+    ensures { Does (A.group_end (tok_of token.entry)) to.old to.new result }
 {
     match token {
-        Lexeme::RightParen => made(Row::Group),
-        _ => Answer::Stuck,
+        Lexeme::RightParen => made(to, Row::Group),
+        _ => Ok(Answer::Stuck),
     }
 }
 
-fn cond_colon<'a>(token: Lexeme<'a>) -> Answer<'a>
-    ensures { answer_of result ≡ A.cond_colon (tok_of token.entry) }
+fn cond_colon<'a>(to: &mut Progress<'a>, token: Lexeme<'a>) -> Result<Answer, AllocError>
+    ensures { Does (A.cond_colon (tok_of token.entry)) to.old to.new result }
 {
     match token {
-        Lexeme::Colon => taken(Next::Three(Due::Operand, Due::Rest(0), Due::Cond)),
-        _ => Answer::Stuck,
+        Lexeme::Colon => onward(to, Next::Three(Due::Operand, Due::Rest(0), Due::Cond)),
+        _ => Ok(Answer::Stuck),
     }
 }

@@ -3,6 +3,7 @@
 
 mod due;
 mod lexeme;
+mod progress;
 mod row;
 mod scanning;
 mod stack;

@@ -5,4 +5,4 @@ use Rattle.ipg_scan.specs.Asked as A
 use Rattle.ipg_scan.proofs.scanning.scan.Given as goal
 
 abbrev pub invariant-loop-at : goal.invariant-loop-at
-invariant-loop-at l = A.rows_then (rows_of l.rows.items) (A.run l.at l.due (classes (drop l.at l.tokens))) ≡ A.run 0 A.start (classes l.tokens)
+invariant-loop-at l = A.rows_then (rows_of l.to.rows.items) (A.run l.at l.to.due (classes (drop l.at l.tokens))) ≡ A.run 0 A.start (classes l.tokens)
