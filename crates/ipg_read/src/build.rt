@@ -178,7 +178,10 @@ fn part<'a>(build: &mut Build, member: Member<'a>) -> Result<(), AllocError>
     let field = field(build.alloc, member)?;
     match build.names.pop() {
         Some(name) => put(build, Expr::Part(name, field)),
-        None => Ok(drop(field)),
+        None => {
+            drop(field);
+            Ok(())
+        }
     }
 }
 
@@ -191,7 +194,10 @@ fn item<'a>(build: &mut Build, member: Member<'a>) -> Result<(), AllocError>
             let index = held(build)?;
             put(build, Expr::Item(name, index, field))
         }
-        None => Ok(drop(field)),
+        None => {
+            drop(field);
+            Ok(())
+        }
     }
 }
 
@@ -302,7 +308,10 @@ fn slot_term(build: &mut Build, place: Place) -> Result<(), AllocError>
 {
     match build.slots.pop() {
         Some(slot) => put_term(build, Term::Slot(with_place(slot, place))),
-        None => Ok(drop(place)),
+        None => {
+            drop(place);
+            Ok(())
+        }
     }
 }
 
@@ -311,7 +320,10 @@ fn many_term(build: &mut Build, at: Span, place: Place) -> Result<(), AllocError
 {
     match build.names.pop() {
         Some(item) => put_term(build, Term::Many { at, item, place }),
-        None => Ok(drop(place)),
+        None => {
+            drop(place);
+            Ok(())
+        }
     }
 }
 
@@ -324,7 +336,10 @@ fn slot_case(build: &mut Build, place: Place) -> Result<(), AllocError>
             let slot = with_place(slot, place);
             build.cases.push(Case { cond, slot })
         }
-        None => Ok(drop(place)),
+        None => {
+            drop(place);
+            Ok(())
+        }
     }
 }
 
@@ -333,7 +348,10 @@ fn slot_other(build: &mut Build, place: Place) -> Result<(), AllocError>
 {
     match build.slots.pop() {
         Some(slot) => build.slots.push(with_place(slot, place)),
-        None => Ok(drop(place)),
+        None => {
+            drop(place);
+            Ok(())
+        }
     }
 }
 
