@@ -16,7 +16,8 @@ use Rattle.ipg_ast.specs.declared.grammar.Rule.{Rule}
 use Rattle.ipg_syntax.specs.Classes as C
 use Rattle.ipg_syntax.specs.Classes.{Infix, level, Tok}
 use Rattle.ipg_syntax.specs.Machine as M
-use Rattle.ipg_syntax.specs.Making.{made, last, infix_expr}
+use Rattle.ipg_syntax.specs.Grammars.{infix_expr}
+use Rattle.ipg_syntax.specs.Making.{made, last}
 use Rattle.ipg_scan.specs.Lexemes.{infix_of, coded_infix}
 use Rattle.ipg_scan.specs.declared.due.Due.{Due}
 use Rattle.ipg_scan.specs.declared.due.Due.TheVariants as D

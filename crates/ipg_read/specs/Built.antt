@@ -15,7 +15,8 @@ use Rattle.ipg_ast.specs.declared.grammar.Term.{Term}
 use Rattle.ipg_ast.specs.declared.grammar.Term.TheVariants as T
 use Rattle.ipg_ast.specs.declared.grammar.Alt.{Alt}
 use Rattle.ipg_ast.specs.declared.grammar.Rule.{Rule}
-use Rattle.ipg_syntax.specs.Making.{last, infix_expr, alt_of, rule_of}
+use Rattle.ipg_syntax.specs.Grammars.{infix_expr, alt_of, rule_of}
+use Rattle.ipg_syntax.specs.Making.{last}
 use Rattle.ipg_scan.specs.declared.row.Site.{Site}
 use Rattle.ipg_scan.specs.declared.row.Site.TheVariants.{Global, Local}
 use Rattle.ipg_scan.specs.declared.row.Role.{Role}

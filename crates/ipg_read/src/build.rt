@@ -1,7 +1,7 @@
 //! The grammar that rows make.
 
 ghost use Rattle.std.specs.Prelude.{◌≡◌, [], ◌∷◌, OnOk, IfOk};
-ghost use Rattle.ipg_syntax.specs.Making.{infix_expr};
+ghost use Rattle.ipg_syntax.specs.Grammars.{infix_expr};
 ghost use Rattle.ipg_scan.specs.Lexemes.{ident_of, infix_of};
 ghost use Rattle.ipg_scan.specs.Rowed.{row_of, rows_of, member_of};
 ghost use Rattle.ipg_read.specs.Counted.{below};
