@@ -1,5 +1,5 @@
 -- A text with the tokens of a well formed grammar reads as that grammar.
-use Rattle.std.proofs.Common.{◌≡◌, ℕ, List, [], Option, None, Result, Ok, Err, refl, ap, ◌∙◌, sym, subst}
+use Rattle.std.proofs.Common.{◌≡◌, ℕ, List, [], Option, None, Result, Ok, Err, refl, ap, ◌∙◌, sym, subst, map}
 use Rattle.std.proofs.lemmas.Option.{none-some}
 use Rattle.ipg_ast.specs.declared.grammar.Rule.{Rule}
 use Rattle.ipg_ast.specs.Spelling.{grammar_tokens}
@@ -29,7 +29,6 @@ use Rattle.ipg_canon.proofs.Images.{Of, grammar_tree}
 use Rattle.ipg_canon.proofs.Spelt.{spell_kinds}
 use Rattle.ipg_canon.proofs.Kinded.{same_kinds}
 use Rattle.ipg_canon.proofs.Forms.{formed_fits}
-use Rattle.ipg_syntax.specs.Grammars.{every}
 use Rattle.ipg_syntax.specs.Grammars.{grammar_of}
 
 -- the counters do not look at places
@@ -112,11 +111,11 @@ same_over t u ft fu same = sym (counted t) ∙ ap over_in (same_read counters bl
 same_bare : (t u : List RuleTree) → Fits t → Fits u → plains (spell t) ≡ plains (spell u) → bare (grammar_of t) ≡ bare (grammar_of u)
 same_bare t u ft fu same =
     sym (bare_by t)
-    ∙ ap (λ v. record { rules = rules_in v (every bare_rule (rules_by made [] t)) }) (same_read made bared t u ft fu same)
+    ∙ ap (λ v. record { rules = rules_in v (map bare_rule (rules_by made [] t)) }) (same_read made bared t u ft fu same)
     ∙ bare_by u
   where
-    bare_by : (rs : List RuleTree) → record { rules = every bare_rule (rules_by made [] rs) } ≡ bare (grammar_of rs)
-    bare_by rs = ap (λ rules. record { rules = every bare_rule rules }) (makes_rules [] rs)
+    bare_by : (rs : List RuleTree) → record { rules = map bare_rule (rules_by made [] rs) } ≡ bare (grammar_of rs)
+    bare_by rs = ap (λ rules. record { rules = map bare_rule rules }) (makes_rules [] rs)
 
 -- ---- back
 

@@ -1,5 +1,6 @@
 -- What a text reads as within the limits is well formed.
-use Rattle.std.proofs.Common.{◌≡◌, ℕ, ◌+◌, ◌≤◌, ◌<◌, Bool, true, false, cond, ◌&&◌, nat_le, List, [], ◌∷◌, ◌++◌, length, Some, None, refl, ap, ◌∙◌}
+use Rattle.std.proofs.lemmas.List.{length-map}
+use Rattle.std.proofs.Common.{◌≡◌, ℕ, ◌+◌, ◌≤◌, ◌<◌, Bool, true, false, cond, ◌&&◌, nat_le, List, [], ◌∷◌, ◌++◌, length, Some, None, refl, ap, ◌∙◌, map}
 use Rattle.std.proofs.Common.{sym, subst, arith, lit≤, le_refl}
 use Rattle.std.proofs.lemmas.Bool.{le-leb, ltb-false, and_from}
 use Rattle.std.proofs.lemmas.List.Sums.{sum_by_from}
@@ -18,8 +19,8 @@ use Rattle.ipg_syntax.specs.Limits.{Size, past, depth, is_over, first_over, expr
 use Rattle.ipg_syntax.specs.Limits.{terms_sizes, local_alts_sizes, locals_sizes, alt_sizes, alts_sizes, locals_in, rules_sizes, sizes}
 use Rattle.ipg_canon.specs.Laws.{ReadsFormed}
 use Rattle.ipg_syntax.proofs.Frames.{level_high}
-use Rattle.ipg_canon.proofs.Forms.{Within, form_tree, form_made, depth_form, length_every, rule_counted}
-use Rattle.ipg_syntax.specs.Grammars.{every, made_expr, made_place, made_case, made_term}
+use Rattle.ipg_canon.proofs.Forms.{Within, form_tree, form_made, depth_form, rule_counted}
+use Rattle.ipg_syntax.specs.Grammars.{made_expr, made_place, made_case, made_term}
 use Rattle.ipg_syntax.specs.Grammars.{made_local_alt, made_local, made_alt, made_rule, grammar_of}
 
 -- ---- sizes
@@ -99,7 +100,7 @@ formed_case : (c : CaseTree) (at : ℕ) → CaseFits c → Within (case_sizes at
 formed_case c at fits within =
     (formed_expr c.test (at + 1 + 1) fits.0 (within.0, tt), formed_place c.slot.place (past (at + 1 + 1) (spell_expr c.test) + 1 + 1) fits.1 within.1)
 
-formed_cases : (cs : List CaseTree) (at : ℕ) → Each CaseFits cs → Within (cases_sizes at cs) → AllByRecursion IsFormedCase (every made_case cs)
+formed_cases : (cs : List CaseTree) (at : ℕ) → Each CaseFits cs → Within (cases_sizes at cs) → AllByRecursion IsFormedCase (map made_case cs)
 formed_cases [] at fits within = tt
 formed_cases (c ∷ cs) at fits within =
     let rest : List Size = cases_sizes (past at (spell_case c)) cs in (
@@ -109,7 +110,7 @@ formed_cases (c ∷ cs) at fits within =
     )
 
 -- one at least
-filled : {X Y : Type 0} (f : X → Y) (P : X → Type 0) (xs : List X) → SomeEach P xs → 0 < length (every f xs)
+filled : {X Y : Type 0} (f : X → Y) (P : X → Type 0) (xs : List X) → SomeEach P xs → 0 < length (map f xs)
 filled f P [] some = absurd some
 filled f P (x ∷ xs) some = omega arith
 
@@ -140,7 +141,7 @@ formed_term (pick_term span cs s) at fits within =
     )
 
 formed_terms : (n at : ℕ) (ts : List TermTree) → n ≤ 256 → Each TermFits ts → Within (terms_sizes n at ts)
-    → AllByRecursion IsFormedTerm (every made_term ts) × (n + length ts ≤ 256)
+    → AllByRecursion IsFormedTerm (map made_term ts) × (n + length ts ≤ 256)
 formed_terms n at [] few fits within = (tt, omega (arith, few))
 formed_terms n at (t ∷ ts) few fits within =
     let next : ℕ = past at (spell_term t) in
@@ -148,18 +149,18 @@ formed_terms n at (t ∷ ts) few fits within =
     let others = formed_terms (n + 1) next ts (ltb-false 256 (n + 1) within.0) fits.1 (within_right (term_sizes at t) rest within.1) in
     ((formed_term t at fits.0 (within_left (term_sizes at t) rest within.1), others.0), omega (arith, others.1))
 
-all_formed_terms : (at : ℕ) (ts : List TermTree) → TermsFit ts → Within (terms_sizes 0 at ts) → IsFormedTerms (every made_term ts)
+all_formed_terms : (at : ℕ) (ts : List TermTree) → TermsFit ts → Within (terms_sizes 0 at ts) → IsFormedTerms (map made_term ts)
 all_formed_terms at ts fits within =
     let all = formed_terms 0 at ts (lit≤ tt) (all_each TermFits ts fits) within in
-    record { count = (filled made_term TermFits ts fits, omega (arith, all.1, length_every made_term ts)); each = all.0 }
+    record { count = (filled made_term TermFits ts fits, omega (arith, all.1, length-map ts made_term)); each = all.0 }
 
 formed_local_alts : (n at : ℕ) (las : List (List TermTree)) → n ≤ 64 → Each TermsFit las → Within (local_alts_sizes n at las)
-    → AllByRecursion IsFormedLocalAlt (every made_local_alt las) × (n + length las ≤ 64)
+    → AllByRecursion IsFormedLocalAlt (map made_local_alt las) × (n + length las ≤ 64)
 formed_local_alts n at [] few fits within = (tt, omega (arith, few))
 formed_local_alts n at (ts ∷ las) few fits within =
     let next : ℕ = past (at + 1) (spell_terms ts) in
     let rest : List Size = local_alts_sizes (n + 1) next las in
-    let shown = sym (out-roll-Alt (record { terms = every made_term ts; locals = [] })) in
+    let shown = sym (out-roll-Alt (record { terms = map made_term ts; locals = [] })) in
     let others = formed_local_alts (n + 1) next las (ltb-false 64 (n + 1) within.0) fits.1 (within_right (terms_sizes 0 (at + 1) ts) rest within.1) in (
       (
         record {
@@ -173,15 +174,15 @@ formed_local_alts n at (ts ∷ las) few fits within =
 
 formed_local : (l : LocalTree) (at : ℕ) → LocalFits l → Within (local_alts_sizes 0 (at + 1) l.alts) → IsFormedLocal (made_local l)
 formed_local l at fits within =
-    let shown : every made_local_alt l.alts ≡ (out-Rule (made_local l)).alts =
-    ap (λ r. r.alts) (sym (out-roll-Rule (record { name = l.head; alts = every made_local_alt l.alts }))) in
+    let shown : map made_local_alt l.alts ≡ (out-Rule (made_local l)).alts =
+    ap (λ r. r.alts) (sym (out-roll-Rule (record { name = l.head; alts = map made_local_alt l.alts }))) in
     let all = formed_local_alts 0 (at + 1) l.alts (lit≤ tt) (all_each TermsFit l.alts fits) within in
-    let count : IsFilled 64 (every made_local_alt l.alts) =
-    (filled made_local_alt TermsFit l.alts fits, omega (arith, all.1, length_every made_local_alt l.alts)) in
+    let count : IsFilled 64 (map made_local_alt l.alts) =
+    (filled made_local_alt TermsFit l.alts fits, omega (arith, all.1, length-map l.alts made_local_alt)) in
     record { count = subst (IsFilled 64) shown count; each = subst (AllByRecursion IsFormedLocalAlt) shown all.0 }
 
 formed_locals : (k at : ℕ) (ls : List LocalTree) → k ≤ 1024 → Each LocalFits ls → Within (locals_sizes k at ls)
-    → AllByRecursion IsFormedLocal (every made_local ls) × (k + length ls ≤ 1024)
+    → AllByRecursion IsFormedLocal (map made_local ls) × (k + length ls ≤ 1024)
 formed_locals k at [] few fits within = (tt, omega (arith, few))
 formed_locals k at (l ∷ ls) few fits within =
     let next : ℕ = past at (spell_local l) in
@@ -192,7 +193,7 @@ formed_locals k at (l ∷ ls) few fits within =
 
 formed_alt : (k at : ℕ) (a : AltTree) → k ≤ 1024 → AltFits a → Within (alt_sizes k at a) → IsFormedAlt (made_alt a) × (k + length a.locals ≤ 1024)
 formed_alt k at a few fits within =
-    let shown = sym (out-roll-Alt (record { terms = every made_term a.terms; locals = every made_local a.locals })) in
+    let shown = sym (out-roll-Alt (record { terms = map made_term a.terms; locals = map made_local a.locals })) in
     let from : ℕ = past at (spell_terms a.terms) + 1 + 1 in
     let first : List Size = terms_sizes 0 at a.terms in
     let rest : List Size = locals_sizes k from a.locals in
@@ -205,7 +206,7 @@ formed_alt k at a few fits within =
     )
 
 formed_alts : (k n at : ℕ) (alts : List AltTree) → k ≤ 1024 → n ≤ 64 → Each AltFits alts → Within (alts_sizes k n at alts)
-    → AllByRecursion IsFormedAlt (every made_alt alts) × (n + length alts ≤ 64) × (k + locals_in alts ≤ 1024)
+    → AllByRecursion IsFormedAlt (map made_alt alts) × (n + length alts ≤ 64) × (k + locals_in alts ≤ 1024)
 formed_alts k n at [] few short fits within = (tt, omega (arith, short), omega (arith, few))
 formed_alts k n at (a ∷ alts) few short fits within =
     let next : ℕ = past (at + 1) (spell_alt a) in
@@ -216,19 +217,19 @@ formed_alts k n at (a ∷ alts) few short fits within =
     ((one.0, others.0), omega (arith, others.1), omega (arith, others.2))
 
 formed_rules : (k at : ℕ) (rs : List RuleTree) → k ≤ 1024 → Each RuleFits rs → Within (rules_sizes k at rs)
-    → AllByRecursion IsFormedRule (every made_rule rs) × (k + count_rules (every made_rule rs) ≤ 1024)
+    → AllByRecursion IsFormedRule (map made_rule rs) × (k + count_rules (map made_rule rs) ≤ 1024)
 formed_rules k at [] few fits within = (tt, omega (arith, few))
 formed_rules k at (r ∷ rs) few fits within =
     let next : ℕ = past at (spell_rule r) in
     let first : List Size = alts_sizes (k + 1) 0 (at + 1) r.alts in
     let rest : List Size = rules_sizes (k + 1 + locals_in r.alts) next rs in
-    let counted : count_rules (every made_rule (r ∷ rs)) ≡ 0 + (locals_in r.alts + 1) + count_rules (every made_rule rs) =
-    sum_by_from rules_in (0 + rules_in (made_rule r)) (every made_rule rs) ∙ ap (λ n. 0 + n + count_rules (every made_rule rs)) (rule_counted r) in
-    let shown : every made_alt r.alts ≡ (out-Rule (made_rule r)).alts =
-    ap (λ x. x.alts) (sym (out-roll-Rule (record { name = r.head; alts = every made_alt r.alts }))) in
+    let counted : count_rules (map made_rule (r ∷ rs)) ≡ 0 + (locals_in r.alts + 1) + count_rules (map made_rule rs) =
+    sum_by_from rules_in (0 + rules_in (made_rule r)) (map made_rule rs) ∙ ap (λ n. 0 + n + count_rules (map made_rule rs)) (rule_counted r) in
+    let shown : map made_alt r.alts ≡ (out-Rule (made_rule r)).alts =
+    ap (λ x. x.alts) (sym (out-roll-Rule (record { name = r.head; alts = map made_alt r.alts }))) in
     let alts = formed_alts (k + 1) 0 (at + 1) r.alts (ltb-false 1024 (k + 1) within.0) (lit≤ tt) (all_each AltFits r.alts fits.0)
     (within_left first rest within.1) in
-    let count : IsFilled 64 (every made_alt r.alts) = (filled made_alt AltFits r.alts fits.0, omega (arith, alts.1, length_every made_alt r.alts)) in
+    let count : IsFilled 64 (map made_alt r.alts) = (filled made_alt AltFits r.alts fits.0, omega (arith, alts.1, length-map r.alts made_alt)) in
     let others = formed_rules (k + 1 + locals_in r.alts) next rs alts.2 fits.1 (within_right first rest within.1) in
     ((record { count = subst (IsFilled 64) shown count; each = subst (AllByRecursion IsFormedAlt) shown alts.0 }, others.0), omega (arith, others.1, counted))
 

@@ -1,5 +1,6 @@
 -- The trees of well formed grammars fit, and pass no limit.
-use Rattle.std.proofs.Common.{◌≡◌, ℕ, suc, ◌+◌, ◌≤◌, ◌<◌, max, true, false, cond, ◌&&◌, nat_le, List, [], ◌∷◌, ◌++◌, length, Some, None, refl, ap}
+use Rattle.std.proofs.lemmas.List.{length-map}
+use Rattle.std.proofs.Common.{◌≡◌, ℕ, suc, ◌+◌, ◌≤◌, ◌<◌, max, true, false, cond, ◌&&◌, nat_le, List, [], ◌∷◌, ◌++◌, length, Some, None, refl, ap, map}
 use Rattle.std.proofs.Common.{ap₂, ◌∙◌, sym, subst, arith, sum_by}
 use Rattle.std.proofs.lemmas.Bool.{leb-true, le-leb, le-ltb, and_parts}
 use Rattle.std.specs.List.{AllByRecursion}
@@ -24,7 +25,7 @@ use Rattle.ipg_syntax.specs.Written.{spell_expr, spell_case, spell_cases, spell_
 use Rattle.ipg_syntax.specs.Written.{prefix_level, Each, SomeEach, PlaceFits, CaseFits, TermFits, TermsFit, LocalFits, AltFits, RuleFits, Fits}
 use Rattle.ipg_syntax.specs.Limits.{Size, past, depth, is_over, first_over, expr_size, place_sizes, slot_sizes, case_sizes, cases_sizes, term_sizes}
 use Rattle.ipg_syntax.specs.Limits.{terms_sizes, local_alts_sizes, locals_sizes, alt_sizes, alts_sizes, locals_in, rules_sizes, sizes}
-use Rattle.ipg_syntax.specs.Grammars.{every, infix_expr, made_expr, made_place, made_case, made_term}
+use Rattle.ipg_syntax.specs.Grammars.{infix_expr, made_expr, made_place, made_case, made_term}
 use Rattle.ipg_syntax.specs.Grammars.{made_local_alt, made_local, made_alt, made_rule, grammar_of}
 
 -- ---- expressions
@@ -175,7 +176,7 @@ case_formed c at formed =
     let slot = place_formed c.slot.place (past (at + 1 + 1) (spell_expr c.test) + 1 + 1) formed.1 in
     ((test.0, slot.0), (test.1.0, slot.1))
 
-cases_formed : (cs : List CaseTree) (at : ℕ) → AllByRecursion IsFormedCase (every made_case cs) → Each CaseFits cs × Within (cases_sizes at cs)
+cases_formed : (cs : List CaseTree) (at : ℕ) → AllByRecursion IsFormedCase (map made_case cs) → Each CaseFits cs × Within (cases_sizes at cs)
 cases_formed [] at formed = (tt, tt)
 cases_formed (c ∷ cs) at formed =
     let first = case_formed c at formed.0 in
@@ -183,13 +184,9 @@ cases_formed (c ∷ cs) at formed =
     ((first.0, rest.0), within_append (case_sizes at c) (cases_sizes (past at (spell_case c)) cs) first.1 rest.1)
 
 -- one at least
-some_from : {X Y : Type 0} (f : X → Y) (P : X → Type 0) (xs : List X) → 0 < length (every f xs) → Each P xs → SomeEach P xs
+some_from : {X Y : Type 0} (f : X → Y) (P : X → Type 0) (xs : List X) → 0 < length (map f xs) → Each P xs → SomeEach P xs
 some_from f P [] some each = absurd (let no : ⊥ = omega (arith, some) in no)
 some_from f P (x ∷ xs) some each = each
-
-pub length_every : {X Y : Type 0} (f : X → Y) (xs : List X) → length (every f xs) ≡ length xs
-length_every f [] = refl
-length_every f (x ∷ xs) = ap suc (length_every f xs)
 
 term_formed : (t : TermTree) (at : ℕ) → IsFormedTerm (made_term t) → TermFits t × Within (term_sizes at t)
 term_formed (slot_term s) at formed = place_formed s.place (at + 1) formed
@@ -211,7 +208,7 @@ term_formed (pick_term span cs s) at formed =
     let slot = place_formed s.place (mid + 1) formed.2 in
     ((some_from made_case CaseFits cs formed.0 cases.0, slot.0), within_append (cases_sizes (at + 1 + 1) cs) (slot_sizes mid s) cases.1 slot.1)
 
-terms_formed : (n at : ℕ) (ts : List TermTree) → AllByRecursion IsFormedTerm (every made_term ts) → n + length ts ≤ 256
+terms_formed : (n at : ℕ) (ts : List TermTree) → AllByRecursion IsFormedTerm (map made_term ts) → n + length ts ≤ 256
     → Each TermFits ts × Within (terms_sizes n at ts)
 terms_formed n at [] formed few = (tt, tt)
 terms_formed n at (t ∷ ts) formed few =
@@ -221,19 +218,19 @@ terms_formed n at (t ∷ ts) formed few =
     let rest = terms_formed (n + 1) next ts formed.1 fewer in
     ((first.0, rest.0), (le-ltb 256 (n + 1) (omega (arith, fewer)), within_append (term_sizes at t) (terms_sizes (n + 1) next ts) first.1 rest.1))
 
-all_terms_formed : (at : ℕ) (ts : List TermTree) → IsFormedTerms (every made_term ts) → TermsFit ts × Within (terms_sizes 0 at ts)
+all_terms_formed : (at : ℕ) (ts : List TermTree) → IsFormedTerms (map made_term ts) → TermsFit ts × Within (terms_sizes 0 at ts)
 all_terms_formed at ts formed =
-    let few : 0 + length ts ≤ 256 = omega (arith, formed.count.1, length_every made_term ts) in
+    let few : 0 + length ts ≤ 256 = omega (arith, formed.count.1, length-map ts made_term) in
     let all = terms_formed 0 at ts formed.each few in
     (some_from made_term TermFits ts formed.count.0 all.0, all.1)
 
-local_alts_formed : (n at : ℕ) (las : List (List TermTree)) → AllByRecursion IsFormedLocalAlt (every made_local_alt las) → n + length las ≤ 64
+local_alts_formed : (n at : ℕ) (las : List (List TermTree)) → AllByRecursion IsFormedLocalAlt (map made_local_alt las) → n + length las ≤ 64
     → Each TermsFit las × Within (local_alts_sizes n at las)
 local_alts_formed n at [] formed few = (tt, tt)
 local_alts_formed n at (ts ∷ las) formed few =
     let next : ℕ = past (at + 1) (spell_terms ts) in
-    let terms : IsFormedTerms (every made_term ts) =
-    subst IsFormedTerms (ap (λ a. a.terms) (out-roll-Alt (record { terms = every made_term ts; locals = [] }))) formed.0.terms in
+    let terms : IsFormedTerms (map made_term ts) =
+    subst IsFormedTerms (ap (λ a. a.terms) (out-roll-Alt (record { terms = map made_term ts; locals = [] }))) formed.0.terms in
     let first = all_terms_formed (at + 1) ts terms in
     let fewer : n + 1 + length las ≤ 64 = omega (arith, few) in
     let rest = local_alts_formed (n + 1) next las formed.1 fewer in (
@@ -247,14 +244,14 @@ local_alts_formed n at (ts ∷ las) formed few =
 
 local_formed : (l : LocalTree) (at : ℕ) → IsFormedLocal (made_local l) → LocalFits l × Within (local_alts_sizes 0 (at + 1) l.alts)
 local_formed l at formed =
-    let shown : (out-Rule (made_local l)).alts ≡ every made_local_alt l.alts =
-    ap (λ r. r.alts) (out-roll-Rule (record { name = l.head; alts = every made_local_alt l.alts })) in
-    let count : IsFilled 64 (every made_local_alt l.alts) = subst (IsFilled 64) shown formed.count in
-    let few : 0 + length l.alts ≤ 64 = omega (arith, count.1, length_every made_local_alt l.alts) in
+    let shown : (out-Rule (made_local l)).alts ≡ map made_local_alt l.alts =
+    ap (λ r. r.alts) (out-roll-Rule (record { name = l.head; alts = map made_local_alt l.alts })) in
+    let count : IsFilled 64 (map made_local_alt l.alts) = subst (IsFilled 64) shown formed.count in
+    let few : 0 + length l.alts ≤ 64 = omega (arith, count.1, length-map l.alts made_local_alt) in
     let all = local_alts_formed 0 (at + 1) l.alts (subst (AllByRecursion IsFormedLocalAlt) shown formed.each) few in
     (some_from made_local_alt TermsFit l.alts count.0 all.0, all.1)
 
-locals_formed : (k at : ℕ) (ls : List LocalTree) → AllByRecursion IsFormedLocal (every made_local ls) → k + length ls ≤ 1024
+locals_formed : (k at : ℕ) (ls : List LocalTree) → AllByRecursion IsFormedLocal (map made_local ls) → k + length ls ≤ 1024
     → Each LocalFits ls × Within (locals_sizes k at ls)
 locals_formed k at [] formed few = (tt, tt)
 locals_formed k at (l ∷ ls) formed few =
@@ -272,13 +269,13 @@ locals_formed k at (l ∷ ls) formed few =
 
 alt_formed : (k at : ℕ) (a : AltTree) → IsFormedAlt (made_alt a) → k + length a.locals ≤ 1024 → AltFits a × Within (alt_sizes k at a)
 alt_formed k at a formed few =
-    let shown = out-roll-Alt (record { terms = every made_term a.terms; locals = every made_local a.locals }) in
+    let shown = out-roll-Alt (record { terms = map made_term a.terms; locals = map made_local a.locals }) in
     let from : ℕ = past at (spell_terms a.terms) + 1 + 1 in
     let terms = all_terms_formed at a.terms (subst IsFormedTerms (ap (λ x. x.terms) shown) formed.terms) in
     let locals = locals_formed k from a.locals (subst (AllByRecursion IsFormedLocal) (ap (λ x. x.locals) shown) formed.locals) few in
     ((terms.0, locals.0), within_append (terms_sizes 0 at a.terms) (locals_sizes k from a.locals) terms.1 locals.1)
 
-alts_formed : (k n at : ℕ) (alts : List AltTree) → AllByRecursion IsFormedAlt (every made_alt alts) → n + length alts ≤ 64 → k + locals_in alts ≤ 1024
+alts_formed : (k n at : ℕ) (alts : List AltTree) → AllByRecursion IsFormedAlt (map made_alt alts) → n + length alts ≤ 64 → k + locals_in alts ≤ 1024
     → Each AltFits alts × Within (alts_sizes k n at alts)
 alts_formed k n at [] formed few short = (tt, tt)
 alts_formed k n at (a ∷ alts) formed few short =
@@ -296,33 +293,33 @@ alts_formed k n at (a ∷ alts) formed few short =
 
 -- ---- rules counted
 
-locals_counted : (alts : List AltTree) → sum_by Shape.locals_in (every made_alt alts) ≡ locals_in alts
+locals_counted : (alts : List AltTree) → sum_by Shape.locals_in (map made_alt alts) ≡ locals_in alts
 locals_counted [] = refl
 locals_counted (a ∷ alts) =
-    sum_by_from Shape.locals_in (0 + Shape.locals_in (made_alt a)) (every made_alt alts)
+    sum_by_from Shape.locals_in (0 + Shape.locals_in (made_alt a)) (map made_alt alts)
     ∙ ap₂ (λ m n. 0 + m + n)
-    (ap (λ x. length x.locals) (out-roll-Alt (record { terms = every made_term a.terms; locals = every made_local a.locals }))
-    ∙ length_every made_local a.locals)
+    (ap (λ x. length x.locals) (out-roll-Alt (record { terms = map made_term a.terms; locals = map made_local a.locals }))
+    ∙ length-map a.locals made_local)
     (locals_counted alts)
     ∙ (let none : 0 + length a.locals + locals_in alts ≡ length a.locals + locals_in alts = omega arith in none)
 
 pub rule_counted : (r : RuleTree) → rules_in (made_rule r) ≡ locals_in r.alts + 1
 rule_counted r =
-    ap (λ x. sum_by Shape.locals_in x.alts + 1) (out-roll-Rule (record { name = r.head; alts = every made_alt r.alts }))
+    ap (λ x. sum_by Shape.locals_in x.alts + 1) (out-roll-Rule (record { name = r.head; alts = map made_alt r.alts }))
     ∙ ap (λ n. n + 1) (locals_counted r.alts)
 
-rules_formed : (k at : ℕ) (rs : List RuleTree) → AllByRecursion IsFormedRule (every made_rule rs) → k + count_rules (every made_rule rs) ≤ 1024
+rules_formed : (k at : ℕ) (rs : List RuleTree) → AllByRecursion IsFormedRule (map made_rule rs) → k + count_rules (map made_rule rs) ≤ 1024
     → Each RuleFits rs × Within (rules_sizes k at rs)
 rules_formed k at [] formed few = (tt, tt)
 rules_formed k at (r ∷ rs) formed few =
     let next : ℕ = past at (spell_rule r) in
-    let counted : count_rules (every made_rule (r ∷ rs)) ≡ 0 + (locals_in r.alts + 1) + count_rules (every made_rule rs) =
-    sum_by_from rules_in (0 + rules_in (made_rule r)) (every made_rule rs) ∙ ap (λ n. 0 + n + count_rules (every made_rule rs)) (rule_counted r) in
-    let shown : (out-Rule (made_rule r)).alts ≡ every made_alt r.alts =
-    ap (λ x. x.alts) (out-roll-Rule (record { name = r.head; alts = every made_alt r.alts })) in
-    let count : IsFilled 64 (every made_alt r.alts) = subst (IsFilled 64) shown formed.0.count in
+    let counted : count_rules (map made_rule (r ∷ rs)) ≡ 0 + (locals_in r.alts + 1) + count_rules (map made_rule rs) =
+    sum_by_from rules_in (0 + rules_in (made_rule r)) (map made_rule rs) ∙ ap (λ n. 0 + n + count_rules (map made_rule rs)) (rule_counted r) in
+    let shown : (out-Rule (made_rule r)).alts ≡ map made_alt r.alts =
+    ap (λ x. x.alts) (out-roll-Rule (record { name = r.head; alts = map made_alt r.alts })) in
+    let count : IsFilled 64 (map made_alt r.alts) = subst (IsFilled 64) shown formed.0.count in
     let alts = alts_formed (k + 1) 0 (at + 1) r.alts (subst (AllByRecursion IsFormedAlt) shown formed.0.each)
-    (omega (arith, count.1, length_every made_alt r.alts)) (omega (arith, few, counted)) in
+    (omega (arith, count.1, length-map r.alts made_alt)) (omega (arith, few, counted)) in
     let rest = rules_formed (k + 1 + locals_in r.alts) next rs formed.1 (omega (arith, few, counted)) in (
       (some_from made_alt AltFits r.alts count.0 alts.0, rest.0),
       (
@@ -335,6 +332,6 @@ rules_formed k at (r ∷ rs) formed few =
 -- a well formed grammar's tree fits, and passes no limit
 pub formed_fits : (rs : List RuleTree) → IsFormed (grammar_of rs) → Fits rs × (first_over (sizes rs) ≡ None)
 formed_fits rs formed =
-    let few : 0 + count_rules (every made_rule rs) ≤ 1024 = omega (arith, formed.count) in
+    let few : 0 + count_rules (map made_rule rs) ≤ 1024 = omega (arith, formed.count) in
     let all = rules_formed 0 0 rs formed.each few in
     (some_from made_rule RuleFits rs formed.some all.0, within_first (sizes rs) all.1)

@@ -1,5 +1,5 @@
 -- Each well formed grammar of the public types is made of a tree.
-use Rattle.std.proofs.Common.{◌≡◌, List, [], ◌∷◌, refl, ap, ap₂, ◌∙◌, sym, subst}
+use Rattle.std.proofs.Common.{◌≡◌, List, [], ◌∷◌, refl, ap, ap₂, ◌∙◌, sym, subst, map}
 use Rattle.std.specs.List.{AllByRecursion}
 use Rattle.ipg_ast.specs.declared.grammar.Expr.{Expr, roll-Expr, map-Expr}
 use Rattle.ipg_ast.specs.declared.grammar.Expr.TheOpen.{Expr-F}
@@ -21,7 +21,7 @@ use Rattle.ipg_ast.specs.Shape.{IsFormedTerm, IsFormedTerms, IsFormedLocalAlt, I
 use Rattle.ipg_syntax.specs.Classes.{either, both, op}
 use Rattle.ipg_syntax.specs.Written.{ExprTree, num, eoi, own, part, item, group, neg, isnt, two, choose, anywhere, long, ends}
 use Rattle.ipg_syntax.specs.Written.{slot_term, set_term, test_term, repeat_term, many_term, pick_term}
-use Rattle.ipg_syntax.specs.Grammars.{every, made_expr, made_place, made_slot, made_case, made_term, alt_of, rule_of}
+use Rattle.ipg_syntax.specs.Grammars.{made_expr, made_place, made_slot, made_case, made_term, alt_of, rule_of}
 use Rattle.ipg_syntax.specs.Grammars.{made_local_alt, made_local, made_alt, made_rule, grammar_of}
 
 pub record ExprOf (e : Expr) : Type 0 where
@@ -60,11 +60,11 @@ pub record Of {X Y : Type 0} (f : X → Y) (y : Y) : Type 0 where
   pub tree : X
   pub is : f tree ≡ y
 
-each_of : {X Y : Type 0} (f : X → Y) (P : Y → Type 0) → ((y : Y) → P y → Of f y) → (ys : List Y) → AllByRecursion P ys → Of (every f) ys
+each_of : {X Y : Type 0} (f : X → Y) (P : Y → Type 0) → ((y : Y) → P y → Of f y) → (ys : List Y) → AllByRecursion P ys → Of (map f) ys
 each_of f P one [] all = record { tree = []; is = refl }
 each_of f P one (y ∷ ys) all =
     let first : Of f y = one y all.0 in
-    let rest : Of (every f) ys = each_of f P one ys all.1 in
+    let rest : Of (map f) ys = each_of f P one ys all.1 in
     record { tree = first.tree ∷ rest.tree; is = ap₂ (λ x xs. x ∷ xs) first.is rest.is }
 
 abbrev Any : {Y : Type 0} → Y → Type 0
@@ -102,34 +102,34 @@ term_tree (T.Repeat x a b i l r) any = record {
 }
 term_tree (T.Many at i p) any = record { tree = many_term at i (place_tree p).tree; is = ap (λ x. T.Many at i x) (place_tree p).is }
 term_tree (T.Pick at cs s) any =
-    let cases : Of (every made_case) cs = each_of made_case Any case_tree cs (all_any cs) in
+    let cases : Of (map made_case) cs = each_of made_case Any case_tree cs (all_any cs) in
     record { tree = pick_term at cases.tree (slot_tree s).tree; is = ap₂ (λ x y. T.Pick at x y) cases.is (slot_tree s).is }
 
-terms_tree : (ts : List Term) → IsFormedTerms ts → Of (every made_term) ts
+terms_tree : (ts : List Term) → IsFormedTerms ts → Of (map made_term) ts
 terms_tree ts formed = each_of made_term IsFormedTerm term_tree ts formed.each
 
 local_alt_tree : (a : Alt) → IsFormedLocalAlt a → Of made_local_alt a
 local_alt_tree a formed =
-    let ts : Of (every made_term) (out-Alt a).terms = terms_tree (out-Alt a).terms formed.terms in
+    let ts : Of (map made_term) (out-Alt a).terms = terms_tree (out-Alt a).terms formed.terms in
     record { tree = ts.tree; is = ap₂ alt_of ts.is (sym formed.no_locals) ∙ roll-out-Alt a }
 
 local_tree : (r : Rule) → IsFormedLocal r → Of made_local r
 local_tree r formed =
-    let las : Of (every made_local_alt) (out-Rule r).alts = each_of made_local_alt IsFormedLocalAlt local_alt_tree (out-Rule r).alts formed.each in
+    let las : Of (map made_local_alt) (out-Rule r).alts = each_of made_local_alt IsFormedLocalAlt local_alt_tree (out-Rule r).alts formed.each in
     record { tree = record { head = (out-Rule r).name; alts = las.tree }; is = ap (rule_of (out-Rule r).name) las.is ∙ roll-out-Rule r }
 
 alt_tree : (a : Alt) → IsFormedAlt a → Of made_alt a
 alt_tree a formed =
-    let ts : Of (every made_term) (out-Alt a).terms = terms_tree (out-Alt a).terms formed.terms in
-    let ls : Of (every made_local) (out-Alt a).locals = each_of made_local IsFormedLocal local_tree (out-Alt a).locals formed.locals in
+    let ts : Of (map made_term) (out-Alt a).terms = terms_tree (out-Alt a).terms formed.terms in
+    let ls : Of (map made_local) (out-Alt a).locals = each_of made_local IsFormedLocal local_tree (out-Alt a).locals formed.locals in
     record { tree = record { terms = ts.tree; locals = ls.tree }; is = ap₂ alt_of ts.is ls.is ∙ roll-out-Alt a }
 
 rule_tree : (r : Rule) → IsFormedRule r → Of made_rule r
 rule_tree r formed =
-    let alts : Of (every made_alt) (out-Rule r).alts = each_of made_alt IsFormedAlt alt_tree (out-Rule r).alts formed.each in
+    let alts : Of (map made_alt) (out-Rule r).alts = each_of made_alt IsFormedAlt alt_tree (out-Rule r).alts formed.each in
     record { tree = record { head = (out-Rule r).name; alts = alts.tree }; is = ap (rule_of (out-Rule r).name) alts.is ∙ roll-out-Rule r }
 
 pub grammar_tree : (g : Grammar) → IsFormed g → Of grammar_of g
 grammar_tree g formed =
-    let rules : Of (every made_rule) g.rules = each_of made_rule IsFormedRule rule_tree g.rules formed.each in
+    let rules : Of (map made_rule) g.rules = each_of made_rule IsFormedRule rule_tree g.rules formed.each in
     record { tree = rules.tree; is = ap (λ rs. record { rules = rs }) rules.is }

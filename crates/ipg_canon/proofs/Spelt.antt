@@ -1,5 +1,5 @@
 -- The kinds of a tree's tokens are the tokens of its grammar.
-use Rattle.std.proofs.Common.{◌≡◌, ℕ, List, [], ◌∷◌, ◌++◌, refl, ap, ap₂, ◌∙◌, sym, codes}
+use Rattle.std.proofs.Common.{◌≡◌, ℕ, List, [], ◌∷◌, ◌++◌, refl, ap, ap₂, ◌∙◌, sym, codes, map}
 use Rattle.ipg_ast.specs.declared.token.TokenKind.{TokenKind}
 use Rattle.ipg_ast.specs.declared.token.TokenKind.TheVariants.{Name, Word, Number, Text, Symbol}
 use Rattle.ipg_ast.specs.declared.grammar.Span.{Span}
@@ -25,7 +25,7 @@ use Rattle.ipg_syntax.specs.Written.{Toks, ExprTree, num, eoi, own, part, item, 
 use Rattle.ipg_syntax.specs.Written.{SlotTree, CaseTree, TermTree, slot_term, set_term, test_term, repeat_term, many_term, pick_term, LocalTree}
 use Rattle.ipg_syntax.specs.Written.{AltTree, RuleTree, field_tok, what_tok, spell_expr, spell_place, spell_slot, spell_case, spell_cases, spell_term}
 use Rattle.ipg_syntax.specs.Written.{spell_terms, spell_local_alts, spell_local, spell_locals, spell_where, spell_alt, spell_alts, spell_rule, spell}
-use Rattle.ipg_syntax.specs.Grammars.{every, infix_expr, made_expr, made_place, made_slot, made_case, made_term, alt_of}
+use Rattle.ipg_syntax.specs.Grammars.{infix_expr, made_expr, made_place, made_slot, made_case, made_term, alt_of}
 use Rattle.ipg_syntax.specs.Grammars.{made_local_alt, made_local, made_alt, made_rule, grammar_of}
 
 abbrev pub infix_sign : Infix → List ℕ
@@ -151,9 +151,9 @@ case_kinds c = ap (λ ts. Word (codes "case") ∷ Symbol (codes "(") ∷ ts)
     (Symbol (codes ")") ∷ slot_tokens (made_slot c.slot)) (expr_kinds c.test)
     (ap (λ ts. Symbol (codes ")") ∷ ts) (slot_kinds c.slot)))
 
-cases_kinds : (cs : List CaseTree) → kinds_of (spell_cases cs) ≡ cases_tokens (every made_case cs)
+cases_kinds : (cs : List CaseTree) → kinds_of (spell_cases cs) ≡ cases_tokens (map made_case cs)
 cases_kinds [] = refl
-cases_kinds (c ∷ cs) = in_a_row (spell_case c) (spell_cases cs) (case_tokens (made_case c)) (cases_tokens (every made_case cs)) (case_kinds c) (cases_kinds cs)
+cases_kinds (c ∷ cs) = in_a_row (spell_case c) (spell_cases cs) (case_tokens (made_case c)) (cases_tokens (map made_case cs)) (case_kinds c) (cases_kinds cs)
 
 term_kinds : (t : TermTree) → kinds_of (spell_term t) ≡ term_tokens (made_term t)
 term_kinds (slot_term s) = slot_kinds s
@@ -172,67 +172,67 @@ term_kinds (many_term at i p) = ap (λ ts. Word (codes "many") ∷ Name i.name �
 term_kinds (pick_term at cs s) =
     let end : Tokens = Word (codes "else") ∷ (slot_tokens (made_slot s) ++ (Symbol (codes "}") ∷ [])) in
     ap (λ ts. Word (codes "switch") ∷ Symbol (codes "{") ∷ ts)
-    (in_a_row (spell_cases cs) (else_word ∷ (spell_slot s ++ (right_brace ∷ []))) (cases_tokens (every made_case cs)) end
+    (in_a_row (spell_cases cs) (else_word ∷ (spell_slot s ++ (right_brace ∷ []))) (cases_tokens (map made_case cs)) end
     (cases_kinds cs)
     (ap (λ ts. Word (codes "else") ∷ ts) (in_a_row (spell_slot s) (right_brace ∷ []) (slot_tokens (made_slot s)) (Symbol (codes "}") ∷ [])
     (slot_kinds s) refl)))
 
-terms_kinds : (ts : List TermTree) → kinds_of (spell_terms ts) ≡ terms_tokens (every made_term ts)
+terms_kinds : (ts : List TermTree) → kinds_of (spell_terms ts) ≡ terms_tokens (map made_term ts)
 terms_kinds [] = refl
-terms_kinds (t ∷ ts) = in_a_row (spell_term t) (spell_terms ts) (term_tokens (made_term t)) (terms_tokens (every made_term ts)) (term_kinds t)
+terms_kinds (t ∷ ts) = in_a_row (spell_term t) (spell_terms ts) (term_tokens (made_term t)) (terms_tokens (map made_term ts)) (term_kinds t)
     (terms_kinds ts)
 
 terms_in : (ts : List Term) (ls : List Rule) → (out-Alt (alt_of ts ls)).terms ≡ ts
 terms_in ts ls = ap (λ a. a.terms) (out-roll-Alt (record { terms = ts; locals = ls }))
 
-local_alts_kinds : (m : Tok) (las : List (List TermTree)) → kinds_of (spell_local_alts m las) ≡ local_alts_from (kind_of m) (every made_local_alt las)
+local_alts_kinds : (m : Tok) (las : List (List TermTree)) → kinds_of (spell_local_alts m las) ≡ local_alts_from (kind_of m) (map made_local_alt las)
 local_alts_kinds m [] = refl
 local_alts_kinds m (ts ∷ las) = ap (λ toks. kind_of m ∷ toks)
     (in_a_row (spell_terms ts) (spell_local_alts slash las) (terms_tokens (out-Alt (made_local_alt ts)).terms)
-    (local_alts_from (Symbol (codes "/")) (every made_local_alt las))
-    (terms_kinds ts ∙ ap terms_tokens (sym (terms_in (every made_term ts) []))) (local_alts_kinds slash las))
+    (local_alts_from (Symbol (codes "/")) (map made_local_alt las))
+    (terms_kinds ts ∙ ap terms_tokens (sym (terms_in (map made_term ts) []))) (local_alts_kinds slash las))
 
 local_kinds : (l : LocalTree) → kinds_of (spell_local l) ≡ local_tokens (made_local l)
 local_kinds l =
     ap (λ toks. Name l.head.name ∷ toks)
-    (in_a_row (spell_local_alts arrow l.alts) (semicolon ∷ []) (local_alts_tokens (every made_local_alt l.alts)) (Symbol (codes ";") ∷ [])
+    (in_a_row (spell_local_alts arrow l.alts) (semicolon ∷ []) (local_alts_tokens (map made_local_alt l.alts)) (Symbol (codes ";") ∷ [])
     (local_alts_kinds arrow l.alts) refl)
     ∙ ap (λ r. Name r.name.name ∷ (local_alts_tokens r.alts ++ (Symbol (codes ";") ∷ [])))
-    (sym (out-roll-Rule (record { name = l.head; alts = every made_local_alt l.alts })))
+    (sym (out-roll-Rule (record { name = l.head; alts = map made_local_alt l.alts })))
 
-locals_kinds : (ls : List LocalTree) → kinds_of (spell_locals ls) ≡ locals_tokens (every made_local ls)
+locals_kinds : (ls : List LocalTree) → kinds_of (spell_locals ls) ≡ locals_tokens (map made_local ls)
 locals_kinds [] = refl
-locals_kinds (l ∷ ls) = in_a_row (spell_local l) (spell_locals ls) (local_tokens (made_local l)) (locals_tokens (every made_local ls)) (local_kinds l)
+locals_kinds (l ∷ ls) = in_a_row (spell_local l) (spell_locals ls) (local_tokens (made_local l)) (locals_tokens (map made_local ls)) (local_kinds l)
     (locals_kinds ls)
 
-where_kinds : (ls : List LocalTree) → kinds_of (spell_where ls) ≡ where_tokens (every made_local ls)
+where_kinds : (ls : List LocalTree) → kinds_of (spell_where ls) ≡ where_tokens (map made_local ls)
 where_kinds [] = refl
 where_kinds (l ∷ ls) = ap (λ toks. Word (codes "where") ∷ Symbol (codes "{") ∷ toks)
-    (in_a_row (spell_locals (l ∷ ls)) (right_brace ∷ []) (locals_tokens (every made_local (l ∷ ls))) (Symbol (codes "}") ∷ []) (locals_kinds (l ∷ ls)) refl)
+    (in_a_row (spell_locals (l ∷ ls)) (right_brace ∷ []) (locals_tokens (map made_local (l ∷ ls))) (Symbol (codes "}") ∷ []) (locals_kinds (l ∷ ls)) refl)
 
 alt_kinds : (a : AltTree) → kinds_of (spell_alt a) ≡ alt_tokens (made_alt a)
 alt_kinds a =
-    let ts : List Term = every made_term a.terms in
-    let ls : List Rule = every made_local a.locals in
+    let ts : List Term = map made_term a.terms in
+    let ls : List Rule = map made_local a.locals in
     in_a_row (spell_terms a.terms) (spell_where a.locals) (terms_tokens ts) (where_tokens ls) (terms_kinds a.terms) (where_kinds a.locals)
     ∙ ap (λ x. terms_tokens x.terms ++ where_tokens x.locals) (sym (out-roll-Alt (record { terms = ts; locals = ls })))
 
-alts_kinds : (m : Tok) (alts : List AltTree) → kinds_of (spell_alts m alts) ≡ alts_from (kind_of m) (every made_alt alts)
+alts_kinds : (m : Tok) (alts : List AltTree) → kinds_of (spell_alts m alts) ≡ alts_from (kind_of m) (map made_alt alts)
 alts_kinds m [] = refl
 alts_kinds m (a ∷ alts) = ap (λ toks. kind_of m ∷ toks)
-    (in_a_row (spell_alt a) (spell_alts slash alts) (alt_tokens (made_alt a)) (alts_from (Symbol (codes "/")) (every made_alt alts)) (alt_kinds a)
+    (in_a_row (spell_alt a) (spell_alts slash alts) (alt_tokens (made_alt a)) (alts_from (Symbol (codes "/")) (map made_alt alts)) (alt_kinds a)
     (alts_kinds slash alts))
 
 rule_kinds : (r : RuleTree) → kinds_of (spell_rule r) ≡ rule_tokens (made_rule r)
 rule_kinds r =
     ap (λ toks. Name r.head.name ∷ toks)
-    (in_a_row (spell_alts arrow r.alts) (semicolon ∷ []) (alts_tokens (every made_alt r.alts)) (Symbol (codes ";") ∷ []) (alts_kinds arrow r.alts) refl)
+    (in_a_row (spell_alts arrow r.alts) (semicolon ∷ []) (alts_tokens (map made_alt r.alts)) (Symbol (codes ";") ∷ []) (alts_kinds arrow r.alts) refl)
     ∙ ap (λ x. Name x.name.name ∷ (alts_tokens x.alts ++ (Symbol (codes ";") ∷ [])))
-    (sym (out-roll-Rule (record { name = r.head; alts = every made_alt r.alts })))
+    (sym (out-roll-Rule (record { name = r.head; alts = map made_alt r.alts })))
 
-rules_kinds : (rs : List RuleTree) → kinds_of (spell rs) ≡ rules_tokens (every made_rule rs)
+rules_kinds : (rs : List RuleTree) → kinds_of (spell rs) ≡ rules_tokens (map made_rule rs)
 rules_kinds [] = refl
-rules_kinds (r ∷ rs) = in_a_row (spell_rule r) (spell rs) (rule_tokens (made_rule r)) (rules_tokens (every made_rule rs)) (rule_kinds r) (rules_kinds rs)
+rules_kinds (r ∷ rs) = in_a_row (spell_rule r) (spell rs) (rule_tokens (made_rule r)) (rules_tokens (map made_rule rs)) (rule_kinds r) (rules_kinds rs)
 
 -- the kinds of a tree's tokens
 pub spell_kinds : (rs : List RuleTree) → kinds_of (spell rs) ≡ grammar_tokens (grammar_of rs)

@@ -1,4 +1,5 @@
 -- A grammar without the places of its tokens.
+use Rattle.std.specs.Prelude.{map}
 use Rattle.ipg_ast.specs.declared.grammar.Ident.{Ident}
 use Rattle.ipg_ast.specs.declared.grammar.Span.{Span}
 use Rattle.ipg_ast.specs.declared.grammar.Field.{Field}
@@ -17,7 +18,6 @@ use Rattle.ipg_ast.specs.declared.grammar.Term.TheVariants.{Slot as SlotTerm, Se
 use Rattle.ipg_ast.specs.declared.grammar.Alt.{Alt, out-Alt, roll-Alt}
 use Rattle.ipg_ast.specs.declared.grammar.Rule.{Rule, out-Rule, roll-Rule}
 use Rattle.ipg_ast.specs.declared.grammar.Grammar.{Grammar}
-use Rattle.ipg_syntax.specs.Grammars.{every}
 
 abbrev pub no_span : Span
 no_span = record { from = 0; to = 0 }
@@ -65,20 +65,20 @@ bare_term (Set x e) = Set (bare_ident x) (bare_expr e)
 bare_term (Test at e) = Test no_span (bare_expr e)
 bare_term (Repeat x a b i l r) = Repeat (bare_ident x) (bare_expr a) (bare_expr b) (bare_ident i) (bare_expr l) (bare_expr r)
 bare_term (Many at i p) = Many no_span (bare_ident i) (bare_place p)
-bare_term (Pick at cs s) = Pick no_span (every bare_case cs) (bare_slot s)
+bare_term (Pick at cs s) = Pick no_span (map bare_case cs) (bare_slot s)
 
 -- local rules have no local rules of their own
 abbrev pub bare_local_alt : Alt → Alt
-bare_local_alt a = roll-Alt (record { terms = every bare_term (out-Alt a).terms; locals = (out-Alt a).locals })
+bare_local_alt a = roll-Alt (record { terms = map bare_term (out-Alt a).terms; locals = (out-Alt a).locals })
 
 abbrev pub bare_local : Rule → Rule
-bare_local r = roll-Rule (record { name = bare_ident (out-Rule r).name; alts = every bare_local_alt (out-Rule r).alts })
+bare_local r = roll-Rule (record { name = bare_ident (out-Rule r).name; alts = map bare_local_alt (out-Rule r).alts })
 
 abbrev pub bare_alt : Alt → Alt
-bare_alt a = roll-Alt (record { terms = every bare_term (out-Alt a).terms; locals = every bare_local (out-Alt a).locals })
+bare_alt a = roll-Alt (record { terms = map bare_term (out-Alt a).terms; locals = map bare_local (out-Alt a).locals })
 
 abbrev pub bare_rule : Rule → Rule
-bare_rule r = roll-Rule (record { name = bare_ident (out-Rule r).name; alts = every bare_alt (out-Rule r).alts })
+bare_rule r = roll-Rule (record { name = bare_ident (out-Rule r).name; alts = map bare_alt (out-Rule r).alts })
 
 abbrev pub bare : Grammar → Grammar
-bare g = record { rules = every bare_rule g.rules }
+bare g = record { rules = map bare_rule g.rules }

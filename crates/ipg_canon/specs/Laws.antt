@@ -1,5 +1,5 @@
 -- A grammar, its canonical text, and what that text reads as.
-use Rattle.std.specs.Prelude.{◌≡◌, ℕ, ◌≤◌, ◌^◌, List, length, Ok}
+use Rattle.std.specs.Prelude.{◌≡◌, ℕ, ◌≤◌, ◌^◌, List, length, Ok, map}
 use Rattle.ipg_ast.specs.declared.grammar.Grammar.{Grammar}
 use Rattle.ipg_ast.specs.declared.token.TokenKind.{TokenKind}
 use Rattle.ipg_ast.specs.Spelling.{grammar_tokens}
@@ -9,10 +9,9 @@ use Rattle.ipg_tokens.specs.Shaped.{IsShaped, canonical_text}
 use Rattle.ipg_tokens.specs.declared.token.Token.{Token}
 use Rattle.ipg_syntax.specs.Reading.{Reads, ReadsWithin, read_of}
 use Rattle.ipg_canon.specs.Bare.{bare}
-use Rattle.ipg_syntax.specs.Grammars.{every}
 
 abbrev pub kinds : List Token → List TokenKind
-kinds ts = every (λ t. t.kind) ts
+kinds ts = map (λ t. t.kind) ts
 
 -- the answer is the grammar but for the places of its tokens
 pub record ReadsBack (text : List ℕ) (g : Grammar) : Type 0 where

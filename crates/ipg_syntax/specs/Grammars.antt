@@ -1,5 +1,5 @@
 -- The grammar that a tree is of.
-use Rattle.std.specs.Prelude.{List, [], ◌∷◌}
+use Rattle.std.specs.Prelude.{List, [], ◌∷◌, map}
 use Rattle.ipg_ast.specs.declared.grammar.Ident.{Ident}
 use Rattle.ipg_ast.specs.declared.grammar.Expr.{Expr}
 use Rattle.ipg_ast.specs.declared.grammar.Expr.TheVariants as E
@@ -15,10 +15,6 @@ use Rattle.ipg_ast.specs.declared.grammar.Grammar.{Grammar}
 use Rattle.ipg_syntax.specs.Classes.{Infix, either, both, op}
 use Rattle.ipg_syntax.specs.Written.{ExprTree, num, eoi, own, part, item, group, neg, isnt, two, choose, PlaceTree, anywhere, long, ends, SlotTree}
 use Rattle.ipg_syntax.specs.Written.{CaseTree, TermTree, slot_term, set_term, test_term, repeat_term, many_term, pick_term, LocalTree, AltTree, RuleTree}
-
-abbrev pub every : {A B : Type 0} → (A → B) → List A → List B
-every f [] = []
-every f (x ∷ xs) = f x ∷ every f xs
 
 abbrev pub infix_expr : Infix → Expr → Expr → Expr
 infix_expr either a b = E.Either a b
@@ -54,7 +50,7 @@ made_term (set_term x e) = T.Set x (made_expr e)
 made_term (test_term at e) = T.Test at (made_expr e)
 made_term (repeat_term x a b i l r) = T.Repeat x (made_expr a) (made_expr b) i (made_expr l) (made_expr r)
 made_term (many_term at i p) = T.Many at i (made_place p)
-made_term (pick_term at cs s) = T.Pick at (every made_case cs) (made_slot s)
+made_term (pick_term at cs s) = T.Pick at (map made_case cs) (made_slot s)
 
 abbrev pub alt_of : List Term → List Rule → Alt
 alt_of ts ls = roll-Alt (record { terms = ts; locals = ls })
@@ -63,16 +59,16 @@ abbrev pub rule_of : Ident → List Alt → Rule
 rule_of n alts = roll-Rule (record { name = n; alts = alts })
 
 abbrev pub made_local_alt : List TermTree → Alt
-made_local_alt ts = alt_of (every made_term ts) []
+made_local_alt ts = alt_of (map made_term ts) []
 
 abbrev pub made_local : LocalTree → Rule
-made_local l = rule_of l.head (every made_local_alt l.alts)
+made_local l = rule_of l.head (map made_local_alt l.alts)
 
 abbrev pub made_alt : AltTree → Alt
-made_alt a = alt_of (every made_term a.terms) (every made_local a.locals)
+made_alt a = alt_of (map made_term a.terms) (map made_local a.locals)
 
 abbrev pub made_rule : RuleTree → Rule
-made_rule r = rule_of r.head (every made_alt r.alts)
+made_rule r = rule_of r.head (map made_alt r.alts)
 
 abbrev pub grammar_of : List RuleTree → Grammar
-grammar_of rs = record { rules = every made_rule rs }
+grammar_of rs = record { rules = map made_rule rs }

@@ -17,7 +17,6 @@ use Rattle.ipg_tokens.specs.declared.front.Front.{Front}
 use Rattle.ipg_tokens.specs.declared.front.Front.TheVariants.{Nothing, Blank, Large, Token as Begins}
 use Rattle.ipg_tokens.specs.Lexical.{Lexed, token_first, large_first, beginning, front_at, lexed, tokens_of}
 use Rattle.ipg_syntax.specs.Reading.{Reads, ReadsWithin}
-use Rattle.ipg_syntax.specs.Grammars.{every}
 use Rattle.ipg_canon.specs.Laws.{kinds, KeepsTokens}
 
 large_none : (at : ℕ) (r : Lexed) (ts : List Token) → large_first at r ≡ Ok ts → ⊥
