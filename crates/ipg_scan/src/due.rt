@@ -101,6 +101,8 @@ pub struct Begin<'a> {
     pub due: Symbols,
 }
 
+/// What is due goes on with the token, the one of number `at`: it ends before it, takes it, or no grammar goes on so. The
+/// rows that it makes and what is due next are put where they belong.
 pub fn ask<'a>(
     to: &mut Progress<'a>,
     at: usize,

@@ -57,6 +57,7 @@ pub enum Lexeme<'a> {
     Stray,
 }
 
+/// What a token is to the grammar of grammars.
 pub fn lexeme_of<'a>(token: &'a Token) -> Lexeme<'a>
     ensures { tok_of result ≡ class_of token.now }
 {

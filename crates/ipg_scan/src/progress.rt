@@ -23,6 +23,7 @@ pub enum Answer {
     Taken,
 }
 
+/// What was due has ended before the token; its rows are made.
 #[inline(always)]
 pub fn passed<'a>(to: &mut Progress<'a>, rows: Rows<'a>) -> Result<Answer, AllocError>
     ensures { Does (A.passed (rows_in rows.entry)) to.old to.new result }
@@ -31,6 +32,7 @@ pub fn passed<'a>(to: &mut Progress<'a>, rows: Rows<'a>) -> Result<Answer, Alloc
     Ok(Answer::Passed)
 }
 
+/// What was due takes the token: its rows are made, and what is due next is put on top.
 #[inline(always)]
 pub fn taken<'a>(to: &mut Progress<'a>, rows: Rows<'a>, next: Next) -> Result<Answer, AllocError>
     ensures { Does (A.taken (rows_in rows.entry) (next_of next)) to.old to.new result }
@@ -40,6 +42,7 @@ pub fn taken<'a>(to: &mut Progress<'a>, rows: Rows<'a>, next: Next) -> Result<An
     Ok(Answer::Taken)
 }
 
+/// What was due takes the token, which makes one row; nothing more is due.
 #[inline(always)]
 pub fn made<'a>(to: &mut Progress<'a>, row: Row<'a>) -> Result<Answer, AllocError>
     ensures { Does (A.made (row_of row.entry)) to.old to.new result }
@@ -47,6 +50,7 @@ pub fn made<'a>(to: &mut Progress<'a>, row: Row<'a>) -> Result<Answer, AllocErro
     taken(to, Rows::One(row), Next::Zero)
 }
 
+/// What was due takes the token without a row, and more is due.
 #[inline(always)]
 pub fn onward<'a>(to: &mut Progress<'a>, next: Next) -> Result<Answer, AllocError>
     ensures { Does (A.onward (next_of next)) to.old to.new result }

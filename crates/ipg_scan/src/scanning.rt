@@ -29,6 +29,8 @@ pub enum Found<'a> {
     Stuck(usize),
 }
 
+/// The rows of the grammar whose text has these tokens; where none has, the number of the first token that no grammar goes
+/// on with, which is how many tokens there are where the text ends too early. The only other answer is want of memory.
 pub fn scan<'a>(alloc: Global, tokens: &'a [Token]) -> Result<Found<'a>, AllocError>
     ensures { IfOk result (λ found. rows_found found ≡ A.run 0 A.start (classes tokens.now)) }
 {

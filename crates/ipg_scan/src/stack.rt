@@ -23,6 +23,7 @@ impl<T> Model for Stack<T> {
 }
 
 impl<T> Stack<T> {
+    /// No items, and no memory yet.
     pub fn new(alloc: Global) -> Stack<T>
         ensures { result ≡ [] }
     {
@@ -33,6 +34,7 @@ impl<T> Stack<T> {
 }
 
 impl<T: Drop> Stack<T> {
+    /// Puts an item on top. The only other answer is want of memory.
     pub fn push(&mut self, item: T) -> Result<(), AllocError>
         ensures { OnOk result (self.new ≡ item ∷ self.old) }
     {
@@ -40,6 +42,7 @@ impl<T: Drop> Stack<T> {
         Ok(())
     }
 
+    /// Takes the item on top away; None where there is none.
     pub fn pop(&mut self) -> Option<T>
         ensures { Pops self.old self.new result }
     {
