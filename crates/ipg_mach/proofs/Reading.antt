@@ -153,8 +153,8 @@ pub view_stands : {A : Type 0} (v : View A) (src : Source) (items : List tree.Ki
     → IsOpen v.tables.now src v.top.now.store v.top.now.frame (below v.top.now.piles v.top.now.frame.base)
     (above v.top.now.piles v.top.now.frame.base) items c
     → length c.frame.bytes ≡ size_of v.top.now.frame → v.size ≡ size_of v.top.now.frame → v.size < 2 ^ 32
-    → (u : ℕ) (term : CoreTerm) → slice_get c.terms u ≡ Some term → v.instr.term ≡ u
-    → IsEntry (size_of v.top.now.frame) v.top.now.frame.entry items c.entry → HoldsTerm v.tables.now v.instr.action term
+    → (u : ℕ) (term : CoreTerm) → slice_get c.terms u ≡ Some term → v.instr.now.term ≡ u
+    → IsEntry (size_of v.top.now.frame) v.top.now.frame.entry items c.entry → HoldsTerm v.tables.now v.instr.now.action term
     → (l : Lent) → Lends v l → Stands l (environment_at c.frame c.state u c.entry term)
 view_stands v src items c is whole size small u term is_term number entered holds l lends =
     let piles = v.top.now.piles in
@@ -167,4 +167,4 @@ view_stands v src items c is whole size small u term is_term number entered hold
       own = lends.own;
       outer = lends.outer ∙ sym (between_below piles.own frame.base.own frame.outer.from frame.outer.to is.call.outer_inside);
       done = lends.done;
-    }) whole v.instr u term is_term number lends.items lends.are_items frame.entry entered holds lends.running
+    }) whole v.instr.now u term is_term number lends.items lends.are_items frame.entry entered holds lends.running

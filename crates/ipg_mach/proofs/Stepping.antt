@@ -221,14 +221,13 @@ module _ (src : Source) (s : Stage) (e : Evaluation) (at : IsAt src s e) where
 
   -- the call below the highest, if there is one
   lower_of : (lower : List OpenCall) (key : moves.Key) (answer : Result Tree Stop) → IsHolding s.tables src s.top s.frames lower key answer
-      → (caller : Frame) (rest : List Frame) → s.frames ≡ rest ++ caller ∷ [] → (c : OpenCall) × (more : List OpenCall) × (lower ≡ c ∷ more)
-  lower_of [] key answer h caller rest frames = absurd (no_last rest caller (sym frames ∙ h.wait.0))
-  lower_of (c ∷ lower) key answer h caller rest frames = (c, lower, refl)
+      → 0 < length s.frames → (c : OpenCall) × (more : List OpenCall) × (lower ≡ c ∷ more)
+  lower_of [] key answer h some = absurd (omega (arith, ap length h.wait.0, some))
+  lower_of (c ∷ lower) key answer h some = (c, lower, refl)
 
-  pub waits_one : (key : moves.Key) (answer : Result Tree Stop) → e.highest ≡ Holds key answer → (caller : Frame) (rest : List Frame)
-      → s.frames ≡ rest ++ caller ∷ [] → (c : OpenCall) × (more : List OpenCall) × (e.lower ≡ c ∷ more)
-  waits_one key answer holds caller rest frames =
-      lower_of e.lower key answer (subst (IsHighest s.tables src s.top s.frames e.lower) holds at.highest) caller rest frames
+  pub waits_one : (key : moves.Key) (answer : Result Tree Stop) → e.highest ≡ Holds key answer → 0 < length s.frames
+      → (c : OpenCall) × (more : List OpenCall) × (e.lower ≡ c ∷ more)
+  waits_one key answer holds some = lower_of e.lower key answer (subst (IsHighest s.tables src s.top s.frames e.lower) holds at.highest) some
 
   none_below : (lower : List OpenCall) (key : moves.Key) (answer : Result Tree Stop) → IsHolding s.tables src s.top s.frames lower key answer
       → s.frames ≡ [] → lower ≡ []
@@ -307,17 +306,11 @@ module _ (src : Source) (s : Stage) (e : Evaluation) (at : IsAt src s e) where
   not_ranged held.NoTree answer sound is range = let e = sym is ∙ range in absurd (cc)
   not_ranged held.Range answer sound is range = absurd (sound refl)
 
-  some_waits : (lower : List OpenCall) (key : moves.Key) (answer : Result Tree Stop) → IsHolding s.tables src s.top s.frames lower key answer
-      → 0 < length s.frames → (c : OpenCall) × (more : List OpenCall) × (lower ≡ c ∷ more)
-  some_waits [] key answer h some = absurd (omega (arith, ap length h.wait.0, some))
-  some_waits (c ∷ lower) key answer h some = (c, lower, refl)
-
   pub still_waits : (one : Held) → s.top.answer ≡ Some one → one ≢ held.Range → 0 < length s.frames → ended e ≡ None
   still_waits one some sound more =
       let is = holding s.tables src s.top s.frames e.lower e.highest one at.highest some in
       ap (ended_by e.lower) is.2
-      ∙ waits_so e.lower is.0 is.1
-      (some_waits e.lower is.0 is.1 (subst (IsHighest s.tables src s.top s.frames e.lower) is.2 at.highest) more) (not_ranged one is.1 sound is.3)
+      ∙ waits_so e.lower is.0 is.1 (waits_one src s e at is.0 is.1 is.2 more) (not_ranged one is.1 sound is.3)
 
 -- what it has ended with is what the highest call holds; a tree is that of the lowest call
 

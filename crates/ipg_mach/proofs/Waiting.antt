@@ -1,6 +1,5 @@
 -- Calls that wait, and go on.
-use Rattle.std.proofs.Common.{◌≡◌, refl, sym, ◌∙◌, subst, List, [], ◌∷◌, ◌++◌, None, Result}
-use Rattle.std.proofs.lemmas.List.{same_from_push}
+use Rattle.std.proofs.Common.{◌≡◌, refl, sym, subst, List, ◌∷◌, None, Result}
 use Rattle.ipg_core.specs.Tree.{Tree}
 use Rattle.ipg_core.specs.Run.{Stop}
 use Rattle.ipg_moves.specs.Moves.{OpenCall, Key}
@@ -9,7 +8,7 @@ use Rattle.ipg_close.specs.Laws.{BeforeBefore, GrowsFromBefore, ItemsStay, Resul
 use Rattle.ipg_table.specs.Rows.{Rows}
 use Rattle.ipg_piles.specs.Piled.{below}
 use Rattle.ipg_mach.specs.declared.frame.Frame.{Frame}
-use Rattle.ipg_mach.specs.Calls.{Shown, IsHolding, IsWorking, IsWaiting, Awaits, Wait, items_in, size_of}
+use Rattle.ipg_mach.specs.Calls.{Shown, IsHolding, IsWorking, IsWaiting, Wait, items_in, size_of}
 use Rattle.ipg_mach.proofs.Stores.{mark_below, before_below}
 
 module _ (before_before : BeforeBefore) (grows : GrowsFromBefore) (items_stay : ItemsStay) (results_stay : ResultsStay)
@@ -42,20 +41,11 @@ module _ (before_before : BeforeBefore) (grows : GrowsFromBefore) (items_stay : 
         entry = waits.entry;
       }
 
-  pub resumed : (key : Key) (answer : Result Tree Stop) (frames : List Frame) → IsHolding t src s frames (c ∷ lower) key answer
-      → (caller : Frame) (rest : List Frame) → frames ≡ rest ++ caller ∷ [] → IsWorking t src (record s { frame = caller; answer = None }) rest lower c
-  resumed key answer frames holds caller rest e =
+  pub resumed : (key : Key) (answer : Result Tree Stop) (frames : List Frame) (holds : IsHolding t src s frames (c ∷ lower) key answer)
+      → (caller : Frame) (rest : List Frame) → rest ≡ holds.wait.1 → caller ≡ holds.wait.0
+      → IsWorking t src (record s { frame = caller; answer = None }) rest lower c
+  resumed key answer frames holds caller rest e f =
       let wait = holds.wait in
-      let same = same_from_push wait.1 rest wait.0 caller (sym wait.2 ∙ e) in
-      let by = resumed_by key answer frames holds wait.0 wait.1 wait.3 wait.4 in
-      subst (λ frame. IsWorking t src (record s { frame = frame; answer = None }) rest lower c) same.1
-      (subst (λ frames. IsWorking t src (record s { frame = wait.0; answer = None }) frames lower c) same.0 by)
-
--- what the caller waited for
-pub awaited : (t : Rows) (src : Source) (s : Shown) (lower : List OpenCall) (c : OpenCall) (key : Key) (answer : Result Tree Stop) (frames : List Frame)
-    → IsHolding t src s frames (c ∷ lower) key answer → (caller : Frame) (rest : List Frame) → frames ≡ rest ++ caller ∷ []
-    → Awaits caller c s.frame.from s.frame.to
-awaited t src s lower c key answer frames holds caller rest e =
-    let wait = holds.wait in
-    let same = same_from_push wait.1 rest wait.0 caller (sym wait.2 ∙ e) in
-    subst (λ frame. Awaits frame c s.frame.from s.frame.to) same.1 wait.3.awaits
+      subst (λ frame. IsWorking t src (record s { frame = frame; answer = None }) rest lower c) (sym f)
+      (subst (λ frames. IsWorking t src (record s { frame = wait.0; answer = None }) frames lower c) (sym e)
+      (resumed_by key answer frames holds wait.0 wait.1 wait.3 wait.4))

@@ -17,4 +17,4 @@ pub record Lends {A : Type 0} (view : View A) (l : Lent) : Type 0 where
   pub done : l.done ≡ (above view.top.now.piles view.top.now.frame.base).done
   pub items : Bor (List Kid)
   pub are_items : items.now ≡ (above view.top.now.piles view.top.now.frame.base).items
-  pub running : l.running ≡ running_in view.instr view.top.now.frame.entry items
+  pub running : l.running ≡ running_in view.instr.now view.top.now.frame.entry items

@@ -20,6 +20,7 @@ use crate::top::Top;
 use ipg_advance::Entry;
 use ipg_close::laws::{before_before, grows_from_before, items_stay, results_stay};
 use ipg_num::item_at;
+use ipg_region::Stack;
 use ipg_table::row::AltRow;
 use ipg_table::tables::Tables;
 use std::alloc::{AllocError, Allocator};
@@ -92,22 +93,21 @@ impl<'m, A: Allocator + Clone + Drop> Top<'m, A> {
     }
 
     /// The call below goes on, which waited for this one.
-    pub fn resume(&mut self, tables: &Tables, caller: Frame<'m>)
-        ensures working { (src : Source) (frames rest : List Frame) (lower : List OpenCall) (c : OpenCall) (key : Key) (answer : Result Tree Stop)
-            → IsHolding tables.now src (shown self.old) frames (c ∷ lower) key answer → frames ≡ rest ++ caller.entry ∷ []
-            → IsWorking tables.now src (shown self.new) rest lower c }
-        ensures awaits { (src : Source) (frames rest : List Frame) (lower : List OpenCall) (c : OpenCall) (key : Key) (answer : Result Tree Stop)
-            → IsHolding tables.now src (shown self.old) frames (c ∷ lower) key answer → frames ≡ rest ++ caller.entry ∷ []
+    pub fn resume(&mut self, tables: &Tables, frames: &mut Stack<Frame<'m>, A>)
+        ensures working { (src : Source) (lower : List OpenCall) (c : OpenCall) (key : Key) (answer : Result Tree Stop)
+            → IsHolding tables.now src (shown self.old) frames.old.items (c ∷ lower) key answer
+            → IsWorking tables.now src (shown self.new) frames.new.items lower c }
+        ensures awaits { (src : Source) (lower : List OpenCall) (c : OpenCall) (key : Key) (answer : Result Tree Stop)
+            → IsHolding tables.now src (shown self.old) frames.old.items (c ∷ lower) key answer
             → Awaits self.new.frame c self.old.frame.from self.old.frame.to }
         ensures store { self.new.store ≡ self.old.store }
         ensures floor { self.new.floor ≡ self.old.floor }
-        ensures frame { self.new.frame ≡ caller.entry }
     {
         before_before();
         grows_from_before();
         items_stay();
         results_stay();
-        self.frame = caller;
+        frames.pop_into(&mut self.frame);
         self.answer = None;
     }
 }

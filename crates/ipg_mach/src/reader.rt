@@ -22,6 +22,7 @@ use ipg_advance::{Advance, AtHand, Entry, at_hand, taken};
 use ipg_core::grammar::{CoreField, Sym};
 use ipg_hand::{Now, Running, Site};
 use ipg_nodes::Kid;
+use ipg_num::item_at;
 use ipg_table::results::Results;
 use ipg_table::row::{Action, Instr};
 use ipg_table::tables::Tables;
@@ -78,7 +79,7 @@ struct View<'v, 'm, A: Allocator> {
     tables: &'v Tables,
     top: &'v Top<'m, A>,
     size: u32,
-    instr: Instr,
+    instr: &'v Instr,
 }
 
 impl<'v, 'm, A: Allocator + Clone + Drop> View<'v, 'm, A> {
@@ -96,7 +97,7 @@ impl<'v, 'm, A: Allocator + Clone + Drop> View<'v, 'm, A> {
             own: top.piles.own(frame.base),
             outer: top.piles.between(frame.outer.from, frame.outer.to),
             done: top.piles.done(frame.base),
-            running: running(self.instr, frame.entry, top.piles.items(frame.base)),
+            running: running(*self.instr, frame.entry, top.piles.items(frame.base)),
         }
     }
 }
@@ -138,10 +139,10 @@ impl<'v, 'm, A: Allocator + Clone + Drop> Results for View<'v, 'm, A> {
 
 impl<'m, A: Allocator + Clone + Drop> Reader<'m, A> {
     /// What an instruction of the highest call comes to.
-    fn at_instr(&mut self, top: &Top<'_, A>, instr: Instr) -> AtHand
+    fn at_instr(&mut self, top: &Top<'_, A>, instr: &Instr) -> AtHand
         ensures found { (src : Source) (frames : List Frame) (lower : List OpenCall) (c : OpenCall) (u : ℕ) (rest : List ℕ)
             → src.input ≡ self.old.input.now → IsWorking self.old.tables.now src (shown top.now) frames lower c → c.left ≡ u ∷ rest
-            → HoldsInstr self.old.tables.now c.terms instr u
+            → HoldsInstr self.old.tables.now c.terms instr.now u
             → IsAtHand src top.now.store top.now.frame.from (calls.size_of top.now.frame) u c.state (items_in c.entry) c.frame top.now.frame.entry
             result (moves.at_hand silent c) }
         ensures tables { self.new.tables ≡ self.old.tables }
@@ -164,7 +165,7 @@ impl<'m, A: Allocator + Clone + Drop> Reader<'m, A> {
             &site,
             &top.store,
             &view,
-            instr,
+            *instr,
             frame.entry,
             &mut self.numbers,
         )
@@ -179,7 +180,7 @@ impl<'m, A: Allocator + Clone + Drop> Reader<'m, A> {
         ensures tables { self.new.tables ≡ self.old.tables }
         ensures input { self.new.input ≡ self.old.input }
     {
-        match first(top.frame.left) {
+        match item_at(top.frame.left, 0) {
             Some(instr) => self.at_instr(top, instr),
             None => AtHand::Makes(Advance::NoTree),
         }

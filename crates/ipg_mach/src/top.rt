@@ -272,6 +272,7 @@ impl<'m, A: Allocator + Clone + Drop> Top<'m, A> {
     }
 
     /// The first of these alternatives begins; where there is none, the call holds that there is no tree.
+    #[inline(always)]
     pub fn begin(&mut self, tables: &'m Tables, alts: &'m [AltRow]) -> Result<(), AllocError>
         ensures highest { (src : Source) (frames : List Frame) (lower : List OpenCall) (f : meaning.Frame) (from : ℕ) (those : List CoreAlt)
             → IsReady tables.now src (shown self.old) frames lower f from → Each (HoldsAlt tables.now) alts.now those
@@ -296,6 +297,7 @@ impl<'m, A: Allocator + Clone + Drop> Top<'m, A> {
     }
 
     /// The alternative has no tree: the next one begins.
+    #[inline(never)]
     fn begin_next(&mut self, tables: &'m Tables) -> Result<(), AllocError>
         ensures highest { (src : Source) (frames : List Frame) (lower : List OpenCall) (items : List tree.Kid) (c : OpenCall)
             → IsMark self.old.store self.old.floor → IsAtWork tables.now src (shown self.old) frames lower items c

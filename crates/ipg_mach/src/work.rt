@@ -85,7 +85,7 @@ impl<'m, A: Allocator + Clone + Drop> Work<'m, A> {
     {
         let holder = self.reader.tables.holder(key.rule);
         let outer = self.top.outer(holder);
-        self.frames.push(self.top.frame)?;
+        self.frames.push(&self.top.frame)?;
         self.counts = with_opened(self.counts, holder, self.frames.len() + 1);
         self.top.open(
             self.reader.tables,
@@ -128,10 +128,10 @@ impl<'m, A: Allocator + Clone + Drop> Work<'m, A> {
 
     /// The highest call is taken away, and its answer goes to its caller.
     #[inline(never)]
-    fn come_back(&mut self, caller: Frame<'m>, entry: Entry) -> Result<(), AllocError>
+    fn come_back(&mut self, entry: Entry) -> Result<(), AllocError>
         ensures { (src : Source) (e : Evaluation) (c : OpenCall) (lower : List OpenCall) (key : CallKey) (answer : Result Tree Stop)
-            → IsAt src (record (staged self.old) { frames = self.old.frames.items ++ caller.entry ∷ [] }) e → e.highest ≡ Holds key answer
-            → e.lower ≡ c ∷ lower → IsEntryOf src self.old.top.store (key_in self.old.top.frame) (Some entry) (Some answer)
+            → IsAt src (staged self.old) e → e.highest ≡ Holds key answer → e.lower ≡ c ∷ lower
+            → IsEntryOf src self.old.top.store (key_in self.old.top.frame) (Some entry) (Some answer)
             → OnOk result (IsAt src (staged self.new)
             (record e {
               lower = lower;
@@ -139,17 +139,17 @@ impl<'m, A: Allocator + Clone + Drop> Work<'m, A> {
               known = moves.learn c.frame.grammar e.known key answer;
             })) }
     {
-        let callee = self.top.frame;
         let key = Key {
-            rule: callee.rule,
-            from: callee.from,
-            to: callee.to,
+            rule: self.top.frame.rule,
+            from: self.top.frame.from,
+            to: self.top.frame.to,
         };
         self.top
             .remember(self.reader.tables, &mut self.memo, key, entry)?;
-        self.top.resume(self.reader.tables, caller);
-        let from = callee.from.saturating_sub(caller.from);
-        let to = callee.to.saturating_sub(caller.from);
+        self.top.resume(self.reader.tables, &mut self.frames);
+        let at = self.top.frame.from;
+        let from = key.from.saturating_sub(at);
+        let to = key.to.saturating_sub(at);
         let adv = self
             .top
             .answered(self.reader.tables, known_kid(entry, from, to));
@@ -162,10 +162,10 @@ impl<'m, A: Allocator + Clone + Drop> Work<'m, A> {
             → e.highest ≡ Holds key answer → IsEntryOf src self.old.top.store (key_in self.old.top.frame) (Some entry) (Some answer)
             → OnOk result (IsAt src (staged self.new) (returns e key answer e.lower)) }
     {
-        match self.frames.pop() {
-            Some(caller) => self.come_back(caller, entry),
-            None => Ok(()),
+        if self.frames.is_empty() {
+            return Ok(());
         }
+        self.come_back(entry)
     }
 
     /// The highest call holds this answer: it goes to its caller.

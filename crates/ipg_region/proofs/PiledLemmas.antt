@@ -1,4 +1,5 @@
 -- How the items of full blocks change where a block is put onto them.
+use Rattle.std.proofs.lemmas.List.{same_from_push}
 use Rattle.std.proofs.Common.{arith, ◌≡◌, ℕ, ◌+◌, List, [], ◌∷◌, ◌++◌, length, refl, sym, ◌∙◌, ap, append_assoc, append-nil, length-append}
 use Rattle.ipg_region.specs.Stacked.{Stacked}
 use Rattle.ipg_region.specs.Piled.{items_of}
@@ -39,3 +40,11 @@ holding items = record { items = items }
 
 pub stacked : {T : Type 0} → (items rest other : List T) → rest ≡ [] → items ≡ other → holding (items ++ rest) ≡ holding other
 stacked items rest other e f = ap (λ rest. holding (items ++ rest)) e ∙ ap holding (append-nil items ∙ f)
+
+-- the item on top, and those below
+pub popped : {T : Type 0} (items : List T) (last : T) (whole rest : List T) (item : T) → items ++ last ∷ [] ≡ whole → whole ≡ rest ++ item ∷ []
+    → (items ≡ rest) × (last ≡ item)
+popped items last whole rest item e f = same_from_push items rest last item (e ∙ f)
+
+pub not_empty : {T : Type 0} {P : Type 0} (items : List T) (last : T) → items ++ last ∷ [] ≡ [] → P
+not_empty items last e = absurd (omega (arith, ap length e, length-append items (last ∷ [])))

@@ -1,4 +1,4 @@
-ghost use Rattle.std.specs.Prelude.{◌≡◌, ◌+◌, ◌^◌, ◌<◌, ◌++◌, ◌∷◌, [], length, nat_eq, IfOk, OnOk, OnErr, MatchOption};
+ghost use Rattle.std.specs.Prelude.{◌≡◌, ◌+◌, ◌^◌, ◌<◌, ◌++◌, ◌∷◌, [], List, length, nat_eq, IfOk, OnOk, OnErr};
 ghost use Rattle.ipg_region.specs.Stacked.{none_stacked};
 
 use std::alloc::{AllocError, Allocator};
@@ -97,29 +97,33 @@ impl<T: Copy, A: Allocator + Clone + Drop> Stack<T, A> {
         Ok(())
     }
 
-    /// Puts an item on top.
-    pub fn push(&mut self, item: T) -> Result<(), AllocError>
-        ensures ok { OnOk result (self.new.items ≡ self.old.items ++ item ∷ []) }
+    /// Puts a copy of an item on top.
+    pub fn push(&mut self, item: &T) -> Result<(), AllocError>
+        ensures ok { OnOk result (self.new.items ≡ self.old.items ++ item.now ∷ []) }
         ensures err { OnErr result (self.new ≡ self.old) }
     {
         if self.top.len() == self.top.capacity() {
             self.open()?;
         }
-        self.top.push(item)?;
+        self.top.reserve(1)?;
+        self.top.push_reserved(*item);
         Ok(())
     }
 
-    /// Takes the item on top away.
-    pub fn pop(&mut self) -> Option<T>
-        ensures { MatchOption result ((self.old.items ≡ []) × (self.new.items ≡ [])) (λ item. self.old.items ≡ self.new.items ++ item ∷ []) }
+    /// Takes the item on top away, and puts it into a place. Where there is none, nothing changes.
+    pub fn pop_into(&mut self, place: &mut T)
+        ensures some { (rest : List T) (item : T) → self.old.items ≡ rest ++ item ∷ [] → (self.new.items ≡ rest) × (place.new ≡ item) }
+        ensures none { self.old.items ≡ [] → (self.new.items ≡ []) × (place.new ≡ place.old) }
     {
         if let Some(item) = self.top.pop() {
-            return Some(item);
+            *place = item;
+            return;
         }
-        let block = self.full.pop()?;
-        let Full { below, last } = block;
-        self.before -= below.len() + 1;
-        self.top = below;
-        Some(last)
+        if let Some(block) = self.full.pop() {
+            let Full { below, last } = block;
+            self.before -= below.len() + 1;
+            self.top = below;
+            *place = last;
+        }
     }
 }

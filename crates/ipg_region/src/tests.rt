@@ -84,12 +84,16 @@ fn stacks_over_blocks(rt: HostRuntime) -> Result<(), Fail> {
     let mut stack = Stack::new(&heap)?;
     assert!(rt; stack.is_empty());
     for i in 0..1000u64 {
-        stack.push(i)?;
+        stack.push(&i)?;
     }
     assert_eq!(rt; stack.len(), 1000);
+    let mut last = 0;
     for i in 0..1000u64 {
-        assert_eq!(rt; stack.pop(), Some(999 - i));
+        stack.pop_into(&mut last);
+        assert_eq!(rt; last, 999 - i);
     }
-    assert_eq!(rt; stack.pop(), None);
+    assert!(rt; stack.is_empty());
+    stack.pop_into(&mut last);
+    assert_eq!(rt; last, 0);
     Ok(())
 }

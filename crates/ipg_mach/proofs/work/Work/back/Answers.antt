@@ -1,20 +1,21 @@
-use Rattle.std.proofs.Common.{sym, ◌∙◌, subst, OnOk}
-use Rattle.ipg_moves.specs.Moves.{returns}
+use Rattle.std.proofs.Common.{◌<◌, sym, ◌∙◌, subst, OnOk, arith, length}
+use Rattle.std.proofs.lemmas.Bool.{eqb-true, eqb-false}
+use Rattle.std.proofs.lemmas.List.{nil_from_length}
+use Rattle.ipg_moves.specs.Moves as moves
 use Rattle.ipg_mach.specs.Stage.{staged, IsAt}
 use Rattle.ipg_mach.proofs.Stepping as stepping
 use Rattle.ipg_mach.proofs.work.Work.back.Goals as goal
 
-pub returns-in-Some : goal.returns-in-Some
-returns-in-Some g c src e key answer at holds entry =
+pub returns-then-is_empty : goal.returns-then-is_empty
+returns-then-is_empty g c src e key answer at holds entry =
     let s = staged c.args.self.now in
-    let frames = c.in-Some.ensures in
-    let one = stepping.waits_one src s e at key answer holds c.in-Some.caller c.pop.new.self.items frames in
-    subst (λ lower. OnOk c.come_back.result (IsAt src (staged c.come_back.new.self) (returns e key answer lower))) (sym one.2)
-    (c.come_back.ensures src e one.0 one.1 key answer (subst (λ frames. IsAt src (record s { frames = frames }) e) frames at) holds one.2 entry)
+    let frames = nil_from_length s.frames (eqb-true (length s.frames) 0 (sym c.is_empty.ensures ∙ c.if-is_empty.true)) in
+    subst (λ lower. IsAt src s (moves.returns e key answer lower)) (sym (stepping.waits_none src s e at key answer holds frames)) at
 
-pub returns-in-None : goal.returns-in-None
-returns-in-None g c src e key answer at holds entry =
+pub returns : goal.returns
+returns g c src e key answer at holds entry =
     let s = staged c.args.self.now in
-    let none = stepping.waits_none src s e at key answer holds c.in-None.ensures.0 in
-    subst (λ lower. IsAt src (record s { frames = c.pop.new.self.items }) (returns e key answer lower)) (sym none)
-    (subst (λ frames. IsAt src (record s { frames = frames }) e) (c.in-None.ensures.0 ∙ sym c.in-None.ensures.1) at)
+    let some : 0 < length s.frames = omega (arith, eqb-false (length s.frames) 0 (sym c.is_empty.ensures ∙ c.if-is_empty.false)) in
+    let one = stepping.waits_one src s e at key answer holds some in
+    subst (λ lower. OnOk c.come_back.result (IsAt src (staged c.come_back.new.self) (moves.returns e key answer lower))) (sym one.2)
+    (c.come_back.ensures src e one.0 one.1 key answer at holds one.2 entry)
