@@ -1,7 +1,8 @@
 -- What a walk has left, step by step.
 use Rattle.std.proofs.Common.{◌≡◌, ℕ, zero, suc, ◌+◌, ◌*◌, ◌^◌, ◌<◌, ◌≤◌, refl, sym, ap, ◌∙◌, subst, arith, max, List, [], ◌∷◌, ◌++◌, length, drop}
-use Rattle.std.proofs.Common.{Some, None, add-one}
-use Rattle.std.specs.Prelude.{slice_get}
+use Rattle.std.proofs.Common.{Option, Some, None, add-one, inl, inr}
+use Rattle.std.proofs.lemmas.Bool.{cases_lt}
+use Rattle.std.specs.Prelude.{slice_get, MatchOption}
 use Rattle.std.proofs.lemmas.List.{append_assoc}
 use Rattle.ipg_core.specs.Tree as tree
 use Rattle.ipg_core.specs.Tree.{Tree, Kids, no_kids, kid}
@@ -12,7 +13,8 @@ use Rattle.ipg_parsed.specs.declared.walk.Taken.{Taken}
 use Rattle.ipg_parsed.specs.declared.walk.Visit.{Visit}
 use Rattle.ipg_parsed.specs.Stack.{Stacked}
 use Rattle.ipg_parsed.specs.Visits.{Seen, seen, kid_visits, kids_visits, kids_in, place_in, from_of}
-use Rattle.ipg_parsed.specs.Left.{Shows, Takes, TakesIf, IsOpen, Leave}
+use Rattle.ipg_parsed.specs.Left.{NodeOf, Shows, RowsLeft, BeginsRows, Follows, Takes, TakesIf, IsOpen, Leave}
+use Rattle.ipg_region.specs.declared.region.RunId.{RunId}
 
 -- a child is visited, and then what lies in it
 pub its_visits : (depth at : ℕ) (one : tree.Kid) → kid_visits depth at one ≡ seen depth at one ∷ kids_visits (depth + 1) (place_in at one) (kids_in one)
@@ -32,6 +34,58 @@ place_near at (tree.Raw from to bytes) = omega arith
 place_near at (tree.Array sym items) = omega arith
 place_near at (tree.Many sym items) = omega arith
 
+row_at : (rows : List Kid) (n : ℕ) (k : Kid) → slice_get rows n ≡ Some k → drop n rows ≡ k ∷ drop (suc n) rows
+row_at [] n k e = absurd (cc)
+row_at (x ∷ rows) zero k e = let same : x ≡ k = cc in ap (λ r. r ∷ rows) same
+row_at (x ∷ rows) (suc n) k e = row_at rows n k e
+
+no_row : (rows : List Kid) (n : ℕ) → slice_get rows n ≡ None → drop n rows ≡ []
+no_row [] zero e = refl
+no_row [] (suc n) e = refl
+no_row (x ∷ rows) zero e = absurd (cc)
+no_row (x ∷ rows) (suc n) e = no_row rows n e
+
+all_dropped : (rows : List Kid) (n : ℕ) → length rows ≤ n → drop n rows ≡ []
+all_dropped [] zero le = refl
+all_dropped [] (suc n) le = refl
+all_dropped (x ∷ rows) zero le = absurd (omega (arith, le))
+all_dropped (x ∷ rows) (suc n) le = all_dropped rows n (omega (arith, le))
+
+-- where a list's rows are known, what is left of them
+rows_left : (st : Stored) (list : Option RunId) (one : RunId) (next : ℕ) (all rows : List Kid) → list ≡ Some one
+    → ((kids : List Kid) → slice_get st.kids one.place ≡ Some kids → all ≡ kids) → RowsLeft st list next rows → rows ≡ drop next all
+rows_left st list one next all rows is known left =
+    let h = subst (λ l. RowsLeft st l next rows) is left in h.2 ∙ ap (drop next) (sym (known h.0 h.1))
+
+begins : (st : Stored) (level : Level) (list : RunId) (all : List Kid) (taken : Taken) (rows : List Kid) → level.list ≡ Some list
+    → ((kids : List Kid) → slice_get st.kids list.place ≡ Some kids → all ≡ kids) → Follows level all taken → RowsLeft st level.list level.next rows
+    → BeginsRows st taken.kid taken.rest.list taken.rest.next rows
+begins st level list all taken rows is known h left = (
+  drop (level.next + 1) all,
+  rows_left st level.list list level.next all rows is known left ∙ row_at all level.next taken.kid h.kid
+      ∙ ap (λ i. taken.kid ∷ drop i all) (sym (add-one level.next)),
+  elim (cases_lt (level.next + 1) (length all)) [
+    | inl lt ↦ subst (λ l. RowsLeft st l taken.rest.next (drop (level.next + 1) all)) (sym (h.more lt))
+        (subst (λ l. RowsLeft st l taken.rest.next (drop (level.next + 1) all)) (sym is) (
+        let known_at = subst (λ l. RowsLeft st l level.next rows) is left in
+        (all, known_at.1 ∙ ap Some (sym (known known_at.0 known_at.1)), ap (λ n. drop n all) (sym h.next))))
+    | inr ge ↦ subst (λ l. RowsLeft st l taken.rest.next (drop (level.next + 1) all)) (sym (h.none ge)) (all_dropped all (level.next + 1) ge)
+  ],
+)
+
+-- the row that comes next where the list's rows are known
+pub takes_if : (st : Stored) (level : Level) (list : RunId) (rows : List Kid) (taken : Option Taken) → level.list ≡ Some list
+    → ((kids : List Kid) → slice_get st.kids list.place ≡ Some kids → rows ≡ kids)
+    → MatchOption taken (slice_get rows level.next ≡ None) (Follows level rows)
+    → TakesIf st level taken
+takes_if st level list rows None is known h = λ left h'. rows_left st level.list list level.next rows left is known h' ∙ no_row rows level.next h
+takes_if st level list rows (Some taken) is known h = record {
+  rows = λ left h'. begins st level list rows taken left is known h h';
+  at = h.at;
+  next = h.next;
+  counts = h.counts;
+}
+
 module _ (src : Source) (st : Stored) where
   -- rows of which the first holds a child
   pub record AreMore (at : ℕ) (k : Kid) (ks : List Kid) (kids : Kids) : Type 0 where
@@ -41,23 +95,13 @@ module _ (src : Source) (st : Stored) where
     pub stands : StandsKid src st at k one
     pub stand : StandKids src st at ks more
 
-  more_by : (at : ℕ) (k : Kid) (x : Kid) (ks : List Kid) (kids : Kids) → x ≡ k → StandKids src st at (x ∷ ks) kids → AreMore at k ks kids
-  more_by at k x ks no_kids e h = absurd h
-  more_by at k x ks (kid one more) e h = record { one = one; more = more; are = refl; stands = subst (λ r. StandsKid src st at r one) e h.0; stand = h.1 }
+  more_in : (at : ℕ) (k : Kid) (ks : List Kid) (kids : Kids) → StandKids src st at (k ∷ ks) kids → AreMore at k ks kids
+  more_in at k ks no_kids h = absurd h
+  more_in at k ks (kid one more) h = record { one = one; more = more; are = refl; stands = h.0; stand = h.1 }
 
-  row_at : (at n : ℕ) (rows : List Kid) (k : Kid) (kids : Kids) → slice_get rows n ≡ Some k → StandKids src st at (drop n rows) kids
-      → AreMore at k (drop (suc n) rows) kids
-  row_at at n [] k kids e h = absurd (cc)
-  row_at at zero (x ∷ rows) k kids e h = let same : x ≡ k = cc in more_by at k x rows kids same h
-  row_at at (suc n) (x ∷ rows) k kids e h = row_at at n rows k kids e h
-
-  no_row : (at n : ℕ) (rows : List Kid) (kids : Kids) → slice_get rows n ≡ None → StandKids src st at (drop n rows) kids → kids ≡ no_kids
-  no_row at zero [] no_kids e h = refl
-  no_row at (suc n) [] no_kids e h = refl
-  no_row at zero [] (kid one more) e h = absurd h
-  no_row at (suc n) [] (kid one more) e h = absurd h
-  no_row at zero (x ∷ rows) kids e h = absurd (cc)
-  no_row at (suc n) (x ∷ rows) kids e h = no_row at n rows kids e h
+  none_in : (at : ℕ) (kids : Kids) → StandKids src st at [] kids → kids ≡ no_kids
+  none_in at no_kids h = refl
+  none_in at (kid one more) h = absurd h
 
   -- what the innermost of some levels has left begins with a child, in this row
   pub record Goes (room : ℕ) (around : List Level) (rest : Level) (k : Kid) (left : List Seen) : Type 0 where
@@ -75,24 +119,27 @@ module _ (src : Source) (st : Stored) where
   goes room around level taken left takes (kids, more, is, leave, e) =
       let h = is.holds in
       let n = length around + 1 in
-      let m = row_at level.at level.next h.rows taken.kid kids (takes.next h.rows h.are_rows) h.stand in
-      let behind = subst (λ i. StandKids src st level.at (drop i h.rows) m.more) (sym (add-one level.next)) m.stand in
+      let at = taken.rest.at in
+      let rows = takes.rows h.rows h.are_rows in
+      let stand : StandKids src st at h.rows kids = subst (λ a. StandKids src st a h.rows kids) (sym takes.at) h.stand in
+      let m = more_in at taken.kid rows.0 kids (subst (λ ks. StandKids src st at ks kids) rows.1 stand) in
+      let near : at ≤ length around * 2 ^ 32 = subst (λ a. a ≤ length around * 2 ^ 32) (sym takes.at) is.near in
       let fits : n + max (kid_levels m.one) (kids_levels m.more) ≤ room = subst (λ ks. n + kids_levels ks ≤ room) m.are is.fits in
-      subst (λ rest. Goes room around rest taken.kid left) (sym takes.rest) (record {
+      record {
         one = m.one;
         kids = m.more;
         more = more;
         stands = m.stands;
         behind = record {
-          holds = record { rows = h.rows; are_rows = h.are_rows; stand = behind };
+          holds = record { rows = rows.0; are_rows = rows.2; stand = m.stand };
           fits = omega (arith, fits);
-          near = is.near;
+          near = near;
         };
         fits = omega (arith, fits);
         leave = leave;
-        visits = sym (append_assoc (kid_visits n level.at m.one) (kids_visits n level.at m.more) more)
-            ∙ ap (λ ks. kids_visits n level.at ks ++ more) (sym m.are) ∙ e;
-      })
+        visits = sym (append_assoc (kid_visits n at m.one) (kids_visits n at m.more) more)
+            ∙ ap (λ ks. kids_visits n at ks ++ more) (sym m.are) ∙ ap (λ a. kids_visits n a kids ++ more) takes.at ∙ e;
+      }
 
   -- what going into a child leaves
   abbrev pub Entered : ℕ → List Level → ℕ → Kid → ℕ → List Level → Type 0
@@ -102,10 +149,10 @@ module _ (src : Source) (st : Stored) where
       → Leave src st room levels more
       → Leave src st new_room new (kids_visits (length levels + 1) (place_in at one) (kids_in one) ++ more)
 
-  heads : (a b : Seen) (xs ys : List Seen) → a ∷ xs ≡ b ∷ ys → a ≡ b
+  pub heads : (a b : Seen) (xs ys : List Seen) → a ∷ xs ≡ b ∷ ys → a ≡ b
   heads a b xs ys e = cc
 
-  tails : (a b : Seen) (xs ys : List Seen) → a ∷ xs ≡ b ∷ ys → xs ≡ ys
+  pub tails : (a b : Seen) (xs ys : List Seen) → a ∷ xs ≡ b ∷ ys → xs ≡ ys
   tails a b xs ys e = cc
 
   pub goes_on : (room : ℕ) (around : List Level) (level : Level) (taken : Taken) (one : Seen) (more : List Seen)
@@ -145,7 +192,7 @@ module _ (src : Source) (st : Stored) where
   pub nothing_next : (room : ℕ) (around : List Level) (level : Level) (left : List Seen) → TakesIf st level None → Leave src st room (level ∷ around) left
       → Leave src st room around left
   nothing_next room around level left none (kids, more, is, leave, e) =
-      let no = no_row level.at level.next is.holds.rows kids (none is.holds.rows is.holds.are_rows) is.holds.stand in
+      let no = none_in level.at kids (subst (λ rows. StandKids src st level.at rows kids) (none is.holds.rows is.holds.are_rows) is.holds.stand) in
       subst (Leave src st room around) (ap (λ ks. kids_visits (length around + 1) level.at ks ++ more) (sym no) ∙ e) leave
 
   not_nothing : (a : Seen) (xs : List Seen) → a ∷ xs ≡ [] → ⊥

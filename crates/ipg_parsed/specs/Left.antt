@@ -2,12 +2,23 @@
 use Rattle.std.specs.Prelude.{◌≡◌, ℕ, ◌+◌, ◌*◌, ◌^◌, ◌<◌, ◌≤◌, List, [], ◌∷◌, ◌++◌, drop, length, slice_get, Option, Some, None}
 use Rattle.ipg_core.specs.Tree as tree
 use Rattle.ipg_core.specs.Tree.{Kids, no_kids}
+use Rattle.ipg_region.specs.declared.region.RunId.{RunId}
 use Rattle.ipg_nodes.specs.declared.kid.Kid.{Kid}
+use Rattle.ipg_nodes.specs.declared.kid.Kid.TheVariants as row
+use Rattle.ipg_nodes.specs.declared.kid.Node.{Node}
 use Rattle.ipg_nodes.specs.Stored.{Stored, Source, StandsKid, StandKids, kid_levels, kids_levels}
 use Rattle.ipg_parsed.specs.declared.stack.Level.{Level}
 use Rattle.ipg_parsed.specs.declared.walk.Visit.{Visit}
 use Rattle.ipg_parsed.specs.declared.walk.Taken.{Taken}
 use Rattle.ipg_parsed.specs.Visits.{Seen, kids_visits, kids_in, place_in, from_of, to_of}
+
+-- it is the node at this place, where there is one
+abbrev pub NodeAt : Stored → RunId → Option Node → Type 0
+NodeAt st id node = (one : Node) → slice_get st.nodes id.place ≡ Some (one ∷ []) → node ≡ Some one
+
+-- it is the node that the row names
+abbrev pub NodeOf : Stored → Kid → Option Node → Type 0
+NodeOf st k node = (id : RunId) → (from : ℕ) → (to : ℕ) → k ≡ row.Node id from to → NodeAt st id node
 
 -- the visit says what was seen
 pub record Shows (src : Source) (st : Stored) (visit : Visit) (one : Seen) : Type 0 where
@@ -17,21 +28,41 @@ pub record Shows (src : Source) (st : Stored) (visit : Visit) (one : Seen) : Typ
   -- each place of its part is a number of 64 bits
   pub small : visit.from + 2 ^ 32 ≤ 2 ^ 64
   pub stands : StandsKid src st one.at visit.kid one.child
+  pub node : NodeOf st visit.kid visit.node
+
+-- the rows that are left of a list, from the next one on; none are where there is no list
+abbrev pub RowsLeft : Stored → Option RunId → ℕ → List Kid → Type 0
+RowsLeft st None next rows = rows ≡ []
+RowsLeft st (Some list) next rows = (all : List Kid) × (slice_get st.kids list.place ≡ Some all) × (rows ≡ drop next all)
 
 -- these are what the level has left
 pub record Holds (src : Source) (st : Stored) (level : Level) (kids : Kids) : Type 0 where
   pub rows : List Kid
-  pub are_rows : slice_get st.kids level.list.place ≡ Some rows
-  pub stand : StandKids src st level.at (drop level.next rows) kids
+  pub are_rows : RowsLeft st level.list level.next rows
+  pub stand : StandKids src st level.at rows kids
+
+-- the rows begin with this one, and what is left of a list from here on are the others
+abbrev pub BeginsRows : Stored → Kid → Option RunId → ℕ → List Kid → Type 0
+BeginsRows st k list next rows = (more : List Kid) × (rows ≡ k ∷ more) × RowsLeft st list next more
 
 -- the row is the next in the level, and the rest is what the level is behind it
 pub record Takes (st : Stored) (level : Level) (taken : Taken) : Type 0 where
-  pub next : (rows : List Kid) → slice_get st.kids level.list.place ≡ Some rows → slice_get rows level.next ≡ Some taken.kid
-  pub rest : taken.rest ≡ record level { next = level.next + 1 }
+  pub rows : (rows : List Kid) → RowsLeft st level.list level.next rows → BeginsRows st taken.kid taken.rest.list taken.rest.next rows
+  pub at : taken.rest.at ≡ level.at
+  pub next : taken.rest.next ≡ level.next + 1
+  pub counts : level.next + 1 < 2 ^ 64
+
+-- the same, where the level's list has these rows
+pub record Follows (level : Level) (rows : List Kid) (taken : Taken) : Type 0 where
+  pub kid : slice_get rows level.next ≡ Some taken.kid
+  pub at : taken.rest.at ≡ level.at
+  pub next : taken.rest.next ≡ level.next + 1
+  pub more : level.next + 1 < length rows → taken.rest.list ≡ level.list
+  pub none : length rows ≤ level.next + 1 → taken.rest.list ≡ None
   pub counts : level.next + 1 < 2 ^ 64
 
 abbrev pub TakesIf : Stored → Level → Option Taken → Type 0
-TakesIf st level None = (rows : List Kid) → slice_get st.kids level.list.place ≡ Some rows → slice_get rows level.next ≡ None
+TakesIf st level None = (rows : List Kid) → RowsLeft st level.list level.next rows → rows ≡ []
 TakesIf st level (Some taken) = Takes st level taken
 
 -- these are what a level has left that has so many around it, and in the room there is a level for each list in them

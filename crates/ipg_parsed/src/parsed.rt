@@ -1,6 +1,6 @@
 //! A parsed tree.
 
-ghost use Rattle.std.specs.Prelude.{◌≡◌, ◌+◌, ◌<◌, ◌≤◌, ◌∷◌, [], ℕ, List, false, ◌^◌, length, slice_get, Some, None, IfOk, IsSomeAnd, OnSome};
+ghost use Rattle.std.specs.Prelude.{◌≡◌, ◌+◌, ◌<◌, ◌≤◌, ◌∷◌, [], ℕ, ℤ, List, false, ◌^◌, length, slice_get, Some, None, IfOk, IsSomeAnd, OnSome};
 ghost use Rattle.ipg_core.specs.Environment.{value_at as find};
 ghost use Rattle.ipg_core.specs.Part.{part as part_of};
 ghost use Rattle.ipg_core.specs.Touch.{tree_ends};
@@ -197,6 +197,13 @@ impl<'a, A: Allocator + Clone + Drop> Parsed<'a, A> {
         }
     }
 
+    /// A list of attributes with their values, by the place that its node names.
+    pub fn attrs_at(&self, list: RunId) -> &[(u32, i64)]
+        ensures { (attrs : List (ℕ × ℤ)) → slice_get self.now.parse.store.attrs list.place ≡ Some attrs → result.now ≡ attrs }
+    {
+        self.store.attrs(list)
+    }
+
     /// The items of an array or a repetition, by the place that its row names.
     pub fn items(&self, list: RunId) -> &[Kid]
         ensures { (rows : List Row) → slice_get self.now.parse.store.kids list.place ≡ Some rows → result.now ≡ rows }
@@ -213,6 +220,8 @@ impl<'a, A: Allocator + Clone + Drop> Parsed<'a, A> {
     }
 
     /// The visit of the root, with what lies in it ahead.
+    #[cold]
+    #[inline(never)]
     fn begin(&mut self) -> Visit
         ensures parse { self.new.parse ≡ self.old.parse }
         ensures begun { self.new.is_ahead ≡ false }
@@ -220,14 +229,15 @@ impl<'a, A: Allocator + Clone + Drop> Parsed<'a, A> {
             → visits one ≡ first ∷ more → Shows src self.old.parse.store result first × Left src self.new more }
         ensures ends { steps_left self.new < wide ^ (self.old.stack.room + 1) }
     {
-        let visit = root_visit(self.root, self.size(self.root));
+        let visit = root_visit(self.root, self.store.node(self.root));
         self.is_ahead = false;
         self.stack.clear();
-        enter(&self.store, &mut self.stack, visit.kid, 0);
+        enter(&mut self.stack, visit.kid, visit.node, 0);
         visit
     }
 
     /// The next visit of the walk; None at the end.
+    #[inline(always)]
     pub fn next(&mut self) -> Option<Visit>
         ensures parse { self.new.parse ≡ self.old.parse }
         ensures end { (src : Source) → Left src self.old [] → result ≡ None }

@@ -7,10 +7,10 @@ use std::alloc::{AllocError, Allocator};
 use std::marker::Model;
 
 /// A list of children or items with the next of them that is to be visited, and the place of the input where the part
-/// begins that they lie in.
+/// begins that they lie in. There is no list where none of them is left.
 #[derive(Clone, Copy, Debug, PartialEq, Eq)]
 pub struct Level {
-    pub list: RunId,
+    pub list: Option<RunId>,
     pub next: usize,
     pub at: u64,
 }

@@ -1,6 +1,6 @@
 use crate::stack::Stack;
 use crate::walk::{Visit, enter, root_visit, step};
-use ipg_nodes::{Head, Kid, RunId, Store};
+use ipg_nodes::{Head, Kid, Node, RunId, Store};
 use linked_list_allocator::LocalHeap;
 use std::alloc::{AllocError, Allocator};
 use std::process::Abort;
@@ -41,12 +41,13 @@ fn root<A: Allocator + Clone + Drop>(
     store.add_node(head, levels, &[(3, -1)], &[text, array])
 }
 
-fn at(depth: u64, from: u64, to: u64, kid: Kid) -> Option<Visit> {
+fn at(depth: u64, from: u64, to: u64, kid: Kid, node: Option<Node>) -> Option<Visit> {
     Some(Visit {
         depth,
         from,
         to,
         kid,
+        node,
     })
 }
 
@@ -60,8 +61,9 @@ fn visits_in_order<A: Allocator + Clone + Drop>(
     let id = leaf(&mut store)?;
     let top = root(&mut store, id, 3)?;
     let mut stack = Stack::with_room(again, 3)?;
-    let first = root_visit(top, 7);
-    enter(&store, &mut stack, first.kid, 0);
+    let node = store.node(id);
+    let first = root_visit(top, store.node(top));
+    enter(&mut stack, first.kid, first.node, 0);
     assert_eq!(rt;
         Some(first),
         at(
@@ -72,7 +74,8 @@ fn visits_in_order<A: Allocator + Clone + Drop>(
                 id: top,
                 from: 0,
                 to: 7
-            }
+            },
+            store.node(top)
         )
     );
     assert_eq!(rt;
@@ -85,7 +88,8 @@ fn visits_in_order<A: Allocator + Clone + Drop>(
                 sym: 5,
                 from: 0,
                 to: 1
-            }
+            },
+            None
         )
     );
     let array = step(&store, &mut stack);
@@ -96,25 +100,26 @@ fn visits_in_order<A: Allocator + Clone + Drop>(
                 depth: 1,
                 from: 0,
                 to: 0,
-                kid: Kid::Array { sym: 6, .. }
+                kid: Kid::Array { sym: 6, .. },
+                node: None
             })
         )
     );
     assert_eq!(rt;
         step(&store, &mut stack),
-        at(2, 1, 4, Kid::Node { id, from: 1, to: 4 })
+        at(2, 1, 4, Kid::Node { id, from: 1, to: 4 }, node)
     );
     assert_eq!(rt;
         step(&store, &mut stack),
-        at(3, 1, 4, Kid::Raw { from: 0, to: 3 })
+        at(3, 1, 4, Kid::Raw { from: 0, to: 3 }, None)
     );
     assert_eq!(rt;
         step(&store, &mut stack),
-        at(2, 4, 7, Kid::Node { id, from: 4, to: 7 })
+        at(2, 4, 7, Kid::Node { id, from: 4, to: 7 }, node)
     );
     assert_eq!(rt;
         step(&store, &mut stack),
-        at(3, 4, 7, Kid::Raw { from: 0, to: 3 })
+        at(3, 4, 7, Kid::Raw { from: 0, to: 3 }, None)
     );
     assert_eq!(rt; step(&store, &mut stack), None);
     assert_eq!(rt; step(&store, &mut stack), None);
