@@ -1,12 +1,12 @@
 -- What a walk has left to visit, by its levels.
 use Rattle.std.specs.Prelude.{◌≡◌, ℕ, ◌+◌, ◌*◌, ◌^◌, ◌<◌, ◌≤◌, List, [], ◌∷◌, ◌++◌, drop, length, slice_get, Option, Some, None}
 use Rattle.ipg_core.specs.Tree as tree
-use Rattle.ipg_core.specs.Tree.{Kids, no_kids}
+use Rattle.ipg_core.specs.Tree.{Tree, Kids, no_kids}
 use Rattle.ipg_region.specs.declared.region.RunId.{RunId}
 use Rattle.ipg_nodes.specs.declared.kid.Kid.{Kid}
 use Rattle.ipg_nodes.specs.declared.kid.Kid.TheVariants as row
 use Rattle.ipg_nodes.specs.declared.kid.Node.{Node}
-use Rattle.ipg_nodes.specs.Stored.{Stored, Source, StandsKid, StandKids, kid_levels, kids_levels}
+use Rattle.ipg_nodes.specs.Stored.{Stored, Source, StandsTree, StandsKid, StandKids, kid_levels, kids_levels}
 use Rattle.ipg_parsed.specs.declared.stack.Level.{Level}
 use Rattle.ipg_parsed.specs.declared.walk.Visit.{Visit}
 use Rattle.ipg_parsed.specs.declared.walk.Taken.{Taken}
@@ -19,6 +19,12 @@ NodeAt st id node = (one : Node) → slice_get st.nodes id.place ≡ Some (one �
 -- it is the node that the row names
 abbrev pub NodeOf : Stored → Kid → Option Node → Type 0
 NodeOf st k node = (id : RunId) → (from : ℕ) → (to : ℕ) → k ≡ row.Node id from to → NodeAt st id node
+
+-- the tree stands at the place of this node
+pub record StandsNode (src : Source) (st : Stored) (at : ℕ) (node : Option Node) (one : Tree) : Type 0 where
+  pub id : RunId
+  pub is_at : NodeAt st id node
+  pub stands : StandsTree src st at id one
 
 -- the visit says what was seen
 pub record Shows (src : Source) (st : Stored) (visit : Visit) (one : Seen) : Type 0 where

@@ -1,6 +1,6 @@
 -- What comes next of words and digits, and lines as pieces behind pieces.
 use Rattle.std.proofs.Common.{◌≡◌, ℕ, ◌+◌, ◌<◌, ◌/◌, ◌%◌, List, [], ◌∷◌, ◌++◌, length, get_or, drop, map, refl, sym, ap, ◌∙◌, add-one, append_assoc}
-use Rattle.std.proofs.Common.{suc, zero, ◌≤◌, ℤ, None, arith}
+use Rattle.std.proofs.Common.{suc, zero, ◌≤◌, ℤ, Option, None, Some, arith, subst}
 use Rattle.std.specs.Prelude.{decimal, codes, slice_get}
 use Rattle.std.proofs.Math.Seq.{drop-cons}
 use Rattle.std.proofs.lemmas.Grind.{flat_map-append}
@@ -13,7 +13,10 @@ use Rattle.ipg_table.specs.declared.row.RuleRow.{RuleRow}
 use Rattle.ipg_table.specs.Rows.{Rows, Each, HoldsRule}
 use Rattle.ipg_parsed.specs.Visits.{size_of}
 use Rattle.ipg_parsed.specs.declared.walk.Visit.{Visit}
-use Rattle.ipg_tree.specs.Line.{head_line}
+use Rattle.ipg_nodes.specs.declared.kid.Node.{Node as Row}
+use Rattle.ipg_nodes.specs.Stored.{Stored, Source}
+use Rattle.ipg_parsed.specs.Left.{StandsNode}
+use Rattle.ipg_tree.specs.Line.{Says, head_line}
 use Rattle.ipg_tree.specs.declared.line.Places.{Places}
 use Rattle.ipg_tree.specs.Words.{spaced, parted}
 
@@ -51,13 +54,37 @@ first_words visit kind = decimal visit.depth ∷ kind ∷ decimal visit.from ∷
 abbrev pub place_words : Places → List (List ℕ)
 place_words p = decimal p.from ∷ decimal p.to ∷ set_word (codes "start") (decimal p.start) ∷ set_word (codes "end") (decimal p.end) ∷ []
 
+-- the words of a line before its attributes
+abbrev pub head_text : (depth name : List ℕ) (places : List (List ℕ)) → List ℕ
+head_text depth name places = parted (depth ∷ []) (name ++ spaced places)
+
+-- by parts
+pub head_parts : (depth name : List ℕ) (places : List (List ℕ)) → parted (depth ∷ []) [] ++ (name ++ spaced places) ≡ head_text depth name places
+head_parts depth name places = append_assoc depth (32 ∷ []) (name ++ spaced places)
+
 -- the pieces of a line with attributes
 pub attrs_pieces : (depth name : List ℕ) (places attrs : List (List ℕ))
-    → parted (depth ∷ []) [] ++ (name ++ (spaced places ++ (spaced attrs ++ 10 ∷ []))) ≡ line (depth ∷ name ∷ (places ++ attrs))
+    → head_text depth name places ++ (spaced attrs ++ 10 ∷ []) ≡ line (depth ∷ name ∷ (places ++ attrs))
 attrs_pieces depth name places attrs =
-    ap (λ t. parted (depth ∷ []) [] ++ (name ++ t))
-    (sym (append_assoc (spaced places) (spaced attrs) (10 ∷ [])) ∙ ap (λ t. t ++ 10 ∷ []) (sym (flat_map-append (λ word. 32 ∷ word) places attrs)))
-    ∙ ap (λ t. parted (depth ∷ []) [] ++ t) (sym (line_spaced name (places ++ attrs))) ∙ line_pieces (depth ∷ []) name (places ++ attrs)
+    let rest = spaced attrs ++ 10 ∷ [] in
+    append_assoc depth (32 ∷ (name ++ spaced places)) rest
+    ∙ ap (λ t. depth ++ 32 ∷ t) (
+    append_assoc name (spaced places) rest
+    ∙ ap (λ t. name ++ t) (sym (append_assoc (spaced places) (spaced attrs) (10 ∷ []))
+    ∙ ap (λ t. t ++ 10 ∷ []) (sym (flat_map-append (λ word. 32 ∷ word) places attrs)))
+    ∙ sym (line_spaced name (places ++ attrs)))
+
+-- a node says what the tree says that stands there
+pub says : (src : Source) (st : Stored) (at : ℕ) (node : Option Row) (it : Row) (one : Tree) → node ≡ Some it → StandsNode src st at node one → Says st it one
+says src st at node it (Node rule size attrs start end kids) is h =
+    let has = h.stands.1 in
+    let same : it ≡ has.node = let e = sym is ∙ h.is_at has.node has.is_node in cc in
+    subst (λ n. Says st n (Node rule size attrs start end kids)) (sym same) (record {
+      rule = ap (λ h. h.rule) has.is_head;
+      size = ap (λ h. h.size) has.is_head;
+      ends = ap (λ h. record { start = h.start; end = h.end }) has.is_head;
+      attrs = has.are_attrs;
+    })
 
 -- what the words of a node say is its line
 pub head_words : (g : Grammar) (depth at : ℕ) (one : Tree) (name : List ℕ) (to start end from_start from_end : ℕ) (attrs : List (ℕ × ℤ))

@@ -1,20 +1,21 @@
 -- The lines of a tree are those of its visits, and a walk over it gives them one by one.
 use Rattle.std.proofs.Common.{◌≡◌, ℕ, ◌+◌, List, [], ◌∷◌, ◌++◌, map, length, refl, sym, ap, ◌∙◌, subst, Option, Some, None, add-one, flat_map}
-use Rattle.std.specs.Prelude.{codes}
+use Rattle.std.specs.Prelude.{codes, ⊤}
 use Rattle.std.proofs.lemmas.List.{map-append, length-map}
 use Rattle.ipg_core.specs.Grammar.{Grammar}
 use Rattle.ipg_core.specs.Lines.{items_line, tree_lines, kid_lines, kids_lines, lines}
 use Rattle.ipg_core.specs.Tree as tree
 use Rattle.ipg_core.specs.Tree.{Tree, Kids, no_kids, kid, count_of}
 use Rattle.ipg_nodes.specs.declared.kid.Kid.{Kid}
-use Rattle.ipg_nodes.specs.Stored.{Stored, Source, StandKids}
+use Rattle.ipg_nodes.specs.declared.kid.Kid.TheVariants as row
+use Rattle.ipg_nodes.specs.Stored.{Stored, Source, StandsKid, StandKids}
 use Rattle.ipg_parsed.specs.declared.walk.Visit.{Visit}
-use Rattle.ipg_parsed.specs.Visits.{Seen, kid_visits, kids_visits, visits}
-use Rattle.ipg_parsed.specs.Left.{Shows}
+use Rattle.ipg_parsed.specs.Visits.{Seen, kid_visits, kids_visits, visits, from_of}
+use Rattle.ipg_parsed.specs.Left.{NodeOf, StandsNode, Shows}
 use Rattle.ipg_parsed.specs.Parse.{Walked, Left}
 use Rattle.ipg_outside.specs.Sink.{Output}
 use Rattle.ipg_tree.proofs.Putting.{Progress, begun}
-use Rattle.ipg_tree.specs.Line.{line_of, lines_of, head_line}
+use Rattle.ipg_tree.specs.Line.{line_of, lines_of, head_line, child_line}
 
 module _ (g : Grammar) where
   mutual
@@ -75,3 +76,37 @@ count_rows src st at [] no_kids h = refl
 count_rows src st at (row ∷ rows) (kid one kids) h = sym (add-one (length rows)) ∙ ap (λ n. n + 1) (count_rows src st at rows kids h.1)
 count_rows src st at [] (kid one kids) h = absurd h
 count_rows src st at (row ∷ rows) no_kids h = absurd h
+
+abbrev pub IsNodeRow : Kid → Type 0
+IsNodeRow (row.Node id from to) = ⊤
+IsNodeRow (row.Text n from to) = ⊥
+IsNodeRow (row.Number prim from to high low) = ⊥
+IsNodeRow (row.Raw from to) = ⊥
+IsNodeRow (row.Array n items) = ⊥
+IsNodeRow (row.Many n items) = ⊥
+
+-- a tree stands at the node of a visit, and this is the line of it
+pub record NodeSeen (src : Source) (st : Stored) (g : Grammar) (visit : Visit) (line : List ℕ) : Type 0 where
+  pub at : ℕ
+  pub one : Tree
+  pub stands : StandsNode src st at visit.node one
+  pub is : head_line g visit.depth visit.from one ≡ line
+
+node_seen_at : (src : Source) (st : Stored) (g : Grammar) (visit : Visit) (depth at : ℕ) (k : tree.Kid) → IsNodeRow visit.kid → visit.depth ≡ depth
+    → visit.from ≡ at + from_of k → StandsKid src st at visit.kid k → NodeOf st visit.kid visit.node
+    → NodeSeen src st g visit (child_line g depth at k)
+node_seen_at src st g visit depth at (tree.Sub from to sub) is ed ef stands node = record {
+  at = at + from;
+  one = sub;
+  stands = record { id = stands.0; is_at = node stands.0 from to stands.1; stands = stands.2 };
+  is = ap (λ d. head_line g d visit.from sub) ed ∙ ap (λ a. head_line g depth a sub) ef;
+}
+node_seen_at src st g visit depth at (tree.Token from to bytes) is ed ef stands node = absurd (subst IsNodeRow stands.1 is)
+node_seen_at src st g visit depth at (tree.Number from to prim high low) is ed ef stands node = absurd (subst IsNodeRow stands is)
+node_seen_at src st g visit depth at (tree.Raw from to bytes) is ed ef stands node = absurd (subst IsNodeRow stands.0 is)
+node_seen_at src st g visit depth at (tree.Array sym items) is ed ef stands node = absurd (subst IsNodeRow stands.3 is)
+node_seen_at src st g visit depth at (tree.Many sym items) is ed ef stands node = absurd (subst IsNodeRow stands.3 is)
+
+pub node_seen : (src : Source) (st : Stored) (g : Grammar) (visit : Visit) (one : Seen) → IsNodeRow visit.kid → Shows src st visit one
+    → NodeSeen src st g visit (line_of g one)
+node_seen src st g visit one is h = node_seen_at src st g visit one.depth one.at one.child is h.depth h.from h.stands h.node

@@ -1,13 +1,24 @@
 -- The line of each visit of a tree.
-use Rattle.std.specs.Prelude.{ℕ, ◌+◌, List, [], ◌∷◌, flat_map, codes}
+use Rattle.std.specs.Prelude.{◌≡◌, ℕ, ◌+◌, List, [], ◌∷◌, flat_map, codes, slice_get, Some}
 use Rattle.ipg_core.specs.Grammar.{Grammar}
 use Rattle.ipg_core.specs.Lines.{node_line, leaf_line, items_line, hex, short_hex, primitive_name, number_words}
-use Rattle.ipg_core.specs.Tree.{Tree, Node, Kid, Sub, Token, Number, Raw, Array, Many}
-use Rattle.ipg_parsed.specs.Visits.{Seen}
+use Rattle.ipg_core.specs.Touch.{tree_ends}
+use Rattle.ipg_core.specs.Tree as tree
+use Rattle.ipg_core.specs.Tree.{Tree, Kid, Sub, Token, Number, Raw, Array, Many, rule_of, attrs_of}
+use Rattle.ipg_nodes.specs.declared.kid.Node.{Node}
+use Rattle.ipg_nodes.specs.Stored.{Stored}
+use Rattle.ipg_parsed.specs.Visits.{Seen, size_of}
+
+-- the node says what the tree says, but for its children
+pub record Says (st : Stored) (node : Node) (one : Tree) : Type 0 where
+  pub rule : node.head.rule ≡ rule_of one
+  pub size : node.head.size ≡ size_of one
+  pub ends : record { start = node.head.start; end = node.head.end } ≡ tree_ends one
+  pub attrs : slice_get st.attrs node.attrs.place ≡ Some (attrs_of one)
 
 -- the line of a tree alone, whose part begins at `at`
 abbrev pub head_line : Grammar → ℕ → ℕ → Tree → List ℕ
-head_line g depth at (Node rule size attrs start end kids) = node_line g depth at rule size start end attrs
+head_line g depth at (tree.Node rule size attrs start end kids) = node_line g depth at rule size start end attrs
 
 -- the line of a child alone
 abbrev pub child_line : Grammar → ℕ → ℕ → Kid → List ℕ

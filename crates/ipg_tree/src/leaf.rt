@@ -11,7 +11,7 @@ ghost use Rattle.ipg_table.specs.Rows.{StandFor};
 ghost use Rattle.ipg_tree.specs.Puts.{Puts};
 ghost use Rattle.ipg_tree.specs.Words.{parted};
 
-use crate::names::{primitive_name, sym_name};
+use crate::names::sym_name;
 use crate::tail::Tail;
 use crate::words::{put, put_bytes, put_start};
 use ipg_core::grammar::Primitive;
@@ -20,33 +20,74 @@ use ipg_outside::{Sink, SinkFault};
 use ipg_parsed::{Parsed, Visit};
 use std::alloc::Allocator;
 
-/// Puts the first words of a leaf's line before what follows them.
+/// Puts the places of a leaf, after a space, before what follows them.
 #[inline(always)]
-fn prepend_words(line: &mut Tail, visit: Visit, kind: &[u8])
-    requires { length kind.now + length line.old ≤ 64 }
-    ensures { line.new ≡ parted (decimal visit.depth ∷ kind.now ∷ decimal visit.from ∷ decimal visit.to ∷ []) line.old }
+fn prepend_interval(line: &mut Tail, visit: Visit)
+    requires { length line.old ≤ 64 }
+    ensures text { line.new ≡ 32 ∷ parted (decimal visit.from ∷ decimal visit.to ∷ []) line.old }
+    ensures long { length line.new ≤ 43 + length line.old }
 {
     line.prepend(b" ");
     line.prepend_number(visit.to);
     line.prepend(b" ");
     line.prepend_number(visit.from);
     line.prepend(b" ");
+}
+
+/// Puts the first words of a leaf's line before what follows them.
+#[inline(always)]
+fn prepend_words(line: &mut Tail, visit: Visit, kind: &[u8])
+    requires { length kind.now + length line.old ≤ 64 }
+    ensures { line.new ≡ parted (decimal visit.depth ∷ kind.now ∷ decimal visit.from ∷ decimal visit.to ∷ []) line.old }
+{
+    prepend_interval(line, visit);
     line.prepend(kind);
     line.prepend(b" ");
     line.prepend_number(visit.depth);
 }
 
+/// Puts the name of a primitive before what there is. Each has a place of its own here, as a text of a known length needs
+/// no call to be copied.
+#[inline(always)]
+fn prepend_primitive(line: &mut Tail, prim: Primitive)
+    requires { length line.old ≤ 128 }
+    ensures text { line.new ≡ spec.primitive_name prim ++ line.old }
+    ensures long { length line.new ≤ 5 + length line.old }
+{
+    match prim {
+        Primitive::U8 => line.prepend(b"U8"),
+        Primitive::U16LE => line.prepend(b"U16LE"),
+        Primitive::U16BE => line.prepend(b"U16BE"),
+        Primitive::U32LE => line.prepend(b"U32LE"),
+        Primitive::U32BE => line.prepend(b"U32BE"),
+        Primitive::U64LE => line.prepend(b"U64LE"),
+        Primitive::U64BE => line.prepend(b"U64BE"),
+        Primitive::Bytes => line.prepend(b"Bytes"),
+    }
+}
+
+/// Puts the first words of a number's line before what follows them.
+#[inline(always)]
+fn prepend_number_words(line: &mut Tail, visit: Visit, prim: Primitive)
+    requires { length line.old ≤ 64 }
+    ensures { line.new ≡ parted (decimal visit.depth ∷ spec.primitive_name prim ∷ decimal visit.from ∷ decimal visit.to ∷ []) line.old }
+{
+    prepend_interval(line, visit);
+    prepend_primitive(line, prim);
+    line.prepend(b" ");
+    line.prepend_number(visit.depth);
+}
+
 /// Writes the line of a number of at most 32 bits.
-fn put_low<S: Sink>(out: &mut S, visit: Visit, kind: &[u8], low: u32) -> Result<(), SinkFault>
-    requires { length kind.now ≤ 5 }
-    ensures { Puts result (spec.line (decimal visit.depth ∷ kind.now ∷ decimal visit.from ∷ decimal visit.to ∷ spec.set_word (codes "val")
+fn put_low<S: Sink>(out: &mut S, visit: Visit, prim: Primitive, low: u32) -> Result<(), SinkFault>
+    ensures { Puts result (spec.line (decimal visit.depth ∷ spec.primitive_name prim ∷ decimal visit.from ∷ decimal visit.to ∷ spec.set_word (codes "val")
         (decimal low) ∷ [])) (S.output out.old) (S.faults out.old) (S.output out.new) (S.faults out.new) }
 {
     let mut line = Tail::new();
     line.prepend(b"\n");
     line.prepend_number(u64::from(low));
     line.prepend(b"val=");
-    prepend_words(&mut line, visit, kind);
+    prepend_number_words(&mut line, visit, prim);
     put(out, line.as_slice())
 }
 
@@ -54,12 +95,11 @@ fn put_low<S: Sink>(out: &mut S, visit: Visit, kind: &[u8], low: u32) -> Result<
 fn put_halves<S: Sink>(
     out: &mut S,
     visit: Visit,
-    kind: &[u8],
+    prim: Primitive,
     high: u32,
     low: u32,
 ) -> Result<(), SinkFault>
-    requires { length kind.now ≤ 5 }
-    ensures { Puts result (spec.line (decimal visit.depth ∷ kind.now ∷ decimal visit.from ∷ decimal visit.to ∷ spec.set_word (codes "hi")
+    ensures { Puts result (spec.line (decimal visit.depth ∷ spec.primitive_name prim ∷ decimal visit.from ∷ decimal visit.to ∷ spec.set_word (codes "hi")
         (decimal high) ∷ spec.set_word (codes "lo") (decimal low) ∷ [])) (S.output out.old) (S.faults out.old) (S.output out.new) (S.faults out.new) }
 {
     let mut line = Tail::new();
@@ -68,7 +108,7 @@ fn put_halves<S: Sink>(
     line.prepend(b" lo=");
     line.prepend_number(u64::from(high));
     line.prepend(b"hi=");
-    prepend_words(&mut line, visit, kind);
+    prepend_number_words(&mut line, visit, prim);
     put(out, line.as_slice())
 }
 
@@ -83,10 +123,9 @@ pub(crate) fn put_value<S: Sink>(
     ensures { Puts result (spec.line (decimal visit.depth ∷ spec.primitive_name prim ∷ decimal visit.from ∷ decimal visit.to ∷ spec.number_words prim
         high low)) (S.output out.old) (S.faults out.old) (S.output out.new) (S.faults out.new) }
 {
-    let kind = primitive_name(prim);
     match prim {
-        Primitive::U64LE | Primitive::U64BE => put_halves(out, visit, kind, high, low),
-        _ => put_low(out, visit, kind, low),
+        Primitive::U64LE | Primitive::U64BE => put_halves(out, visit, prim, high, low),
+        _ => put_low(out, visit, prim, low),
     }
 }
 

@@ -1,23 +1,27 @@
 //! The lines of a printed tree.
 
-ghost use Rattle.std.specs.Prelude.{◌≡◌, ◌+◌, ◌≤◌, ◌^◌, ◌++◌, ◌∷◌, [], ℕ, decimal, map, codes};
+ghost use Rattle.std.specs.Prelude.{◌≡◌, ◌+◌, ◌≤◌, ◌^◌, ◌++◌, ◌∷◌, [], ℕ, decimal, map, codes, length};
 ghost use Rattle.ipg_core.specs.Grammar.{Grammar};
 ghost use Rattle.ipg_core.specs.Lines as spec;
 ghost use Rattle.ipg_core.specs.Tree.{Tree, rule_of};
-ghost use Rattle.ipg_nodes.specs.Stored.{Source, StandsTree};
+ghost use Rattle.ipg_nodes.specs.Stored.{Source};
 ghost use Rattle.ipg_table.specs.Rows.{StandFor};
-ghost use Rattle.ipg_tree.specs.Line.{head_line};
+ghost use Rattle.ipg_parsed.specs.Left.{StandsNode};
+ghost use Rattle.ipg_tree.specs.Line.{Says, head_line};
 ghost use Rattle.ipg_tree.specs.Puts.{Puts};
 ghost use Rattle.ipg_tree.specs.Words.{spaced, parted};
 
 use crate::names::rule_name;
 use crate::tail::Tail;
 use crate::words::{put, put_attr};
-use ipg_nodes::RunId;
+use ipg_nodes::Node;
 use ipg_outside::{Sink, SinkFault};
-use ipg_parsed::Parsed;
+use ipg_parsed::{Parsed, Visit};
 use ipg_table::tables::Tables;
 use std::alloc::Allocator;
+
+/// A name of so many bytes finds room in one piece with a depth and places.
+const SHORT: usize = 45;
 
 /// The places that a node's line shows: the ends of its part, and where it begins and ends to touch bytes.
 #[derive(Clone, Copy)]
@@ -38,13 +42,14 @@ fn put_depth<S: Sink>(out: &mut S, depth: u64) -> Result<(), SinkFault>
     put(out, piece.as_slice())
 }
 
-/// Writes places, each behind a space.
-fn put_places<S: Sink>(out: &mut S, places: Places) -> Result<(), SinkFault>
-    ensures { Puts result (spaced (decimal places.from ∷ decimal places.to ∷ spec.set_word (codes "start") (decimal places.start)
-        ∷ spec.set_word (codes "end") (decimal places.end) ∷ []))
-        (S.output out.old) (S.faults out.old) (S.output out.new) (S.faults out.new) }
+/// Puts places, each behind a space, into a piece.
+#[inline(always)]
+fn prepend_places(piece: &mut Tail, places: Places)
+    requires { piece.old ≡ [] }
+    ensures text { piece.new ≡ spaced (decimal places.from ∷ decimal places.to ∷ spec.set_word (codes "start") (decimal places.start)
+        ∷ spec.set_word (codes "end") (decimal places.end) ∷ []) }
+    ensures long { length piece.new ≤ 94 }
 {
-    let mut piece = Tail::new();
     piece.prepend_number(places.end);
     piece.prepend(b" end=");
     piece.prepend_number(places.start);
@@ -53,7 +58,68 @@ fn put_places<S: Sink>(out: &mut S, places: Places) -> Result<(), SinkFault>
     piece.prepend(b" ");
     piece.prepend_number(places.from);
     piece.prepend(b" ");
+}
+
+/// Writes places, each behind a space.
+fn put_places<S: Sink>(out: &mut S, places: Places) -> Result<(), SinkFault>
+    ensures { Puts result (spaced (decimal places.from ∷ decimal places.to ∷ spec.set_word (codes "start") (decimal places.start)
+        ∷ spec.set_word (codes "end") (decimal places.end) ∷ []))
+        (S.output out.old) (S.faults out.old) (S.output out.new) (S.faults out.new) }
+{
+    let mut piece = Tail::new();
+    prepend_places(&mut piece, places);
     put(out, piece.as_slice())
+}
+
+/// Writes a depth, a name and places in one piece.
+fn put_at_once<S: Sink>(
+    out: &mut S,
+    depth: u64,
+    name: &[u8],
+    places: Places,
+) -> Result<(), SinkFault>
+    requires { length name.now ≤ 45 }
+    ensures { Puts result (parted (decimal depth ∷ []) (name.now ++ spaced (decimal places.from ∷ decimal places.to
+        ∷ spec.set_word (codes "start") (decimal places.start) ∷ spec.set_word (codes "end") (decimal places.end) ∷ [])))
+        (S.output out.old) (S.faults out.old) (S.output out.new) (S.faults out.new) }
+{
+    let mut piece = Tail::new();
+    prepend_places(&mut piece, places);
+    piece.prepend(name);
+    piece.prepend(b" ");
+    piece.prepend_number(depth);
+    put(out, piece.as_slice())
+}
+
+/// Writes a depth, a name of any length, and places.
+#[cold]
+#[inline(never)]
+fn put_by_parts<S: Sink>(
+    out: &mut S,
+    depth: u64,
+    name: &[u8],
+    places: Places,
+) -> Result<(), SinkFault>
+    ensures { Puts result (parted (decimal depth ∷ []) (name.now ++ spaced (decimal places.from ∷ decimal places.to
+        ∷ spec.set_word (codes "start") (decimal places.start) ∷ spec.set_word (codes "end") (decimal places.end) ∷ [])))
+        (S.output out.old) (S.faults out.old) (S.output out.new) (S.faults out.new) }
+{
+    put_depth(out, depth)?;
+    put(out, name)?;
+    put_places(out, places)
+}
+
+/// Writes a depth, a name and places.
+fn put_head<S: Sink>(out: &mut S, depth: u64, name: &[u8], places: Places) -> Result<(), SinkFault>
+    ensures { Puts result (parted (decimal depth ∷ []) (name.now ++ spaced (decimal places.from ∷ decimal places.to
+        ∷ spec.set_word (codes "start") (decimal places.start) ∷ spec.set_word (codes "end") (decimal places.end) ∷ [])))
+        (S.output out.old) (S.faults out.old) (S.output out.new) (S.faults out.new) }
+{
+    if name.len() <= SHORT {
+        put_at_once(out, depth, name, places)
+    } else {
+        put_by_parts(out, depth, name, places)
+    }
 }
 
 /// Writes a space and an attribute with its value.
@@ -90,22 +156,9 @@ fn put_with_attrs<S: Sink>(
         (decimal places.start) ∷ spec.set_word (codes "end") (decimal places.end) ∷ map (spec.attr_word g) attrs.now)) (S.output out.old) (S.faults out.old)
         (S.output out.new) (S.faults out.new) }
 {
-    put_depth(out, depth)?;
-    put(out, name)?;
-    put_places(out, places)?;
+    put_head(out, depth, name, places)?;
     put_attrs(out, tables, attrs)?;
     put(out, b"\n")
-}
-
-/// The name of the rule of a node; empty where there is no node.
-fn node_name<'p, A: Allocator + Clone + Drop>(p: &'p Parsed<'_, A>, node: RunId) -> &'p [u8]
-    ensures { (src : Source) (g : Grammar) (at : ℕ) (one : Tree) → StandFor p.now.parse.tables g → StandsTree src p.now.parse.store at node one
-        → result.now ≡ spec.rule_name g (rule_of one) }
-{
-    match p.rule(node) {
-        Some(rule) => rule_name(p.tables(), rule),
-        None => &[],
-    }
 }
 
 /// A place of a part that begins at `at`.
@@ -116,29 +169,39 @@ fn place(at: u64, offset: u32) -> u64
 }
 
 /// Writes the line of a node whose part begins at `at`.
-pub(crate) fn put_node<A: Allocator + Clone + Drop, S: Sink>(
+fn put_row<A: Allocator + Clone + Drop, S: Sink>(
     out: &mut S,
     p: &Parsed<'_, A>,
     depth: u64,
     at: u64,
-    node: RunId,
+    node: Node,
 ) -> Result<(), SinkFault>
-    ensures { (src : Source) (g : Grammar) (begin : ℕ) (one : Tree) → StandFor p.now.parse.tables g → StandsTree src p.now.parse.store begin node one
-        → at + 2 ^ 32 ≤ 2 ^ 64 → Puts result (head_line g depth at one) (S.output out.old) (S.faults out.old) (S.output out.new) (S.faults out.new) }
+    ensures { (g : Grammar) (one : Tree) → StandFor p.now.parse.tables g → Says p.now.parse.store node one → at + 2 ^ 32 ≤ 2 ^ 64
+        → Puts result (head_line g depth at one) (S.output out.old) (S.faults out.old) (S.output out.new) (S.faults out.new) }
 {
-    let ends = p.ends(node);
+    let head = node.head;
     let places = Places {
         from: at,
-        to: place(at, p.size(node)),
-        start: place(at, ends.start),
-        end: place(at, ends.end),
+        to: place(at, head.size),
+        start: place(at, head.start),
+        end: place(at, head.end),
     };
-    put_with_attrs(
-        out,
-        p.tables(),
-        depth,
-        node_name(p, node),
-        places,
-        p.attrs(node),
-    )
+    let name = rule_name(p.tables(), head.rule);
+    put_with_attrs(out, p.tables(), depth, name, places, p.attrs_at(node.attrs))
+}
+
+/// Writes the line of the node of a visit; nothing where it comes to none.
+pub(crate) fn put_node<A: Allocator + Clone + Drop, S: Sink>(
+    out: &mut S,
+    p: &Parsed<'_, A>,
+    visit: Visit,
+) -> Result<(), SinkFault>
+    ensures { (src : Source) (g : Grammar) (begin : ℕ) (one : Tree) → StandFor p.now.parse.tables g
+        → StandsNode src p.now.parse.store begin visit.node one → visit.from + 2 ^ 32 ≤ 2 ^ 64
+        → Puts result (head_line g visit.depth visit.from one) (S.output out.old) (S.faults out.old) (S.output out.new) (S.faults out.new) }
+{
+    match visit.node {
+        Some(node) => put_row(out, p, visit.depth, visit.from, node),
+        None => Ok(()),
+    }
 }

@@ -21,9 +21,8 @@ pub(crate) fn rule_name(tables: &Tables, rule: u32) -> &[u8]
     }
 }
 
-pub(crate) fn primitive_name(prim: Primitive) -> &'static [u8]
-    ensures name { result.now ≡ spec.primitive_name prim }
-    ensures short { length result.now ≤ 5 }
+fn primitive_name(prim: Primitive) -> &'static [u8]
+    ensures { result.now ≡ spec.primitive_name prim }
 {
     match prim {
         Primitive::U8 => b"U8",

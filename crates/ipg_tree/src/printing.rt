@@ -29,7 +29,7 @@ fn put_visit<A: Allocator + Clone + Drop, S: Sink>(
         → Puts result (line_of g one) (S.output out.old) (S.faults out.old) (S.output out.new) (S.faults out.new) }
 {
     match visit.kid {
-        Kid::Node { id, .. } => put_node(out, p, visit.depth, visit.from, id),
+        Kid::Node { .. } => put_node(out, p, visit),
         Kid::Text { sym, .. } => put_text(out, visit, text_of(p.tables(), sym)),
         Kid::Number {
             prim,

@@ -6,9 +6,9 @@ ghost use Rattle.std.specs.Fmt.{signed_decimal};
 use itoa::write_digits;
 use std::marker::Model;
 
-const ROOM: usize = 128;
+const ROOM: usize = 160;
 
-/// The end of a piece of a line, of at most 128 bytes. It grows at its start, so a number needs no second place.
+/// The end of a piece of a line, of at most 160 bytes. It grows at its start, so a number needs no second place.
 #[derive(Drop)]
 pub(crate) struct Tail {
     bytes: [u8; ROOM],
@@ -22,7 +22,7 @@ impl Model for Tail {
 
     ghost view = { λ t. drop t.start t.bytes };
 
-    ghost invariant = { λ t. t.start ≤ 128 };
+    ghost invariant = { λ t. t.start ≤ 160 };
 }
 
 impl Tail {
@@ -45,7 +45,7 @@ impl Tail {
     /// Puts a text before what there is.
     #[inline]
     pub(crate) fn prepend(&mut self, text: &[u8])
-        requires { length text.now + length self.old ≤ 128 }
+        requires { length text.now + length self.old ≤ 160 }
         ensures text { self.new ≡ text.now ++ self.old }
         ensures long { length self.new ≡ length text.now + length self.old }
     {
@@ -57,7 +57,7 @@ impl Tail {
     /// Puts a number before what there is.
     #[inline]
     pub(crate) fn prepend_number(&mut self, n: u64)
-        requires { 20 + length self.old ≤ 128 }
+        requires { 20 + length self.old ≤ 160 }
         ensures text { self.new ≡ decimal n ++ self.old }
         ensures long { length self.new ≤ 20 + length self.old }
     {
@@ -66,7 +66,7 @@ impl Tail {
 
     /// Puts a number with its sign before what there is.
     pub(crate) fn prepend_signed(&mut self, n: i64)
-        requires { 21 + length self.old ≤ 128 }
+        requires { 21 + length self.old ≤ 160 }
         ensures text { self.new ≡ signed_decimal n ++ self.old }
         ensures long { length self.new ≤ 21 + length self.old }
     {

@@ -11,6 +11,7 @@ fn at(depth: u64, from: u64, to: u64) -> Visit {
         from,
         to,
         kid: Kid::Raw { from: 0, to: 0 },
+        node: None,
     }
 }
 
