@@ -180,6 +180,7 @@ fn shown(depth: u64, at: u64, kid: Kid, node: Option<Node>) -> Visit
 
 /// The visit of a row that came next in the innermost level: that level is put back without it, and the level of what
 /// lies in the child is put into it.
+#[inline(always)]
 fn go_on<A: Allocator + Clone + Drop>(store: &Store<A>, stack: &mut Stack<A>, taken: Taken) -> Visit
     ensures room { stack.new.room ≡ stack.old.room }
     ensures ends { (level : Level) → Takes store.now level taken → steps stack.new.room stack.new.levels < steps stack.old.room (level ∷ stack.old.levels) }
@@ -189,13 +190,15 @@ fn go_on<A: Allocator + Clone + Drop>(store: &Store<A>, stack: &mut Stack<A>, ta
 {
     let depth = stack.len() + 1;
     let at = taken.rest.at;
-    let node = node_of(store, taken.kid);
     stack.push(taken.rest);
+    let node = node_of(store, taken.kid);
+    let visit = shown(depth, at, taken.kid, node);
     enter(stack, taken.kid, node, at);
-    shown(depth, at, taken.kid, node)
+    visit
 }
 
 /// The next visit; None at the end.
+#[inline(always)]
 pub(crate) fn step<A: Allocator + Clone + Drop>(
     store: &Store<A>,
     stack: &mut Stack<A>,

@@ -10,6 +10,6 @@ returns-clause-ends g c level takes =
 pub returns-clause-visited : goal.returns-clause-visited
 returns-clause-visited g c src level one more takes leave =
     goes_on src c.args.store.now c.args.stack.now.room c.args.stack.now.levels level c.args.taken one more c.push.new.self c.enter.new.stack
-    c.len-depth.result c.shown.result c.len-depth.ensures.room c.len-depth.ensures.value c.push.ensures.room c.push.ensures.pushed
-    (c.enter.ensures.entered src c.args.store.now c.node_of-node.ensures) (c.shown.ensures.near src c.args.store.now)
-    (c.shown.ensures.shows src c.args.store.now c.node_of-node.ensures) takes leave
+    c.len-depth.result c.shown-visit.result c.len-depth.ensures.room c.len-depth.ensures.value c.push.ensures.room c.push.ensures.pushed
+    (c.enter.ensures.entered src c.args.store.now c.node_of-node.ensures) (c.shown-visit.ensures.near src c.args.store.now)
+    (c.shown-visit.ensures.shows src c.args.store.now c.node_of-node.ensures) takes leave
