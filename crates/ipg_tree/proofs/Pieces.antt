@@ -63,7 +63,7 @@ pub head_parts : (depth name : List ℕ) (places : List (List ℕ)) → parted (
 head_parts depth name places = append_assoc depth (32 ∷ []) (name ++ spaced places)
 
 -- the pieces of a line with attributes
-pub attrs_pieces : (depth name : List ℕ) (places attrs : List (List ℕ))
+attrs_pieces : (depth name : List ℕ) (places attrs : List (List ℕ))
     → head_text depth name places ++ (spaced attrs ++ 10 ∷ []) ≡ line (depth ∷ name ∷ (places ++ attrs))
 attrs_pieces depth name places attrs =
     let rest = spaced attrs ++ 10 ∷ [] in
@@ -75,8 +75,8 @@ attrs_pieces depth name places attrs =
     ∙ sym (line_spaced name (places ++ attrs)))
 
 -- a node says what the tree says that stands there
-pub says : (src : Source) (st : Stored) (at : ℕ) (node : Option Row) (it : Row) (one : Tree) → node ≡ Some it → StandsNode src st at node one → Says st it one
-says src st at node it (Node rule size attrs start end kids) is h =
+pub says : (src : Source) (st : Stored) (at : ℕ) (named : Option Row) (it : Row) (one : Tree) → named ≡ Some it → StandsNode src st at named one → Says st it one
+says src st at named it (Node rule size attrs start end kids) is h =
     let has = h.stands.1 in
     let same : it ≡ has.node = let e = sym is ∙ h.is_at has.node has.is_node in cc in
     subst (λ n. Says st n (Node rule size attrs start end kids)) (sym same) (record {
@@ -87,7 +87,7 @@ says src st at node it (Node rule size attrs start end kids) is h =
     })
 
 -- what the words of a node say is its line
-pub head_words : (g : Grammar) (depth at : ℕ) (one : Tree) (name : List ℕ) (to start end from_start from_end : ℕ) (attrs : List (ℕ × ℤ))
+head_words : (g : Grammar) (depth at : ℕ) (one : Tree) (name : List ℕ) (to start end from_start from_end : ℕ) (attrs : List (ℕ × ℤ))
     → name ≡ rule_name g (rule_of one) → to ≡ at + size_of one
     → record { start = start; end = end } ≡ tree_ends one → from_start ≡ at + start → from_end ≡ at + end → attrs ≡ attrs_of one
     → line (decimal depth ∷ name ∷ decimal at ∷ decimal to ∷ set_word (codes "start") (decimal from_start) ∷ set_word (codes "end") (decimal from_end)
@@ -98,6 +98,19 @@ head_words g depth at (Node rule size sets s e kids) name to start end from_star
     let fs = ef ∙ ap (λ n. at + n) is in
     let fe = ee ∙ ap (λ n. at + n) ie in
     cc
+
+-- the pieces of the line of a node
+pub row_pieces : (g : Grammar) (st : Stored) (node : Row) (one : Tree) (depth at : ℕ) (name : List ℕ) (to start end : ℕ) (attrs : List (ℕ × ℤ))
+    → Says st node one
+    → name ≡ rule_name g node.head.rule → to ≡ at + node.head.size → start ≡ at + node.head.start → end ≡ at + node.head.end → attrs ≡ attrs_of one
+    → head_text (decimal depth) name (decimal at ∷ decimal to ∷ set_word (codes "start") (decimal start) ∷ set_word (codes "end") (decimal end) ∷ [])
+    ++ (spaced (map (attr_word g) attrs) ++ 10 ∷ [])
+    ≡ head_line g depth at one
+row_pieces g st node one depth at name to start end attrs said en et es ee ea =
+    attrs_pieces _ name (decimal at ∷ decimal to ∷ set_word (codes "start") (decimal start) ∷ set_word (codes "end") (decimal end) ∷ [])
+    (map (attr_word g) attrs)
+    ∙ head_words g depth at one name to node.head.start node.head.end start end attrs (en ∙ ap (rule_name g) said.rule)
+    (et ∙ ap (λ n. at + n) said.size) said.ends es ee ea
 
 -- behind the last rule there is none
 pub no_rule : (t : Rows) (rows : List RuleRow) (rules : List CoreRule) (r : ℕ) → Each (HoldsRule t) rows rules → length rows ≤ r → slice_get rules r ≡ None

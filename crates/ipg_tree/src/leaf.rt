@@ -79,21 +79,28 @@ fn prepend_number_words(line: &mut Tail, visit: Visit, prim: Primitive)
 }
 
 /// Writes the line of a number of at most 32 bits.
-fn put_low<S: Sink>(out: &mut S, visit: Visit, prim: Primitive, low: u32) -> Result<(), SinkFault>
+fn put_low<S: Sink>(
+    out: &mut S,
+    line: &mut Tail,
+    visit: Visit,
+    prim: Primitive,
+    low: u32,
+) -> Result<(), SinkFault>
     ensures { Puts result (spec.line (decimal visit.depth ∷ spec.primitive_name prim ∷ decimal visit.from ∷ decimal visit.to ∷ spec.set_word (codes "val")
         (decimal low) ∷ [])) (S.output out.old) (S.faults out.old) (S.output out.new) (S.faults out.new) }
 {
-    let mut line = Tail::new();
+    line.clear();
     line.prepend(b"\n");
     line.prepend_number(u64::from(low));
     line.prepend(b"val=");
-    prepend_number_words(&mut line, visit, prim);
+    prepend_number_words(line, visit, prim);
     put(out, line.as_slice())
 }
 
 /// Writes the line of a number of 64 bits.
 fn put_halves<S: Sink>(
     out: &mut S,
+    line: &mut Tail,
     visit: Visit,
     prim: Primitive,
     high: u32,
@@ -102,19 +109,20 @@ fn put_halves<S: Sink>(
     ensures { Puts result (spec.line (decimal visit.depth ∷ spec.primitive_name prim ∷ decimal visit.from ∷ decimal visit.to ∷ spec.set_word (codes "hi")
         (decimal high) ∷ spec.set_word (codes "lo") (decimal low) ∷ [])) (S.output out.old) (S.faults out.old) (S.output out.new) (S.faults out.new) }
 {
-    let mut line = Tail::new();
+    line.clear();
     line.prepend(b"\n");
     line.prepend_number(u64::from(low));
     line.prepend(b" lo=");
     line.prepend_number(u64::from(high));
     line.prepend(b"hi=");
-    prepend_number_words(&mut line, visit, prim);
+    prepend_number_words(line, visit, prim);
     put(out, line.as_slice())
 }
 
-/// Writes the line of a number: both halves of one of 64 bits, else its value.
+/// Writes the line of a number, which is made in `line`: both halves of one of 64 bits, else its value.
 pub(crate) fn put_value<S: Sink>(
     out: &mut S,
+    line: &mut Tail,
     visit: Visit,
     prim: Primitive,
     high: u32,
@@ -124,8 +132,8 @@ pub(crate) fn put_value<S: Sink>(
         high low)) (S.output out.old) (S.faults out.old) (S.output out.new) (S.faults out.new) }
 {
     match prim {
-        Primitive::U64LE | Primitive::U64BE => put_halves(out, visit, prim, high, low),
-        _ => put_low(out, visit, prim, low),
+        Primitive::U64LE | Primitive::U64BE => put_halves(out, line, visit, prim, high, low),
+        _ => put_low(out, line, visit, prim, low),
     }
 }
 

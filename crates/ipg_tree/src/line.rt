@@ -74,6 +74,7 @@ fn put_places<S: Sink>(out: &mut S, places: Places) -> Result<(), SinkFault>
 /// Writes a depth, a name and places in one piece.
 fn put_at_once<S: Sink>(
     out: &mut S,
+    line: &mut Tail,
     depth: u64,
     name: &[u8],
     places: Places,
@@ -83,12 +84,12 @@ fn put_at_once<S: Sink>(
         ∷ spec.set_word (codes "start") (decimal places.start) ∷ spec.set_word (codes "end") (decimal places.end) ∷ [])))
         (S.output out.old) (S.faults out.old) (S.output out.new) (S.faults out.new) }
 {
-    let mut piece = Tail::new();
-    prepend_places(&mut piece, places);
-    piece.prepend(name);
-    piece.prepend(b" ");
-    piece.prepend_number(depth);
-    put(out, piece.as_slice())
+    line.clear();
+    prepend_places(line, places);
+    line.prepend(name);
+    line.prepend(b" ");
+    line.prepend_number(depth);
+    put(out, line.as_slice())
 }
 
 /// Writes a depth, a name of any length, and places.
@@ -110,13 +111,19 @@ fn put_by_parts<S: Sink>(
 }
 
 /// Writes a depth, a name and places.
-fn put_head<S: Sink>(out: &mut S, depth: u64, name: &[u8], places: Places) -> Result<(), SinkFault>
+fn put_head<S: Sink>(
+    out: &mut S,
+    line: &mut Tail,
+    depth: u64,
+    name: &[u8],
+    places: Places,
+) -> Result<(), SinkFault>
     ensures { Puts result (parted (decimal depth ∷ []) (name.now ++ spaced (decimal places.from ∷ decimal places.to
         ∷ spec.set_word (codes "start") (decimal places.start) ∷ spec.set_word (codes "end") (decimal places.end) ∷ [])))
         (S.output out.old) (S.faults out.old) (S.output out.new) (S.faults out.new) }
 {
     if name.len() <= SHORT {
-        put_at_once(out, depth, name, places)
+        put_at_once(out, line, depth, name, places)
     } else {
         put_by_parts(out, depth, name, places)
     }
@@ -142,25 +149,6 @@ fn put_attrs<S: Sink>(out: &mut S, tables: &Tables, attrs: &[(u32, i64)]) -> Res
     Ok(())
 }
 
-/// Writes a line of a depth, a name, places, and attributes.
-fn put_with_attrs<S: Sink>(
-    out: &mut S,
-    tables: &Tables,
-    depth: u64,
-    name: &[u8],
-    places: Places,
-    attrs: &[(u32, i64)],
-) -> Result<(), SinkFault>
-    ensures { (g : Grammar) → StandFor tables.now g
-        → Puts result (spec.line (decimal depth ∷ name.now ∷ decimal places.from ∷ decimal places.to ∷ spec.set_word (codes "start")
-        (decimal places.start) ∷ spec.set_word (codes "end") (decimal places.end) ∷ map (spec.attr_word g) attrs.now)) (S.output out.old) (S.faults out.old)
-        (S.output out.new) (S.faults out.new) }
-{
-    put_head(out, depth, name, places)?;
-    put_attrs(out, tables, attrs)?;
-    put(out, b"\n")
-}
-
 /// A place of a part that begins at `at`.
 fn place(at: u64, offset: u32) -> u64
     ensures { at + 2 ^ 32 ≤ 2 ^ 64 → result ≡ at + offset }
@@ -171,6 +159,7 @@ fn place(at: u64, offset: u32) -> u64
 /// Writes the line of a node whose part begins at `at`.
 fn put_row<A: Allocator + Clone + Drop, S: Sink>(
     out: &mut S,
+    line: &mut Tail,
     p: &Parsed<'_, A>,
     depth: u64,
     at: u64,
@@ -186,13 +175,18 @@ fn put_row<A: Allocator + Clone + Drop, S: Sink>(
         start: place(at, head.start),
         end: place(at, head.end),
     };
-    let name = rule_name(p.tables(), head.rule);
-    put_with_attrs(out, p.tables(), depth, name, places, p.attrs_at(node.attrs))
+    let tables = p.tables();
+    let attrs = p.attrs_at(node.attrs);
+    let name = rule_name(tables, head.rule);
+    put_head(out, line, depth, name, places)?;
+    put_attrs(out, tables, attrs)?;
+    put(out, b"\n")
 }
 
-/// Writes the line of the node of a visit; nothing where it comes to none.
+/// Writes the line of the node of a visit, which is made in `line`; nothing where it comes to none.
 pub(crate) fn put_node<A: Allocator + Clone + Drop, S: Sink>(
     out: &mut S,
+    line: &mut Tail,
     p: &Parsed<'_, A>,
     visit: Visit,
 ) -> Result<(), SinkFault>
@@ -201,7 +195,7 @@ pub(crate) fn put_node<A: Allocator + Clone + Drop, S: Sink>(
         → Puts result (head_line g visit.depth visit.from one) (S.output out.old) (S.faults out.old) (S.output out.new) (S.faults out.new) }
 {
     match visit.node {
-        Some(node) => put_row(out, p, visit.depth, visit.from, node),
+        Some(node) => put_row(out, line, p, visit.depth, visit.from, node),
         None => Ok(()),
     }
 }

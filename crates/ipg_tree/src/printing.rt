@@ -14,14 +14,16 @@ ghost use Rattle.ipg_tree.specs.Shares.{Shares, IsTree};
 use crate::leaf::{put_items, put_raw, put_text, put_value};
 use crate::line::put_node;
 use crate::names::text_of;
+use crate::tail::Tail;
 use ipg_nodes::Kid;
 use ipg_outside::{Sink, SinkFault};
 use ipg_parsed::{Parsed, Visit};
 use std::alloc::Allocator;
 
-/// Writes the line of a visit.
+/// Writes the line of a visit, which is made in `line` where it is short.
 fn put_visit<A: Allocator + Clone + Drop, S: Sink>(
     out: &mut S,
+    line: &mut Tail,
     p: &Parsed<'_, A>,
     visit: Visit,
 ) -> Result<(), SinkFault>
@@ -29,14 +31,14 @@ fn put_visit<A: Allocator + Clone + Drop, S: Sink>(
         → Puts result (line_of g one) (S.output out.old) (S.faults out.old) (S.output out.new) (S.faults out.new) }
 {
     match visit.kid {
-        Kid::Node { .. } => put_node(out, p, visit),
+        Kid::Node { .. } => put_node(out, line, p, visit),
         Kid::Text { sym, .. } => put_text(out, visit, text_of(p.tables(), sym)),
         Kid::Number {
             prim,
             high,
             low,
             ..
-        } => put_value(out, visit, prim, high, low),
+        } => put_value(out, line, visit, prim, high, low),
         Kid::Raw { .. } => put_raw(out, visit, p.part(visit.from, visit.to)),
         Kid::Array { sym, items } => put_items(out, p, visit, b"for", sym, items),
         Kid::Many { sym, items } => put_items(out, p, visit, b"many", sym, items),
@@ -53,8 +55,9 @@ pub fn print<A: Allocator + Clone + Drop, S: Sink>(
         → Puts result (spec.lines g one 0) (S.output out.old) (S.faults out.old) (S.output out.new) (S.faults out.new) }
 {
     p.rewind();
+    let mut line = Tail::new();
     while let Some(visit) = p.next() {
-        put_visit(out, p, visit)?;
+        put_visit(out, &mut line, p, visit)?;
     }
     Ok(())
 }

@@ -36,6 +36,13 @@ impl Tail {
         }
     }
 
+    /// Takes all bytes away, so that another line can be made in the same place.
+    pub(crate) fn clear(&mut self)
+        ensures { self.new ≡ [] }
+    {
+        self.start = ROOM;
+    }
+
     pub(crate) fn as_slice(&self) -> &[u8]
         ensures { result.now ≡ self.now }
     {

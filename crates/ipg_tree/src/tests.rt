@@ -1,4 +1,5 @@
 use crate::leaf::{put_raw, put_text, put_value};
+use crate::tail::Tail;
 use ipg_core::grammar::Primitive;
 use ipg_nodes::Kid;
 use ipg_outside::{MemSink, SinkFault};
@@ -18,13 +19,14 @@ fn at(depth: u64, from: u64, to: u64) -> Visit {
 #[test]
 fn lines_of_leaves(rt: HostRuntime) -> Result<(), Fail> {
     let mut out = MemSink::new(rt.alloc(), 1 << 10, &[])?;
+    let mut line = Tail::new();
     let bytes = [0xabu8; 33];
     let wrote = [
         put_text(&mut out, at(3, 1, 3), b"\x00\xff"),
         put_raw(&mut out, at(1, 9, 9), b""),
         put_raw(&mut out, at(2, 0, 33), &bytes),
-        put_value(&mut out, at(1, 0, 8), Primitive::U64LE, 1, 2),
-        put_value(&mut out, at(12, 8, 9), Primitive::U8, 0, 255),
+        put_value(&mut out, &mut line, at(1, 0, 8), Primitive::U64LE, 1, 2),
+        put_value(&mut out, &mut line, at(12, 8, 9), Primitive::U8, 0, 255),
     ];
     assert_eq!(rt; wrote, [Ok(()); 5]);
     let want =

@@ -1,15 +1,30 @@
-use Rattle.std.proofs.Common.{◌+◌, sym, ap, ◌∙◌, subst}
-use Rattle.ipg_core.specs.Lines.{rule_name}
+use Rattle.std.proofs.Common.{refl, sym, subst}
 use Rattle.ipg_table.specs.Rows.{StandFor}
-use Rattle.ipg_tree.proofs.Putting.{as_text}
-use Rattle.ipg_tree.proofs.Pieces.{head_words}
+use Rattle.ipg_tree.proofs.Putting.{begun, more, next, exits, ended}
+use Rattle.ipg_tree.proofs.Pieces.{row_pieces}
 use Rattle.ipg_tree.proofs.line.put_row.Goals as goal
+
+pub returns-in_err-put_head : goal.returns-in_err-put_head
+returns-in_err-put_head g c grammar one stand said small =
+    let stands = subst (λ t. StandFor t grammar) (sym c.tables-tables.ensures) stand in
+    let is = sym (row_pieces grammar c.args.p.now.parse.store c.args.node one c.args.depth c.args.at _ _ _ _ _ said
+    (c.rule_name-name.ensures grammar stands) (c.place.ensures small) (c.place-2.ensures small) (c.place-3.ensures small)
+    (c.attrs_at-attrs.ensures _ said.attrs)) in
+    exits _ c.from_residual.result c.from_residual.ensures.1 _ is (begun _ _ _) c.in_err-put_head.ensures
+
+pub returns-in_err-put_attrs : goal.returns-in_err-put_attrs
+returns-in_err-put_attrs g c grammar one stand said small =
+    let stands = subst (λ t. StandFor t grammar) (sym c.tables-tables.ensures) stand in
+    let is = sym (row_pieces grammar c.args.p.now.parse.store c.args.node one c.args.depth c.args.at _ _ _ _ _ said
+    (c.rule_name-name.ensures grammar stands) (c.place.ensures small) (c.place-2.ensures small) (c.place-3.ensures small)
+    (c.attrs_at-attrs.ensures _ said.attrs)) in
+    exits _ c.from_residual-in_err-put_attrs.result c.from_residual-in_err-put_attrs.ensures.1 _ refl
+    (next is (begun _ _ _) c.in_ok-put_head.ensures) (c.in_err-put_attrs.ensures grammar stands)
 
 pub returns : goal.returns
 returns g c grammar one stand said small =
-    let to = c.place.ensures small ∙ ap (λ n. c.args.at + n) said.size in
-    let name = c.rule_name-name.ensures grammar (subst (λ t. StandFor t grammar) (sym c.tables.ensures) stand) ∙ ap (rule_name grammar) said.rule in
-    let is = head_words grammar c.args.depth c.args.at one _ _ _ _ _ _ _ name to said.ends
-    (c.place-2.ensures small) (c.place-3.ensures small) (c.attrs_at.ensures _ said.attrs) in
-    as_text c.put_with_attrs.result _ _ _ _ _ _ is
-    (c.put_with_attrs.ensures grammar (subst (λ t. StandFor t grammar) (sym c.tables-2.ensures) stand))
+    let stands = subst (λ t. StandFor t grammar) (sym c.tables-tables.ensures) stand in
+    let is = sym (row_pieces grammar c.args.p.now.parse.store c.args.node one c.args.depth c.args.at _ _ _ _ _ said
+    (c.rule_name-name.ensures grammar stands) (c.place.ensures small) (c.place-2.ensures small) (c.place-3.ensures small)
+    (c.attrs_at-attrs.ensures _ said.attrs)) in
+    ended c.put.result _ _ (more (next is (begun _ _ _) c.in_ok-put_head.ensures) (c.in_ok-put_attrs.ensures grammar stands)) c.put.ensures
