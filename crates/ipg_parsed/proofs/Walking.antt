@@ -1,9 +1,10 @@
 -- What a walk has left, step by step.
 use Rattle.std.proofs.Common.{◌≡◌, ℕ, zero, suc, ◌+◌, ◌*◌, ◌^◌, ◌<◌, ◌≤◌, refl, sym, ap, ◌∙◌, subst, arith, max, List, [], ◌∷◌, ◌++◌, length, drop}
-use Rattle.std.proofs.Common.{Option, Some, None, add-one, inl, inr}
+use Rattle.std.proofs.Common.{Option, Some, None, add-one, drop-cons, inl, inr}
 use Rattle.std.proofs.lemmas.Bool.{cases_lt}
 use Rattle.std.specs.Prelude.{slice_get, MatchOption}
-use Rattle.std.proofs.lemmas.List.{append_assoc}
+use Rattle.std.proofs.lemmas.List.{append_assoc, drop_all}
+use Rattle.std.proofs.lemmas.Option.{slice_get_within, get_or_from_slice_get}
 use Rattle.ipg_core.specs.Tree as tree
 use Rattle.ipg_core.specs.Tree.{Tree, Kids, no_kids, kid}
 use Rattle.ipg_nodes.specs.declared.kid.Kid.{Kid}
@@ -13,7 +14,7 @@ use Rattle.ipg_parsed.specs.declared.walk.Taken.{Taken}
 use Rattle.ipg_parsed.specs.declared.walk.Visit.{Visit}
 use Rattle.ipg_parsed.specs.Stack.{Stacked}
 use Rattle.ipg_parsed.specs.Visits.{Seen, seen, kid_visits, kids_visits, kids_in, place_in, from_of}
-use Rattle.ipg_parsed.specs.Left.{NodeOf, Shows, RowsLeft, BeginsRows, Follows, Takes, TakesIf, IsOpen, Leave}
+use Rattle.ipg_parsed.specs.Left.{Shows, RowsLeft, BeginsRows, Follows, Takes, TakesIf, IsOpen, Leave}
 use Rattle.ipg_region.specs.declared.region.RunId.{RunId}
 
 -- a child is visited, and then what lies in it
@@ -35,21 +36,13 @@ place_near at (tree.Array sym items) = omega arith
 place_near at (tree.Many sym items) = omega arith
 
 row_at : (rows : List Kid) (n : ℕ) (k : Kid) → slice_get rows n ≡ Some k → drop n rows ≡ k ∷ drop (suc n) rows
-row_at [] n k e = absurd (cc)
-row_at (x ∷ rows) zero k e = let same : x ≡ k = cc in ap (λ r. r ∷ rows) same
-row_at (x ∷ rows) (suc n) k e = row_at rows n k e
+row_at rows n k e = drop-cons rows n k (slice_get_within rows n k e) ∙ ap (λ r. r ∷ drop (suc n) rows) (get_or_from_slice_get rows n k k e)
 
 no_row : (rows : List Kid) (n : ℕ) → slice_get rows n ≡ None → drop n rows ≡ []
 no_row [] zero e = refl
 no_row [] (suc n) e = refl
 no_row (x ∷ rows) zero e = absurd (cc)
 no_row (x ∷ rows) (suc n) e = no_row rows n e
-
-all_dropped : (rows : List Kid) (n : ℕ) → length rows ≤ n → drop n rows ≡ []
-all_dropped [] zero le = refl
-all_dropped [] (suc n) le = refl
-all_dropped (x ∷ rows) zero le = absurd (omega (arith, le))
-all_dropped (x ∷ rows) (suc n) le = all_dropped rows n (omega (arith, le))
 
 -- where a list's rows are known, what is left of them
 rows_left : (st : Stored) (list : Option RunId) (one : RunId) (next : ℕ) (all rows : List Kid) → list ≡ Some one
@@ -69,7 +62,7 @@ begins st level list all taken rows is known h left = (
         (subst (λ l. RowsLeft st l taken.rest.next (drop (level.next + 1) all)) (sym is) (
         let known_at = subst (λ l. RowsLeft st l level.next rows) is left in
         (all, known_at.1 ∙ ap Some (sym (known known_at.0 known_at.1)), ap (λ n. drop n all) (sym h.next))))
-    | inr ge ↦ subst (λ l. RowsLeft st l taken.rest.next (drop (level.next + 1) all)) (sym (h.none ge)) (all_dropped all (level.next + 1) ge)
+    | inr ge ↦ subst (λ l. RowsLeft st l taken.rest.next (drop (level.next + 1) all)) (sym (h.none ge)) (drop_all (level.next + 1) all ge)
   ],
 )
 
