@@ -35,14 +35,6 @@ rest_steps room around level rest is small =
     ap (λ n. n * wide ^ (room - length around) + steps room around) e
 
 module _ (room : ℕ) (around : List Level) (level rest : Level) (is : rest.next ≡ level.next + 1) (small : level.next + 1 < 2 ^ 64) where
-  no_room : (levels : List Level) → levels ≡ around → steps room levels < steps room (level ∷ around)
-  no_room levels same =
-      let p = (2 ^ 64 - level.next) * wide ^ (room - length around) in
-      let y = some_steps (room - length around) in
-      let e = ap (steps room) same in
-      let all = level_steps room around level in
-      omega (arith, y, e, all)
-
   put_back : (levels : List Level) → levels ≡ rest ∷ around → steps room levels < steps room (level ∷ around)
   put_back levels same =
       let y = some_steps (room - length around) in
@@ -61,29 +53,24 @@ module _ (room : ℕ) (around : List Level) (level rest : Level) (is : rest.next
       let long = ap (λ ls. wide ^ (room - length ls)) same in
       omega (arith, x, y, e, all, long, le)
 
-  falls_by : (pushed levels : List Level) → (length around < room → pushed ≡ rest ∷ around) → (room ≤ length around → pushed ≡ around)
-      → (room ≤ length pushed → levels ≡ pushed)
+  falls_by : (pushed levels : List Level) → pushed ≡ rest ∷ around → (room ≤ length pushed → levels ≡ pushed)
       → (length pushed < room → steps room levels ≤ (2 ^ 64 + 1) * wide ^ (room - length pushed) + steps room pushed)
       → steps room levels < steps room (level ∷ around)
-  falls_by pushed levels push full kept enter = elim (cases_lt (length around) room) [
-    | inl lt ↦ elim (cases_lt (length pushed) room) [
-      | inl less ↦ put_into pushed levels (push lt) lt (enter less)
-      | inr ge ↦
-          put_back levels (kept ge ∙ push lt)
-    ]
-    | inr ge ↦ no_room levels (kept (let e = ap length (full ge) in omega arith) ∙ full ge)
+  falls_by pushed levels put kept enter = elim (cases_lt (length pushed) room) [
+    | inl less ↦ put_into pushed levels put (let long = ap length put in omega (arith, long)) (enter less)
+    | inr ge ↦
+        put_back levels (kept ge ∙ put)
   ]
 
-  pub falls : (pushed entered : Stacked) → pushed.room ≡ room → entered.room ≡ pushed.room
-      → (length around < room → pushed.levels ≡ rest ∷ around) → (room ≤ length around → pushed.levels ≡ around)
+  pub falls : (pushed entered : Stacked) → pushed.room ≡ room → entered.room ≡ pushed.room → pushed.levels ≡ rest ∷ around
       → (pushed.room ≤ length pushed.levels → entered.levels ≡ pushed.levels)
       → (length pushed.levels < pushed.room
       → steps entered.room entered.levels ≤ (2 ^ 64 + 1) * wide ^ (pushed.room - length pushed.levels) + steps pushed.room pushed.levels)
       → steps entered.room entered.levels < steps room (level ∷ around)
-  falls pushed entered same also push full kept enter =
+  falls pushed entered same also put kept enter =
       let e = ap (λ r. steps r entered.levels) (also ∙ same) in
       let bound = ap (λ r. (2 ^ 64 + 1) * wide ^ (r - length pushed.levels) + steps r pushed.levels) same in
-      let less = falls_by pushed.levels entered.levels push full (λ h. kept (omega arith))
+      let less = falls_by pushed.levels entered.levels put (λ h. kept (omega arith))
       (λ lt. let le = enter (omega arith) in omega (arith, e, bound, le)) in
       omega (arith, e, less)
 

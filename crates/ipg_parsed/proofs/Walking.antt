@@ -150,19 +150,18 @@ module _ (src : Source) (st : Stored) where
 
   pub goes_on : (room : ℕ) (around : List Level) (level : Level) (taken : Taken) (one : Seen) (more : List Seen)
       → (pushed entered : Stacked) (depth : ℕ) (visit : Visit)
-      → room < 2 ^ 32 → depth ≡ length around
-      → pushed.room ≡ room → (length around < room → pushed.levels ≡ taken.rest ∷ around)
+      → room < 2 ^ 32 → depth ≡ length around + 1
+      → pushed.room ≡ room → pushed.levels ≡ taken.rest ∷ around
       → Entered pushed.room pushed.levels taken.rest.at taken.kid entered.room entered.levels
       → ((k : tree.Kid) → StandsKid src st taken.rest.at taken.kid k → from_of k < 2 ^ 32)
-      → ((k : tree.Kid) → StandsKid src st taken.rest.at taken.kid k → taken.rest.at + 2 ^ 33 ≤ 2 ^ 64 → Shows src st visit (seen (depth + 1) taken.rest.at k))
+      → ((k : tree.Kid) → StandsKid src st taken.rest.at taken.kid k → taken.rest.at + 2 ^ 33 ≤ 2 ^ 64 → Shows src st visit (seen depth taken.rest.at k))
       → Takes st level taken → Leave src st room (level ∷ around) (one ∷ more)
       → Shows src st visit one × Leave src st entered.room entered.levels more
-  goes_on room around level taken one more pushed entered depth visit small deep same push enter near shows takes leave =
+  goes_on room around level taken one more pushed entered depth visit small deep same is enter near shows takes leave =
       let at = taken.rest.at in
       let go = goes room around level taken (one ∷ more) takes leave in
       let fits = go.fits in
       let close = go.behind.near in
-      let is = push (omega arith) in
       let from = near go.one go.stands in
       let place = place_near at go.one in
       let behind = kids_visits (length around + 1) at go.kids ++ go.more in
@@ -176,7 +175,7 @@ module _ (src : Source) (st : Stored) where
         refl,
       ) in
       let inner = enter go.one behind go.stands (omega arith) (omega arith) (omega arith) rest in (
-        subst (Shows src st visit) (ap (λ d. seen (d + 1) at go.one) deep ∙ heads _ _ _ _ all) (shows go.one go.stands (omega arith)),
+        subst (Shows src st visit) (ap (λ d. seen d at go.one) deep ∙ heads _ _ _ _ all) (shows go.one go.stands (omega arith)),
         subst (Leave src st entered.room entered.levels)
             (ap (λ n. kids_visits (n + 1) (place_in at go.one) (kids_in go.one) ++ behind) long ∙ tails _ _ _ _ all) inner,
       )

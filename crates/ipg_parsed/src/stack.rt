@@ -1,6 +1,7 @@
 //! The levels of a walk.
 
 ghost use Rattle.std.specs.Prelude.{◌≡◌, ◌∷◌, [], ◌<◌, ◌≤◌, ◌^◌, length, IfOk, MatchOption};
+ghost use Rattle.ipg_parsed.specs.Stack.{IsLast, Replaces, Leaves};
 
 use ipg_region::RunId;
 use std::alloc::{AllocError, Allocator};
@@ -65,12 +66,29 @@ impl<A: Allocator + Clone + Drop> Stack<A> {
         }
     }
 
-    /// Takes the innermost level away.
-    pub(crate) fn pop(&mut self) -> Option<Level>
-        ensures room { self.new.room ≡ self.old.room }
-        ensures popped { MatchOption result ((self.old.levels ≡ []) × (self.new.levels ≡ [])) (λ level. self.old.levels ≡ level ∷ self.new.levels) }
+    /// The innermost level; None where there is none.
+    pub(crate) fn last(&self) -> Option<Level>
+        ensures { MatchOption result (self.now.levels ≡ []) (λ level. IsLast level self.now.levels) }
     {
-        self.levels.pop()
+        self.levels.last().copied()
+    }
+
+    /// Puts a level in the place of the innermost one.
+    pub(crate) fn replace(&mut self, level: Level)
+        ensures room { self.new.room ≡ self.old.room }
+        ensures replaced { Replaces level self.old.levels self.new.levels }
+    {
+        if let Some(_) = self.levels.pop() {
+            self.levels.push_reserved(level);
+        }
+    }
+
+    /// Takes the innermost level away.
+    pub(crate) fn leave(&mut self)
+        ensures room { self.new.room ≡ self.old.room }
+        ensures left { Leaves self.old.levels self.new.levels }
+    {
+        let _ = self.levels.pop();
     }
 
     pub(crate) fn clear(&mut self)

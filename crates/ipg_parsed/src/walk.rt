@@ -178,19 +178,20 @@ fn shown(depth: u64, at: u64, kid: Kid, node: Option<Node>) -> Visit
     }
 }
 
-/// The visit of a row that came next in the innermost level: that level is put back without it, and the level of what
-/// lies in the child is put into it.
+/// The visit of a row that came next in the innermost level: that level goes on without it, and the level of what lies in
+/// the child is put into it.
 #[inline(always)]
 fn go_on<A: Allocator + Clone + Drop>(store: &Store<A>, stack: &mut Stack<A>, taken: Taken) -> Visit
     ensures room { stack.new.room ≡ stack.old.room }
-    ensures ends { (level : Level) → Takes store.now level taken → steps stack.new.room stack.new.levels < steps stack.old.room (level ∷ stack.old.levels) }
-    ensures visited { (src : Source) (level : Level) (one : Seen) (more : List Seen) → Takes store.now level taken
-        → Leave src store.now stack.old.room (level ∷ stack.old.levels) (one ∷ more)
+    ensures ends { (level : Level) (around : List Level) → stack.old.levels ≡ level ∷ around → Takes store.now level taken
+        → steps stack.new.room stack.new.levels < steps stack.old.room (level ∷ around) }
+    ensures visited { (src : Source) (level : Level) (around : List Level) (one : Seen) (more : List Seen) → stack.old.levels ≡ level ∷ around
+        → Takes store.now level taken → Leave src store.now stack.old.room (level ∷ around) (one ∷ more)
         → Shows src store.now result one × Leave src store.now stack.new.room stack.new.levels more }
 {
-    let depth = stack.len() + 1;
+    let depth = stack.len();
     let at = taken.rest.at;
-    stack.push(taken.rest);
+    stack.replace(taken.rest);
     let node = node_of(store, taken.kid);
     let visit = shown(depth, at, taken.kid, node);
     enter(stack, taken.kid, node, at);
@@ -209,10 +210,11 @@ pub(crate) fn step<A: Allocator + Clone + Drop>(
     ensures more { (src : Source) (one : Seen) (more : List Seen) → Leave src store.now stack.old.room stack.old.levels (one ∷ more)
         → IsSomeAnd result (λ visit. Shows src store.now visit one) × Leave src store.now stack.new.room stack.new.levels more }
 {
-    while let Some(level) = stack.pop() {
+    while let Some(level) = stack.last() {
         if let Some(taken) = next_in(store, level) {
             return Some(go_on(store, stack, taken));
         }
+        stack.leave();
     }
     None
 }
