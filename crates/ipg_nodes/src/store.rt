@@ -126,10 +126,9 @@ impl<A: Allocator + Clone + Drop> Store<A> {
         ensures some { (node : Node) → slice_get self.now.nodes id.place ≡ Some (node ∷ []) → result ≡ Some node }
         ensures none { length self.now.nodes ≤ id.place → result ≡ None }
     {
-        if id.place < self.nodes.mark().place {
-            self.nodes.read(id).first().copied()
-        } else {
-            None
+        match self.nodes.get(id) {
+            Some(run) => run.first().copied(),
+            None => None,
         }
     }
 
@@ -137,10 +136,9 @@ impl<A: Allocator + Clone + Drop> Store<A> {
     pub fn kids(&self, list: RunId) -> &[Kid]
         ensures { (kids : List Kid) → slice_get self.now.kids list.place ≡ Some kids → result.now ≡ kids }
     {
-        if list.place < self.kids.mark().place {
-            self.kids.read(list)
-        } else {
-            &[]
+        match self.kids.get(list) {
+            Some(kids) => kids,
+            None => &[],
         }
     }
 
@@ -148,10 +146,9 @@ impl<A: Allocator + Clone + Drop> Store<A> {
     pub fn attrs(&self, list: RunId) -> &[(u32, i64)]
         ensures { (attrs : List (ℕ × ℤ)) → slice_get self.now.attrs list.place ≡ Some attrs → result.now ≡ attrs }
     {
-        if list.place < self.attrs.mark().place {
-            self.attrs.read(list)
-        } else {
-            &[]
+        match self.attrs.get(list) {
+            Some(attrs) => attrs,
+            None => &[],
         }
     }
 }

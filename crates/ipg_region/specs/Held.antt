@@ -1,5 +1,5 @@
 -- What a region holds: runs of items in the order they were placed, and room set aside for more.
-use Rattle.std.specs.Prelude.{ℕ, ◌-◌, max, List, [], ◌∷◌, ◌++◌, length, take}
+use Rattle.std.specs.Prelude.{ℕ, ◌-◌, ◌≤◌, List, [], ◌∷◌, ◌++◌, length, take}
 
 -- how many more runs, and how many more items in all
 pub record Room : Type 0 where
@@ -19,9 +19,10 @@ abbrev pub with_run : {T : Type 0} → Held T → List T → Held T
 with_run held run =
     record { runs = held.runs ++ run ∷ []; spare = record { runs = held.spare.runs - 1; items = held.spare.items - length run } }
 
--- the same runs, and room for at least so many runs and items
-abbrev pub with_room : {T : Type 0} → Held T → ℕ → ℕ → Held T
-with_room held runs items = record { runs = held.runs; spare = record { runs = max held.spare.runs runs; items = max held.spare.items items } }
+-- n runs and k items in all of them find room, at least
+pub record HasRoom {T : Type 0} (held : Held T) (n k : ℕ) : Type 0 where
+  pub runs : n ≤ held.spare.runs
+  pub items : k ≤ held.spare.items
 
 -- the runs before a place alone
 abbrev pub before : {T : Type 0} → Held T → ℕ → Held T

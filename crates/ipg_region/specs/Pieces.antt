@@ -3,6 +3,10 @@ use Rattle.std.specs.Prelude.{◌≡◌, ℕ, zero, suc, ◌-◌, ◌≤◌, ◌
 use Rattle.ipg_region.specs.Held.{Held}
 use Rattle.ipg_region.specs.declared.block.Block.TheInside.{Inside}
 
+-- no runs, and room for so many runs and items
+abbrev pub empty_for : {T : Type 0} → ℕ → ℕ → Held T
+empty_for runs items = record { runs = []; spare = record { runs = runs; items = items } }
+
 -- the items from `from` on, parted at the ends
 abbrev pub pieces : {T : Type 0} → List T → ℕ → List ℕ → List (List T)
 pieces items from [] = []

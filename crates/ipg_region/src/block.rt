@@ -1,6 +1,5 @@
-ghost use Rattle.std.specs.Prelude.{◌≡◌, ◌-◌, ◌^◌, ◌++◌, ◌∷◌, [], ◌<◌, ◌≤◌, length, take, drop, slice_get, Some, IsOk, IfOk, OnOk, OnErr};
-ghost use Rattle.ipg_region.specs.Held.{nothing_held, with_room};
-ghost use Rattle.ipg_region.specs.Pieces.{pieces, Rises, end_before};
+ghost use Rattle.std.specs.Prelude.{◌≡◌, ◌+◌, ◌-◌, ◌^◌, ◌++◌, ◌∷◌, [], ◌<◌, ◌≤◌, length, take, drop, slice_get, Some, IsOk, IfOk, OnOk, OnErr, MatchOption, vec_len, vec_capacity};
+ghost use Rattle.ipg_region.specs.Pieces.{pieces, Rises, end_before, empty_for};
 
 use std::alloc::{AllocError, Allocator};
 use std::marker::Model;
@@ -56,10 +55,24 @@ fn run_at<'a, T>(items: &'a [T], ends: &[u32], place: usize) -> &'a [T]
     between(items, start_of(ends, place), ends[place] as usize)
 }
 
+/// Puts items at the end, where there is room for them. Most runs have one, which takes no call.
+#[inline(always)]
+fn put<T: Copy, A: Allocator + Clone + Drop>(items: &mut Vec<T, A>, run: &[T])
+    requires { vec_len items.old + length run.now ≤ vec_capacity items.old }
+    ensures items { items.new.items ≡ items.old.items ++ run.now }
+    ensures capacity { vec_capacity items.old ≤ vec_capacity items.new }
+{
+    match run {
+        [] => {}
+        [item] => items.push_reserved(*item),
+        _ => items.extend_from_slice(run).unwrap(),
+    }
+}
+
 impl<T: Copy, A: Allocator + Clone + Drop> Block<T, A> {
     /// A block without runs, with room for so many runs and so many items in all.
     pub(crate) fn with_room(alloc: A, runs: usize, items: usize) -> Result<Block<T, A>, AllocError>
-        ensures { IfOk result (λ block. block ≡ with_room nothing_held runs items) }
+        ensures { IfOk result (λ block. block ≡ empty_for runs items) }
     {
         if items > MOST_ITEMS {
             return Err(AllocError);
@@ -103,6 +116,13 @@ impl<T: Copy, A: Allocator + Clone + Drop> Block<T, A> {
         self.items.capacity().min(MOST_ITEMS) - self.items.len()
     }
 
+    /// How many more runs find room.
+    pub(crate) fn run_room(&self) -> usize
+        ensures { result ≡ self.now.spare.runs }
+    {
+        self.ends.capacity() - self.ends.len()
+    }
+
     /// Makes room for so many more runs.
     pub(crate) fn reserve(&mut self, runs: usize) -> Result<(), AllocError>
         ensures kept { self.new.runs ≡ self.old.runs }
@@ -123,7 +143,7 @@ impl<T: Copy, A: Allocator + Clone + Drop> Block<T, A> {
         ensures runs { self.old.spare.runs - 1 ≤ self.new.spare.runs }
         ensures items { self.old.spare.items - length run.now ≤ self.new.spare.items }
     {
-        self.items.extend_from_slice(run).unwrap();
+        put(&mut self.items, run);
         self.ends.push_reserved(self.items.len() as u32);
     }
 
@@ -133,6 +153,17 @@ impl<T: Copy, A: Allocator + Clone + Drop> Block<T, A> {
         ensures { slice_get self.now.runs place ≡ Some result.now }
     {
         run_at(&self.items, &self.ends, place)
+    }
+
+    /// The items of a run; None where there is none at that place.
+    pub(crate) fn get(&self, place: usize) -> Option<&[T]>
+        ensures { MatchOption result (length self.now.runs ≤ place) (λ run. slice_get self.now.runs place ≡ Some run.now) }
+    {
+        if place < self.len() {
+            Some(self.read(place))
+        } else {
+            None
+        }
     }
 
     /// Takes the runs from this place on away.

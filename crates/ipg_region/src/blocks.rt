@@ -1,4 +1,4 @@
-ghost use Rattle.std.specs.Prelude.{◌≡◌, ◌-◌, ◌++◌, ◌∷◌, [], ◌<◌, ◌≤◌, length, take, slice_get, Some, IsOk, IfOk, OnOk, OnErr};
+ghost use Rattle.std.specs.Prelude.{◌≡◌, ◌-◌, ◌++◌, ◌∷◌, [], ◌<◌, ◌≤◌, length, take, slice_get, Some, IsOk, IfOk, OnOk, OnErr, MatchOption};
 ghost use Rattle.ipg_region.specs.Held.{nothing_held};
 ghost use Rattle.ipg_region.specs.Stack.{flat};
 
@@ -88,6 +88,20 @@ impl<T: Copy, A: Allocator + Clone + Drop> Blocks<T, A> {
         self.before + self.last.len()
     }
 
+    /// How many more items find room.
+    pub(crate) fn room(&self) -> usize
+        ensures { result ≡ self.now.spare.items }
+    {
+        self.last.room()
+    }
+
+    /// How many more runs find room.
+    pub(crate) fn run_room(&self) -> usize
+        ensures { result ≡ self.now.spare.runs }
+    {
+        self.last.run_room()
+    }
+
     /// Opens a block with at least this room. A last block without runs is given up for it.
     #[cold]
     #[inline(never)]
@@ -137,6 +151,7 @@ impl<T: Copy, A: Allocator + Clone + Drop> Blocks<T, A> {
     }
 
     /// Puts a run at the end, where there is room for it.
+    #[inline(always)]
     pub(crate) fn push(&mut self, run: &[T])
         requires one { 1 ≤ self.old.spare.runs }
         requires within { length run.now ≤ self.old.spare.items }
@@ -147,15 +162,14 @@ impl<T: Copy, A: Allocator + Clone + Drop> Blocks<T, A> {
         self.last.push(run);
     }
 
-    /// The items of a run.
-    pub(crate) fn read(&self, place: usize) -> &[T]
-        requires { place < length self.now.runs }
-        ensures { slice_get self.now.runs place ≡ Some result.now }
+    /// The items of a run; None where there is none at that place.
+    pub(crate) fn get(&self, place: usize) -> Option<&[T]>
+        ensures { MatchOption result (length self.now.runs ≤ place) (λ run. slice_get self.now.runs place ≡ Some run.now) }
     {
         if place < self.before {
-            read_in(&self.full, self.before, place)
+            Some(read_in(&self.full, self.before, place))
         } else {
-            self.last.read(place - self.before)
+            self.last.get(place - self.before)
         }
     }
 

@@ -1,5 +1,5 @@
-ghost use Rattle.std.specs.Prelude.{◌≡◌, ℕ, ◌+◌, ◌^◌, ◌<◌, ◌≤◌, length, slice_get, Some, IsOk, IfOk, OnOk, OnErr};
-ghost use Rattle.ipg_region.specs.Held.{nothing_held, with_run, with_room, before};
+ghost use Rattle.std.specs.Prelude.{◌≡◌, ℕ, ◌+◌, ◌^◌, ◌<◌, ◌≤◌, length, slice_get, Some, IsOk, IfOk, OnOk, OnErr, MatchOption};
+ghost use Rattle.ipg_region.specs.Held.{nothing_held, with_run, HasRoom, before};
 
 use crate::blocks::Blocks;
 use std::alloc::{AllocError, Allocator};
@@ -99,27 +99,51 @@ impl<T: Copy, A: Allocator + Clone + Drop> Region<T, A> {
         RunId { place }
     }
 
-    /// Sets room aside for this many runs, and this many items in all of them.
-    pub fn reserve(&mut self, runs: u32, items: u32) -> Result<(), AllocError>
-        ensures ok { OnOk result (self.new ≡ with_room self.old runs items) }
+    /// Makes room for this many runs, and this many items in all of them, and sets aside what there is: so the next runs
+    /// are covered. No more than `chunk` runs are set aside unasked, since a new block has room for all that are.
+    #[cold]
+    #[inline(never)]
+    fn set_aside(&mut self, runs: usize, items: usize) -> Result<(), AllocError>
+        ensures kept { self.new.runs ≡ self.old.runs }
+        ensures room { OnOk result (HasRoom self.new runs items) }
+        ensures more { OnOk result (HasRoom self.new self.old.spare.runs self.old.spare.items) }
         ensures err { OnErr result (self.new ≡ self.old) }
     {
-        let spare = Spare {
-            runs: self.spare.runs.max(runs as usize),
-            items: self.spare.items.max(items as usize),
+        let least = self.spare.runs.max(runs);
+        self.count(least)?;
+        self.blocks
+            .reserve(least, self.spare.items.max(items), self.chunk)?;
+        let places = u32::MAX as usize - self.blocks.len();
+        self.spare = Spare {
+            runs: least
+                .max(self.chunk)
+                .min(self.blocks.run_room())
+                .min(places),
+            items: self.blocks.room(),
         };
-        self.count(spare.runs)?;
-        self.blocks.reserve(spare.runs, spare.items, self.chunk)?;
-        self.spare = spare;
         Ok(())
     }
 
-    /// The items of a run.
-    pub fn read(&self, id: RunId) -> &[T]
-        requires { id.place < length self.now.runs }
-        ensures { slice_get self.now.runs id.place ≡ Some result.now }
+    /// Sets room aside for at least this many runs, and this many items in all of them.
+    #[inline(always)]
+    pub fn reserve(&mut self, runs: u32, items: u32) -> Result<(), AllocError>
+        ensures kept { self.new.runs ≡ self.old.runs }
+        ensures room { OnOk result (HasRoom self.new runs items) }
+        ensures more { OnOk result (HasRoom self.new self.old.spare.runs self.old.spare.items) }
+        ensures err { OnErr result (self.new ≡ self.old) }
     {
-        self.blocks.read(id.place as usize)
+        if runs as usize <= self.spare.runs && items as usize <= self.spare.items {
+            Ok(())
+        } else {
+            self.set_aside(runs as usize, items as usize)
+        }
+    }
+
+    /// The items of a run; None where there is none at that place.
+    pub fn get(&self, id: RunId) -> Option<&[T]>
+        ensures { MatchOption result (length self.now.runs ≤ id.place) (λ run. slice_get self.now.runs id.place ≡ Some run.now) }
+    {
+        self.blocks.get(id.place as usize)
     }
 
     /// The place that the next run gets.

@@ -16,10 +16,10 @@ fn places_reads_and_cuts<A: Allocator + Clone + Drop>(
     assert_eq!(rt; second.place, 1);
     region.cut(second);
     assert_eq!(rt; region.mark().place, 1);
-    assert!(rt; region.read(first) == [1, 2].as_slice());
+    assert!(rt; region.get(first) == Some([1, 2].as_slice()));
     region.reserve(1, 4)?;
     let again = region.place_spare(&[4, 5, 6, 7]);
-    assert!(rt; region.read(again) == [4, 5, 6, 7].as_slice());
+    assert!(rt; region.get(again) == Some([4, 5, 6, 7].as_slice()));
     Ok(())
 }
 
@@ -51,7 +51,7 @@ fn a_full_heap_reads_as_before(rt: HostRuntime) -> Result<(), Fail> {
     for place in 0..runs {
         let i = u64::from(place);
         assert!(rt; i < 4096);
-        assert!(rt; region.read(RunId { place }) == [i, 2 * i, 3 * i, 4 * i].as_slice());
+        assert!(rt; region.get(RunId { place }) == Some([i, 2 * i, 3 * i, 4 * i].as_slice()));
     }
     Ok(())
 }
@@ -66,15 +66,15 @@ fn reads_and_cuts_over_blocks(rt: HostRuntime) -> Result<(), Fail> {
     let used = heap.used();
     let runs = region.mark().place;
     assert_eq!(rt; runs, 100);
-    assert!(rt; region.read(RunId { place: 1 }) == [1, 2].as_slice());
-    assert!(rt; region.read(RunId { place: 50 }) == [50, 100].as_slice());
-    assert!(rt; region.read(RunId { place: 99 }) == [99, 198].as_slice());
+    assert!(rt; region.get(RunId { place: 1 }) == Some([1, 2].as_slice()));
+    assert!(rt; region.get(RunId { place: 50 }) == Some([50, 100].as_slice()));
+    assert!(rt; region.get(RunId { place: 99 }) == Some([99, 198].as_slice()));
     region.cut(RunId { place: 3 });
     assert!(rt; heap.used() < used);
     let next = region.place(&[7])?;
     assert_eq!(rt; next.place, 3);
-    assert!(rt; region.read(next) == [7].as_slice());
-    assert!(rt; region.read(RunId { place: 2 }) == [2, 4].as_slice());
+    assert!(rt; region.get(next) == Some([7].as_slice()));
+    assert!(rt; region.get(RunId { place: 2 }) == Some([2, 4].as_slice()));
     Ok(())
 }
 
