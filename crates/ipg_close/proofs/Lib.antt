@@ -6,8 +6,6 @@ pub mod Stores
 pub mod Past
 -- what children touch lies in their part
 pub mod Inside
--- how deep stored children lie
-pub mod Deep
 -- the rows of a node
 pub mod Rows
 -- the node of an alternative whose terms have all run

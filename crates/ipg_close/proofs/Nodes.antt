@@ -1,5 +1,5 @@
 -- The node of an alternative whose terms have all run.
-use Rattle.std.proofs.Common.{◌≡◌, ℕ, ◌+◌, ◌≤◌, sym, ap, ◌∙◌, subst, List, Some, Result, Ok, Err, IfOk, OnOk, length}
+use Rattle.std.proofs.Common.{◌≡◌, ℕ, ◌+◌, ◌≤◌, sym, ap, ◌∙◌, subst, arith, List, Some, Result, Ok, Err, IfOk, OnOk, length}
 use Rattle.std.specs.Prelude.{slice_get}
 use Rattle.ipg_core.specs.declared.grammar.CoreTerm.{CoreTerm}
 use Rattle.ipg_core.specs.Tree.{Kids, kids_of}
@@ -28,6 +28,10 @@ use Rattle.ipg_close.proofs.Rows as rows
 pub if_ok : {A E : Type 0} (answer : Result A E) (P Q : A → Type 0) (S : Type 0) → IfOk answer P → OnOk answer S → ((a : A) → P a → S → Q a) → IfOk answer Q
 if_ok (Ok a) P Q S h k go = go a h k
 if_ok (Err e) P Q S h k go = tt
+
+-- the levels of a node are one more than those of its children
+pub one_above : (ones : Kids) (n m : ℕ) → kids_levels ones ≤ n → m ≡ n + 1 → kids_levels ones + 1 ≤ m
+one_above ones n m h is = omega (arith, h, is)
 
 module _ (src : Source) (st : Stored) (at : ℕ) (t : Rows) (call : Closing) (f : Frame) (terms : List CoreTerm) (state : State)
     (closes : Closes src st at t call f terms state)
@@ -83,7 +87,7 @@ module _ (src : Source) (st : Stored) (at : ℕ) (t : Rows) (call : Closing) (f 
         → id.place ≡ length st.nodes → more ≡ with_node st head levels attrs list → attrs ≡ attrs_at call.own.now call.sets.now
         → list ≡ rows_done call.done.now
         → OfKids t st list (λ ones. AreFlat ones → KidsWithin call.size ones → head ≡ head_of call.rule call.size ones)
-        → ((src : Source) (at : ℕ) (ones : Kids) → StandKids src st at list ones → AreFlat ones → kids_levels ones + 1 ≤ levels)
+        → OfKids t st list (λ ones. AreFlat ones → kids_levels ones + 1 ≤ levels)
         → StandsTree src more at id (node_of f terms state) × TreeWithin call.size (node_of f terms state)
     closed stays grows more attrs list head levels id place is are_attrs are_kids heads deep =
         let there = subst (λ (rows : List Kid). StandKids src st at rows kids) (sym are_kids) stand in
@@ -91,5 +95,5 @@ module _ (src : Source) (st : Stored) (at : ℕ) (t : Rows) (call : Closing) (f 
         is ∙ ap (λ (vs : Values). with_node st head levels vs list) are_attrs ∙ ap (with_node st head levels (attrs_at call.own.now call.sets.now)) are_kids
         in
         let is_head = heads src at kids closes.syms there flat within in
-        let stands = node_stands stays grows head levels id place is_head (deep src at kids there flat) in
+        let stands = node_stands stays grows head levels id place is_head (deep src at kids closes.syms there flat) in
         (subst (λ (s : Stored). StandsTree src s at id (node_of f terms state)) (sym stored) stands, node_within)

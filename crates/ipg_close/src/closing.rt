@@ -1,22 +1,23 @@
 //! The node of a call whose terms have all run.
 
-ghost use Rattle.std.specs.Prelude.{◌≡◌, ℕ, List, min, IfOk, OnOk, OnErr};
+ghost use Rattle.std.specs.Prelude.{◌≡◌, ℕ, ◌+◌, ◌≤◌, ◌^◌, List, min, IfOk, OnOk, OnErr};
 ghost use Rattle.ipg_core.specs.declared.grammar.CoreTerm.{CoreTerm};
+ghost use Rattle.ipg_core.specs.Touch.{kids_touch, untouched};
+ghost use Rattle.ipg_core.specs.Tree.{Kids};
 ghost use Rattle.ipg_core.specs.Within.{KidsWithin, TreeWithin};
 ghost use Rattle.ipg_core.specs.Meaning.{Frame, State, node_of};
 ghost use Rattle.ipg_nodes.specs.Stored.{Source, StandsTree};
 ghost use Rattle.ipg_nodes.specs.Laws.{Grows};
 ghost use Rattle.ipg_fields.specs.Flat.{AreFlat};
-ghost use Rattle.ipg_fields.specs.Standing.{OfKids};
+ghost use Rattle.ipg_fields.specs.Ends.{ends_view};
 ghost use Rattle.ipg_close.specs.Closes.{Closes, head_of};
 
 use crate::laws::grows_on;
-use crate::levels::levels_over;
 use crate::scratch::{Scratch, put_attrs, put_kids};
-use ipg_fields::touched;
+use ipg_fields::{Ends, extent};
 use ipg_hand::Done;
 use ipg_nodes::laws::kids_stay;
-use ipg_nodes::{Head, Kid, RunId, Store};
+use ipg_nodes::{Head, RunId, Store};
 use ipg_table::tables::Tables;
 use std::alloc::{AllocError, Allocator};
 
@@ -38,21 +39,27 @@ fn within(place: u64, size: u32) -> u32
     place.min(u64::from(size)) as u32
 }
 
-/// The head of the node of these children.
-fn head<A: Allocator + Clone + Drop>(
-    tables: &Tables,
-    store: &Store<A>,
-    kids: &[Kid],
-    call: &Closing<'_>,
-) -> Head
-    ensures { OfKids tables.now store.now kids.now (λ ones. AreFlat ones → KidsWithin call.now.size ones → result ≡ head_of call.now.rule call.now.size ones) }
+/// The head of the node of a call whose results touch these ends.
+fn head(call: &Closing<'_>, ends: Ends) -> Head
+    ensures { (ones : Kids) → AreFlat ones → KidsWithin call.now.size ones → ends_view ends ≡ kids_touch ones (untouched call.now.size)
+        → result ≡ head_of call.now.rule call.now.size ones }
 {
-    let ends = touched(store, tables, kids, call.size);
     Head {
         rule: call.rule,
         size: call.size,
         start: within(ends.start, call.size),
         end: within(ends.end, call.size),
+    }
+}
+
+/// The levels of a node whose children have so many; 2^32 count as want of memory.
+fn above(levels: u64) -> Result<u32, AllocError>
+    requires { levels ≤ 2 ^ 32 }
+    ensures { IfOk result (λ more. more ≡ levels + 1) }
+{
+    match u32::try_from(levels + 1) {
+        Ok(more) => Ok(more),
+        Err(_) => Err(AllocError),
     }
 }
 
@@ -74,7 +81,12 @@ pub fn close<A: Allocator + Clone + Drop>(
     put_attrs(&mut scratch.attrs, call.sets, call.own)?;
     put_kids(&mut scratch.kids, call.done)?;
     let kids = scratch.kids.as_slice();
-    let head = head(tables, store, kids, call);
-    let levels = levels_over(store, kids)?;
-    store.add_node(head, levels, scratch.attrs.as_slice(), kids)
+    let extent = extent(store, tables, kids, call.size);
+    let levels = above(extent.levels)?;
+    store.add_node(
+        head(call, extent.ends),
+        levels,
+        scratch.attrs.as_slice(),
+        kids,
+    )
 }

@@ -3,7 +3,6 @@
 
 mod closing;
 pub mod laws;
-mod levels;
 mod results;
 mod scratch;
 #[cfg(test)]

@@ -1,6 +1,6 @@
 //! The rows of a node that is being made.
 
-ghost use Rattle.std.specs.Prelude.{◌≡◌, ◌++◌, OnOk};
+ghost use Rattle.std.specs.Prelude.{◌≡◌, ◌+◌, ◌<◌, ◌≤◌, ◌++◌, OnOk, vec_len, vec_capacity};
 ghost use Rattle.ipg_core.specs.Environment as environment;
 ghost use Rattle.ipg_core.specs.Meaning.{entry};
 ghost use Rattle.ipg_close.specs.Kept.{rows_done, attrs_at};
@@ -28,20 +28,20 @@ impl<A: Allocator + Clone + Drop> Scratch<A> {
     }
 }
 
-/// One attribute more, where it has a value.
+/// One attribute more, where it has a value; there is room for it.
 fn put_attr<A: Allocator + Clone + Drop>(
     attrs: &mut Vec<(u32, i64), A>,
     attr: u32,
     own: &[(u32, i64)],
-) -> Result<(), AllocError>
-    ensures { OnOk result (attrs.new.items ≡ attrs.old.items ++ entry attr (environment.value_at own.now attr)) }
+)
+    requires { vec_len attrs.old < vec_capacity attrs.old }
+    ensures items { attrs.new.items ≡ attrs.old.items ++ entry attr (environment.value_at own.now attr) }
+    ensures len { vec_len attrs.new ≤ vec_len attrs.old + 1 }
+    ensures capacity { vec_capacity attrs.new ≡ vec_capacity attrs.old }
 {
     match value_at(own, attr) {
-        Some(value) => {
-            attrs.push((attr, value))?;
-            Ok(())
-        }
-        None => Ok(()),
+        Some(value) => attrs.push_reserved((attr, value)),
+        None => {}
     }
 }
 
@@ -56,7 +56,7 @@ pub(crate) fn put_attrs<A: Allocator + Clone + Drop>(
     attrs.clear();
     attrs.reserve(sets.len())?;
     for attr in sets {
-        put_attr(attrs, *attr, own)?;
+        put_attr(attrs, *attr, own);
     }
     Ok(())
 }
@@ -72,7 +72,7 @@ pub(crate) fn put_kids<A: Allocator + Clone + Drop>(
     kids.reserve(done.len())?;
     for result in done {
         if let Some(one) = result {
-            kids.push(one.kid)?;
+            kids.push_reserved(one.kid);
         }
     }
     Ok(())

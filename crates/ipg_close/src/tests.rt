@@ -1,12 +1,11 @@
-use crate::levels::levels_over;
 use crate::scratch::{put_attrs, put_kids};
 use crate::{array, repetition};
 use ipg_hand::Done;
 use ipg_nodes::{Head, Kid, Store};
 use std::test::Fail;
 
-/// The rows and the levels of a node over a number, a switch that took a node, and a repetition of that node; the
-/// attribute 4, set last, and 9, which has no value.
+/// The rows of a node over raw bytes, a switch that took a node, and a repetition of that node; the attribute 4, set
+/// last, and 9, which has no value.
 #[test]
 fn rows_of_a_node(rt: HostRuntime) -> Result<(), Fail> {
     let mut store = Store::new(rt.alloc())?;
@@ -35,12 +34,10 @@ fn rows_of_a_node(rt: HostRuntime) -> Result<(), Fail> {
         &[None, Some(first), Some(taken), None, Some(many)],
     )?;
     assert!(rt; kids.as_slice() == [raw, node, many.kid].as_slice());
-    assert_eq!(rt; levels_over(&store, kids.as_slice())?, 5);
     let mut attrs = Vec::new(rt.alloc());
     put_attrs(&mut attrs, &[4, 9, 7], &[(7, -1), (4, 6)])?;
     assert!(rt; attrs.as_slice() == [(4, 6), (7, -1)].as_slice());
     let empty = array(&mut store, 5, &[])?;
     assert!(rt; !empty.is_switch);
-    assert_eq!(rt; levels_over(&store, &[empty.kid])?, 2);
     Ok(())
 }

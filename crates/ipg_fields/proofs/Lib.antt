@@ -6,3 +6,5 @@ pub mod Alone
 pub mod Touching
 -- ends of 63 bits
 pub mod Short
+-- how deep stored children lie
+pub mod Deep

@@ -1,11 +1,12 @@
 //! The heads and the attributes of nodes.
 
-ghost use Rattle.std.specs.Prelude.{◌≡◌};
+ghost use Rattle.std.specs.Prelude.{◌≡◌, ◌≤◌};
 ghost use Rattle.ipg_core.specs.Environment as spec;
 ghost use Rattle.ipg_core.specs.Tree.{attrs_of};
+ghost use Rattle.ipg_nodes.specs.Stored.{tree_levels};
 ghost use Rattle.ipg_fields.specs.Standing.{OfTree, IsHead};
 
-use ipg_nodes::{Head, RunId, Store};
+use ipg_nodes::{Head, Node, RunId, Store};
 use std::alloc::Allocator;
 
 /// The value of an attribute, by its first entry; None where there is none.
@@ -30,17 +31,30 @@ pub fn attr<A: Allocator + Clone + Drop>(store: &Store<A>, id: RunId, name: u32)
     }
 }
 
+/// The node at a place; all 0 where there is none.
+pub(crate) fn node_at<A: Allocator + Clone + Drop>(store: &Store<A>, id: RunId) -> Node
+    ensures head { OfTree store.now id (λ one. IsHead result.head one) }
+    ensures levels { OfTree store.now id (λ one. tree_levels one ≤ result.levels) }
+{
+    match store.node(id) {
+        Some(node) => node,
+        None => Node {
+            head: Head {
+                rule: 0,
+                size: 0,
+                start: 0,
+                end: 0,
+            },
+            levels: 0,
+            attrs: RunId { place: 0 },
+            kids: RunId { place: 0 },
+        },
+    }
+}
+
 /// The head of a node; all 0 where there is none.
 pub(crate) fn head<A: Allocator + Clone + Drop>(store: &Store<A>, id: RunId) -> Head
     ensures { OfTree store.now id (λ one. IsHead result one) }
 {
-    match store.node(id) {
-        Some(node) => node.head,
-        None => Head {
-            rule: 0,
-            size: 0,
-            start: 0,
-            end: 0,
-        },
-    }
+    node_at(store, id).head
 }

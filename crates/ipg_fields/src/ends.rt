@@ -1,14 +1,16 @@
 //! Which bytes a stored child touches.
 
-ghost use Rattle.std.specs.Prelude.{◌≡◌, ℕ, ◌-◌, ◌≤◌, List, length, slice_get, Some};
+ghost use Rattle.std.specs.Prelude.{◌≡◌, ℕ, ◌-◌, ◌^◌, ◌<◌, ◌≤◌, false, List, length, slice_get, Some};
 ghost use Rattle.ipg_core.specs.declared.grammar.Sym.TheVariants.{Text};
 ghost use Rattle.ipg_core.specs.Touch as spec;
-ghost use Rattle.ipg_fields.specs.Standing.{OfKid};
+ghost use Rattle.ipg_nodes.specs.Stored.{tree_levels, kid_levels};
+ghost use Rattle.ipg_fields.specs.Standing.{OfKid, OfTree};
+ghost use Rattle.ipg_fields.specs.Flat.{has_items};
 ghost use Rattle.ipg_fields.specs.Ends.{ends_view};
 
-use crate::attrs::head;
+use crate::attrs::node_at;
 use ipg_core::grammar::{Primitive, Sym};
-use ipg_nodes::{Head, Kid, Store};
+use ipg_nodes::{Head, Kid, RunId, Store};
 use ipg_table::tables::Tables;
 use std::alloc::Allocator;
 
@@ -17,6 +19,13 @@ use std::alloc::Allocator;
 pub struct Ends {
     pub start: u64,
     pub end: u64,
+}
+
+/// What is touched, and how many lists of children and of items lie within one another there at most.
+#[derive(Clone, Copy, Debug, PartialEq, Eq)]
+pub struct Extent {
+    pub ends: Ends,
+    pub levels: u64,
 }
 
 /// Whether there are bytes between the ends.
@@ -103,19 +112,53 @@ fn node_ends(from: u32, head: Head) -> Ends
     }
 }
 
+/// What has no lists within it.
+fn leaf(ends: Ends) -> Extent
+    ensures { result ≡ record { ends = ends; levels = 0 } }
+{
+    Extent { ends, levels: 0 }
+}
+
+/// The extent of a node whose part begins at `from`.
+fn node_extent<A: Allocator + Clone + Drop>(store: &Store<A>, id: RunId, from: u32) -> Extent
+    ensures ends { OfTree store.now id (λ one. ends_view result.ends ≡ spec.moved from (spec.tree_ends one)) }
+    ensures levels { OfTree store.now id (λ one. tree_levels one ≤ result.levels) }
+    ensures small { result.levels < 2 ^ 32 }
+{
+    let node = node_at(store, id);
+    Extent {
+        ends: node_ends(from, node.head),
+        levels: u64::from(node.levels),
+    }
+}
+
+/// The extent of a child, but for the items of an array or a repetition.
+#[inline(always)]
+pub(crate) fn extent_of<A: Allocator + Clone + Drop>(
+    store: &Store<A>,
+    tables: &Tables,
+    kid: Kid,
+) -> Extent
+    ensures ends { OfKid tables.now store.now kid (λ one. ends_view result.ends ≡ spec.ends_of one) }
+    ensures levels { OfKid tables.now store.now kid (λ one. has_items one ≡ false → kid_levels one ≤ result.levels) }
+    ensures small { result.levels < 2 ^ 32 }
+{
+    match kid {
+        Kid::Node { id, from, .. } => node_extent(store, id, from),
+        Kid::Text { sym, from, to } => leaf(text_ends(from, to, text(tables, sym))),
+        Kid::Number { prim, from, to, .. } => leaf(number_ends(from, to, prim)),
+        Kid::Raw { from, to } => leaf(Ends {
+            start: u64::from(from),
+            end: u64::from(to),
+        }),
+        Kid::Array { .. } => leaf(Ends { start: 0, end: 0 }),
+        Kid::Many { .. } => leaf(Ends { start: 0, end: 0 }),
+    }
+}
+
 /// The ends of a child in its parent's part.
 pub fn ends_of<A: Allocator + Clone + Drop>(store: &Store<A>, tables: &Tables, kid: Kid) -> Ends
     ensures { OfKid tables.now store.now kid (λ one. ends_view result ≡ spec.ends_of one) }
 {
-    match kid {
-        Kid::Node { id, from, .. } => node_ends(from, head(store, id)),
-        Kid::Text { sym, from, to } => text_ends(from, to, text(tables, sym)),
-        Kid::Number { prim, from, to, .. } => number_ends(from, to, prim),
-        Kid::Raw { from, to } => Ends {
-            start: u64::from(from),
-            end: u64::from(to),
-        },
-        Kid::Array { .. } => Ends { start: 0, end: 0 },
-        Kid::Many { .. } => Ends { start: 0, end: 0 },
-    }
+    extent_of(store, tables, kid).ends
 }

@@ -1,13 +1,14 @@
-//! What the children of a node touch.
+//! What the children of a node touch, and how deep they lie.
 
-ghost use Rattle.std.specs.Prelude.{◌≡◌};
+ghost use Rattle.std.specs.Prelude.{◌≡◌, ◌^◌, ◌<◌, ◌≤◌, max};
 ghost use Rattle.ipg_core.specs.Touch as spec;
 ghost use Rattle.ipg_core.specs.Tree.{items_of as items_in};
+ghost use Rattle.ipg_nodes.specs.Stored.{kid_levels, kids_levels};
 ghost use Rattle.ipg_fields.specs.Standing.{OfKid, OfKids};
 ghost use Rattle.ipg_fields.specs.Flat.{AreItems, AreFlat};
 ghost use Rattle.ipg_fields.specs.Ends.{ends_view};
 
-use crate::ends::{Ends, ends_of, touches};
+use crate::ends::{Ends, Extent, extent_of, touches};
 use crate::fields::has_items;
 use crate::items::items_of;
 use ipg_nodes::{Kid, Store};
@@ -31,54 +32,81 @@ fn together(a: Ends, b: Ends) -> Ends
     }
 }
 
-/// What the items of an array or a repetition touch together, else `none`.
-fn items_touch<A: Allocator + Clone + Drop>(
+/// The extent of two results together.
+fn extent_together(a: Extent, b: Extent) -> Extent
+    ensures ends { ends_view result.ends ≡ spec.together (ends_view a.ends) (ends_view b.ends) }
+    ensures levels { result.levels ≡ max a.levels b.levels }
+{
+    Extent {
+        ends: together(a.ends, b.ends),
+        levels: a.levels.max(b.levels),
+    }
+}
+
+/// The extent of the items of an array or a repetition together, which touch `none` where there are none.
+fn items_extent<A: Allocator + Clone + Drop>(
     store: &Store<A>,
     tables: &Tables,
     items: &[Kid],
     none: Ends,
-) -> Ends
-    ensures { OfKids tables.now store.now items.now (λ ones. AreItems ones → ends_view result ≡ spec.kids_touch ones (ends_view none)) }
+) -> Extent
+    ensures ends { OfKids tables.now store.now items.now (λ ones. AreItems ones → ends_view result.ends ≡ spec.kids_touch ones (ends_view none)) }
+    ensures levels { OfKids tables.now store.now items.now (λ ones. AreItems ones → kids_levels ones ≤ result.levels) }
+    ensures small { result.levels < 2 ^ 32 }
 {
-    let mut ends = none;
+    let mut extent = Extent {
+        ends: none,
+        levels: 0,
+    };
     for at in (0..items.len()).rev() {
-        ends = together(ends_of(store, tables, items[at]), ends);
+        extent = extent_together(extent_of(store, tables, items[at]), extent);
     }
-    ends
+    extent
 }
 
-/// What a child touches, else `none`.
-fn kid_touches<A: Allocator + Clone + Drop>(
+/// The extent of a child, whose items touch `none` where it has none.
+fn kid_extent<A: Allocator + Clone + Drop>(
     store: &Store<A>,
     tables: &Tables,
     kid: Kid,
     none: Ends,
-) -> Ends
-    ensures { OfKid tables.now store.now kid (λ one. AreItems (items_in one) → ends_view result ≡ spec.kid_touches one (ends_view none)) }
+) -> Extent
+    ensures ends { OfKid tables.now store.now kid (λ one. AreItems (items_in one) → ends_view result.ends ≡ spec.kid_touches one (ends_view none)) }
+    ensures levels { OfKid tables.now store.now kid (λ one. AreItems (items_in one) → kid_levels one ≤ result.levels) }
+    ensures small { result.levels ≤ 2 ^ 32 }
 {
     if has_items(kid) {
-        items_touch(store, tables, items_of(store, kid), none)
+        let items = items_extent(store, tables, items_of(store, kid), none);
+        Extent {
+            ends: items.ends,
+            levels: items.levels + 1,
+        }
     } else {
-        ends_of(store, tables, kid)
+        extent_of(store, tables, kid)
     }
 }
 
-/// What the children of a node touch together, in a part of so many bytes, where no item is an array or a repetition.
-pub fn touched<A: Allocator + Clone + Drop>(
+/// The extent of the children of a node together, in a part of so many bytes, where no item is an array or a repetition.
+pub fn extent<A: Allocator + Clone + Drop>(
     store: &Store<A>,
     tables: &Tables,
     kids: &[Kid],
     size: u32,
-) -> Ends
-    ensures { OfKids tables.now store.now kids.now (λ ones. AreFlat ones → ends_view result ≡ spec.kids_touch ones (spec.untouched size)) }
+) -> Extent
+    ensures ends { OfKids tables.now store.now kids.now (λ ones. AreFlat ones → ends_view result.ends ≡ spec.kids_touch ones (spec.untouched size)) }
+    ensures levels { OfKids tables.now store.now kids.now (λ ones. AreFlat ones → kids_levels ones ≤ result.levels) }
+    ensures small { result.levels ≤ 2 ^ 32 }
 {
     let none = Ends {
         start: u64::from(size),
         end: 0,
     };
-    let mut ends = none;
+    let mut extent = Extent {
+        ends: none,
+        levels: 0,
+    };
     for at in (0..kids.len()).rev() {
-        ends = together(kid_touches(store, tables, kids[at], none), ends);
+        extent = extent_together(kid_extent(store, tables, kids[at], none), extent);
     }
-    ends
+    extent
 }

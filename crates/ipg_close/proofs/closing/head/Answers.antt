@@ -3,6 +3,6 @@ use Rattle.ipg_close.proofs.Inside as inside
 use Rattle.ipg_close.proofs.closing.head.Goals as goal
 
 pub returns : goal.returns
-returns g c src at ones e h flat within =
-    inside.head_is c.args.call.now.rule c.args.call.now.size ones (ends_view c.touched-ends.result) c.within.result c.within-2.result flat within
-    (c.touched-ends.ensures src at ones e h flat) c.within.ensures c.within-2.ensures
+returns c ones flat within touched =
+    inside.head_is c.args.call.now.rule c.args.call.now.size ones (ends_view c.args.ends) c.within.result c.within-2.result flat within
+    touched c.within.ensures c.within-2.ensures
