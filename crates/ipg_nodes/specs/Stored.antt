@@ -1,5 +1,5 @@
 -- What a store of nodes holds, and which tree of the meaning stands at a place of it.
-use Rattle.std.specs.Prelude.{◌≡◌, ℕ, ◌+◌, ◌≤◌, List, [], ◌∷◌, ◌++◌, take, length, max, slice_get, Some, ℤ}
+use Rattle.std.specs.Prelude.{◌≡◌, ℕ, ◌+◌, ◌≤◌, List, [], ◌∷◌, ◌++◌, map, take, length, max, slice_get, Some, ℤ}
 use Rattle.ipg_core.specs.declared.grammar.Sym.{Sym}
 use Rattle.ipg_core.specs.declared.grammar.Sym.TheVariants.{Text}
 use Rattle.ipg_core.specs.Part.{part}
@@ -17,6 +17,10 @@ pub record Stored : Type 0 where
   pub nodes : List (List Node)
   pub kids : List (List Kid)
   pub attrs : List (List (ℕ × ℤ))
+
+-- nodes, each as a run of its own
+abbrev pub each : List Node → List (List Node)
+each nodes = map (λ node. node ∷ []) nodes
 
 abbrev pub nothing : Stored
 nothing = record { nodes = []; kids = []; attrs = [] }

@@ -4,7 +4,7 @@ ghost use Rattle.std.specs.Prelude.{◌≡◌, ◌≤◌, ℕ, ℤ, List, ◌∷
 ghost use Rattle.ipg_nodes.specs.Stored.{nothing, with_list, with_node, before, IsEnd};
 
 use crate::kid::{Head, Kid, Node};
-use ipg_region::{Region, RunId};
+use ipg_region::{Cells, Region, RunId};
 use std::alloc::{AllocError, Allocator};
 use std::marker::Model;
 
@@ -19,17 +19,17 @@ pub struct Mark {
 /// Nodes, lists of children or items, and lists of attributes with their values.
 #[derive(Drop)]
 pub struct Store<A: Allocator> {
-    nodes: Region<Node, A>,
+    nodes: Cells<Node, A>,
     kids: Region<Kid, A>,
     attrs: Region<(u32, i64), A>,
 }
 
 impl<A: Allocator> Model for Store<A> {
-    ghost use Rattle.ipg_nodes.specs.Stored.{Stored};
+    ghost use Rattle.ipg_nodes.specs.Stored.{Stored, each};
 
     ghost Value = { Stored };
 
-    ghost view = { λ a. record { nodes = a.nodes.runs; kids = a.kids.runs; attrs = a.attrs.runs } };
+    ghost view = { λ a. record { nodes = each a.nodes.items; kids = a.kids.runs; attrs = a.attrs.runs } };
 }
 
 /// So many rows at least are asked for at once.
@@ -59,7 +59,7 @@ impl<A: Allocator + Clone + Drop> Store<A> {
     pub fn new(alloc: A) -> Result<Store<A>, AllocError>
         ensures { IfOk result (λ store. store ≡ nothing) }
     {
-        let nodes = Region::new(alloc.clone()?, CHUNK)?;
+        let nodes = Cells::new(alloc.clone()?)?;
         let kids = Region::new(alloc.clone()?, CHUNK)?;
         let attrs = Region::new(alloc, CHUNK)?;
         Ok(Store { nodes, kids, attrs })
@@ -80,7 +80,7 @@ impl<A: Allocator + Clone + Drop> Store<A> {
     pub fn cut(&mut self, mark: Mark)
         ensures { self.new ≡ before self.old mark }
     {
-        cut_to(&mut self.nodes, mark.nodes);
+        self.nodes.cut(mark.nodes);
         cut_to(&mut self.kids, mark.kids);
         cut_to(&mut self.attrs, mark.attrs);
     }
@@ -108,16 +108,16 @@ impl<A: Allocator + Clone + Drop> Store<A> {
     {
         self.attrs.reserve(1, count(attrs.len())?)?;
         self.kids.reserve(1, count(kids.len())?)?;
-        self.nodes.reserve(1, 1)?;
+        self.nodes.reserve()?;
         let attrs = self.attrs.place_spare(attrs);
         let kids = self.kids.place_spare(kids);
         Ok(
-            self.nodes.place_spare(&[Node {
+            self.nodes.place_spare(Node {
                 head,
                 levels,
                 attrs,
                 kids,
-            }]),
+            }),
         )
     }
 
@@ -126,10 +126,7 @@ impl<A: Allocator + Clone + Drop> Store<A> {
         ensures some { (node : Node) → slice_get self.now.nodes id.place ≡ Some (node ∷ []) → result ≡ Some node }
         ensures none { length self.now.nodes ≤ id.place → result ≡ None }
     {
-        match self.nodes.get(id) {
-            Some(run) => run.first().copied(),
-            None => None,
-        }
+        self.nodes.get(id)
     }
 
     /// A list of children or items; empty where there is none.

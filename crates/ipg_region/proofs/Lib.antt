@@ -1,3 +1,4 @@
 pub mod PiecesLemmas
 pub mod StackLemmas
 pub mod PiledLemmas
+pub mod ChunksLemmas

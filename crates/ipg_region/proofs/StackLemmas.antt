@@ -18,7 +18,7 @@ pub length_last : {T : Type 0} (xs : List (Held T)) (x : Held T) → length (fla
 length_last xs x = ap length (flat_last xs x) ∙ length-append (flat xs) x.runs
 
 -- what is taken of two lists reaches into the second one
-take_over : {X : Type 0} (xs ys : List X) (n : ℕ) → length xs ≤ n → take n (xs ++ ys) ≡ xs ++ take (n - length xs) ys
+pub take_over : {X : Type 0} (xs ys : List X) (n : ℕ) → length xs ≤ n → take n (xs ++ ys) ≡ xs ++ take (n - length xs) ys
 take_over xs ys n h =
     let split : n ≡ length xs + (n - length xs) = omega arith in
     ap (λ m. take m (xs ++ ys)) split ∙ take-append-add xs ys (n - length xs)
@@ -29,13 +29,13 @@ none_left [] zero h = refl
 none_left [] (suc to) h = refl
 none_left (block ∷ blocks) to h = absurd (omega (arith, h))
 
-slice_get-append-left : {X : Type 0} (xs ys : List X) (k : ℕ) → k < length xs → slice_get (xs ++ ys) k ≡ slice_get xs k
+pub slice_get-append-left : {X : Type 0} (xs ys : List X) (k : ℕ) → k < length xs → slice_get (xs ++ ys) k ≡ slice_get xs k
 slice_get-append-left [] ys k h = absurd (omega arith)
 slice_get-append-left (x ∷ xs) ys zero h = refl
 slice_get-append-left (x ∷ xs) ys (suc k) h = slice_get-append-left xs ys k (omega arith)
 
 -- a place behind the first of two lists is a place of the second
-slice_get_over : {X : Type 0} (xs ys : List X) (k : ℕ) → length xs ≤ k → slice_get (xs ++ ys) k ≡ slice_get ys (k - length xs)
+pub slice_get_over : {X : Type 0} (xs ys : List X) (k : ℕ) → length xs ≤ k → slice_get (xs ++ ys) k ≡ slice_get ys (k - length xs)
 slice_get_over [] ys k h = ap (slice_get ys) (omega arith)
 slice_get_over (x ∷ xs) ys zero h = absurd (omega arith)
 slice_get_over (x ∷ xs) ys (suc k) h = slice_get_over xs ys k (omega arith) ∙ ap (slice_get ys) (omega arith)

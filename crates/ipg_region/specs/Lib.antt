@@ -8,3 +8,7 @@ pub mod Stack
 pub mod Stacked
 -- What the blocks of a stack promise each other.
 pub mod Piled
+-- What cells hold.
+pub mod Filled
+-- What the chunks of cells promise each other.
+pub mod Chunks

@@ -79,6 +79,27 @@ fn reads_and_cuts_over_blocks(rt: HostRuntime) -> Result<(), Fail> {
 }
 
 #[test]
+fn cells_over_chunks(rt: HostRuntime) -> Result<(), Fail> {
+    let heap = LocalHeap::new(rt.alloc(), 1 << 16)?;
+    let mut cells = Cells::new(&heap)?;
+    for i in 0..1000u64 {
+        cells.reserve()?;
+        assert_eq!(rt; cells.place_spare(i).place as u64, i);
+    }
+    let used = heap.used();
+    for place in 0..1000u32 {
+        assert_eq!(rt; cells.get(RunId { place }), Some(u64::from(place)));
+    }
+    assert_eq!(rt; cells.get(RunId { place: 1000 }), None);
+    cells.cut(RunId { place: 300 });
+    assert!(rt; heap.used() < used);
+    assert_eq!(rt; cells.mark().place, 300);
+    assert_eq!(rt; cells.get(RunId { place: 299 }), Some(299));
+    assert_eq!(rt; cells.get(RunId { place: 300 }), None);
+    Ok(())
+}
+
+#[test]
 fn stacks_over_blocks(rt: HostRuntime) -> Result<(), Fail> {
     let heap = LocalHeap::new(rt.alloc(), 1 << 16)?;
     let mut stack = Stack::new(&heap)?;
