@@ -60,7 +60,7 @@ chained Range f k go h = refl
 
 -- rows
 
-put_is : (room : ℕ) (answer : Answer) (skip : ℕ) (stack : List ℤ) (next : Next) → length stack < room
+pub put_is : (room : ℕ) (answer : Answer) (skip : ℕ) (stack : List ℤ) (next : Next) → length stack < room
     → put room answer skip stack next ≡ on_value (on_value answer limited) (λ z. next skip (z ∷ stack))
 put_is room answer skip stack next h =
     ap (λ b. on_value (on_value answer limited) (λ z. if b then next skip (z ∷ stack) else Fail)) (lt-ltb (length stack) room h)

@@ -1,11 +1,16 @@
 -- One row after another, as the loop takes them.
-use Rattle.std.proofs.Common.{◌≡◌, ℕ, zero, suc, ◌+◌, ◌<◌, ◌≤◌, List, [], ◌∷◌, length, drop, get_or, refl, sym, ap, ◌∙◌, arith, ℤ, Option, Some, None, IfSome}
+use Rattle.std.proofs.Common.{◌≡◌, ℕ, zero, suc, ◌+◌, ◌<◌, ◌≤◌, List, [], ◌∷◌, length, drop, get_or, refl, sym, ap, subst, ◌∙◌, arith, ℤ, Option, Some, None, IfSome}
+use Rattle.ipg_num.specs.Number.{limited, apply_of}
+use Rattle.ipg_num.specs.declared.op.Op2.{Op2}
 use Rattle.ipg_num.specs.declared.op.Answer.{Answer}
 use Rattle.ipg_num.specs.declared.op.Answer.TheVariants.{Val}
 use Rattle.ipg_core.specs.Environment.{Environment}
+use Rattle.ipg_core.specs.Eval.{on_value}
 use Rattle.ipg_table.specs.declared.row.Op.{Op}
+use Rattle.ipg_table.specs.declared.row.Op.TheVariants.{Two}
 use Rattle.ipg_table.specs.Running.{Next, computed, on_top, run}
 use Rattle.ipg_table.specs.Stack.{Puts}
+use Rattle.ipg_table.proofs.Runs.{put_is}
 
 run_drop : (env : Environment) (room k : ℕ) (ops : List Op) (stack : List ℤ) → run env room k ops stack ≡ run env room 0 (drop k ops) stack
 run_drop env room zero [] stack = refl
@@ -41,3 +46,24 @@ one_run env room (x ∷ y ∷ ops) op number is one within puts = absurd (omega 
 one_run env room (x ∷ []) op None is one within puts = puts
 one_run env room (x ∷ []) op (Some z) is one within puts =
     ap (λ o. computed env room o [] (λ k s. run env room k [] s)) (sym is) ∙ puts [] (λ k s. run env room k [] s) (omega arith)
+
+-- two rows that put a number each, and their operator
+three_run : (env : Environment) (room : ℕ) (a b : Op) (op : Op2) (x y : ℤ) (number : Option ℤ) → 2 ≤ room → Puts env room a x → Puts env room b y
+    → IfSome number (λ z. on_value (apply_of op x y) limited ≡ Val z) → IfSome number (λ z. run env room 0 (a ∷ b ∷ Two op ∷ []) [] ≡ Val z)
+three_run env room a b op x y None within first second is = is
+three_run env room a b op x y (Some z) within first second is =
+    first [] (λ k s. run env room k (b ∷ Two op ∷ []) s) (omega arith)
+    ∙ second (x ∷ []) (λ k s. run env room k (Two op ∷ []) s) (omega arith)
+    ∙ put_is room (apply_of op x y) 0 [] (λ k s. run env room k [] s) (omega arith)
+    ∙ ap (λ a. on_value a (λ z. Val z)) is
+
+pub pair_run : (env : Environment) (room : ℕ) (ops : List Op) (a b c : Op) (op : Op2) (x y : ℤ) (number : Option ℤ) → length ops ≡ 3 → a ≡ get_or ops 0 a
+    → b ≡ get_or ops 1 b → c ≡ get_or ops 2 c → c ≡ Two op → 2 ≤ room → Puts env room a x → Puts env room b y
+    → IfSome number (λ z. on_value (apply_of op x y) limited ≡ Val z) → IfSome number (λ z. run env room 0 ops [] ≡ Val z)
+pair_run env room [] a b c op x y number three is_a is_b is_c two within first second is = absurd (omega arith)
+pair_run env room (k ∷ []) a b c op x y number three is_a is_b is_c two within first second is = absurd (omega arith)
+pair_run env room (k ∷ l ∷ []) a b c op x y number three is_a is_b is_c two within first second is = absurd (omega arith)
+pair_run env room (k ∷ l ∷ m ∷ n ∷ ops) a b c op x y number three is_a is_b is_c two within first second is = absurd (omega arith)
+pair_run env room (k ∷ l ∷ m ∷ []) a b c op x y number three is_a is_b is_c two within first second is =
+    let same : k ∷ l ∷ m ∷ [] ≡ a ∷ b ∷ Two op ∷ [] = cc in
+    subst (λ ops. IfSome number (λ z. run env room 0 ops [] ≡ Val z)) (sym same) (three_run env room a b op x y number within first second is)

@@ -27,9 +27,25 @@ pub(crate) fn first<T>(rows: &[T], count: usize) -> &[T]
     }
 }
 
-/// The rows at a span, as far as there are any.
-pub(crate) fn rows_in<T>(rows: &[T], at: Span) -> &[T]
+/// The rows at a span that reaches past the last one: as far as there are any.
+#[cold]
+#[inline(never)]
+fn rows_left<T>(rows: &[T], at: Span) -> &[T]
     ensures { result.now ≡ rows_at rows.now at }
 {
     first(past(rows, at.from as usize), at.count as usize)
+}
+
+/// The rows at a span, as far as there are any.
+#[inline(always)]
+pub(crate) fn rows_in<T>(rows: &[T], at: Span) -> &[T]
+    ensures { result.now ≡ rows_at rows.now at }
+{
+    let from = at.from as usize;
+    let to = from + at.count as usize;
+    if to <= rows.len() {
+        &rows[from..to]
+    } else {
+        rows_left(rows, at)
+    }
 }

@@ -317,23 +317,75 @@ fn number(answer: Answer) -> Option<i64>
     }
 }
 
+/// The number that a row puts on the stack where it is a number, the length of the part or the loop variable.
+#[inline(always)]
+fn plain<R: Results>(op: &Op, results: &R) -> Option<i64>
+    ensures { (env : Environment) (room : ℕ) → R.stands results.now env → IfSome result (Puts env room op.now) }
+{
+    match op {
+        Op::Num(value) => number(Answer::Val(*value)),
+        Op::Eoi => number(whole(results.eoi())),
+        Op::Loop => number(found(results.item())),
+        _ => None,
+    }
+}
+
 /// The number that a row puts on the stack where it takes nothing off it, if it puts one.
 #[inline(always)]
 fn single<R: Results>(op: &Op, results: &R) -> Option<i64>
     ensures { (env : Environment) (room : ℕ) → R.stands results.now env → IfSome result (Puts env room op.now) }
 {
     match op {
-        Op::Num(value) => number(Answer::Val(*value)),
-        Op::Eoi => number(whole(results.eoi())),
         Op::Own(attr) => number(found(results.own(*attr))),
         Op::Outer(attr) => number(found(results.outer(*attr))),
-        Op::Loop => number(found(results.item())),
         Op::Seen { term, sym, field } => number(found(results.seen(*term, sym, *field))),
+        _ => plain(op, results),
+    }
+}
+
+/// What an operator makes of two numbers, where that is a number: a sum or a difference at once.
+#[inline(always)]
+fn applied(op: Op2, a: i64, b: i64) -> Option<i64>
+    ensures { IfSome result (λ z. on_value (apply_of op a b) limited ≡ Answer.Val z) }
+{
+    match op {
+        Op2::Add => a.checked_add(b),
+        Op2::Sub => a.checked_sub(b),
+        _ => number(apply(op, a, b)),
+    }
+}
+
+/// The number that a plain row computes on its own: no stack is needed then.
+#[inline(always)]
+fn lone<R: Results>(ops: &[Op], results: &R) -> Option<i64>
+    ensures { (env : Environment) (room : ℕ) → R.stands results.now env → 1 ≤ room → IfSome result (λ z. run env room 0 ops.now [] ≡ Answer.Val z) }
+{
+    if ops.len() == 1 {
+        plain(&ops[0], results)
+    } else {
+        None
+    }
+}
+
+/// The number that two plain rows and their operator compute.
+#[inline(always)]
+fn pair<R: Results>(ops: &[Op], results: &R) -> Option<i64>
+    ensures { (env : Environment) (room : ℕ) → R.stands results.now env → 2 ≤ room → IfSome result (λ z. run env room 0 ops.now [] ≡ Answer.Val z) }
+{
+    if ops.len() != 3 {
+        return None;
+    }
+    match &ops[2] {
+        Op::Two(op) => {
+            let a = plain(&ops[0], results)?;
+            let b = plain(&ops[1], results)?;
+            applied(*op, a, b)
+        }
         _ => None,
     }
 }
 
-/// The number that a single row computes, where it takes nothing off the stack: no stack is needed then.
+/// The number that a single row computes, where it takes nothing off the stack.
 #[inline(always)]
 fn alone<R: Results>(ops: &[Op], results: &R) -> Option<i64>
     ensures { (env : Environment) (room : ℕ) → R.stands results.now env → 1 ≤ room → IfSome result (λ z. run env room 0 ops.now [] ≡ Answer.Val z) }
@@ -355,7 +407,7 @@ fn joined<R: Results>(a: i64, rows: &[Op], results: &R) -> Option<i64>
     match &rows[1] {
         Op::Two(op) => {
             let b = single(&rows[0], results)?;
-            number(apply(*op, a, b))
+            applied(*op, a, b)
         }
         _ => None,
     }
@@ -402,12 +454,17 @@ fn on_stack<R: Results>(ops: &[Op], results: &R, area: &mut [i64]) -> Answer
     }
 }
 
-/// What several rows compute. It stays apart, so that a single row is evaluated where it is asked for.
+/// What rows compute, whatever they are. It stays apart, so that plain rows are evaluated where they are asked for.
 #[inline(never)]
 fn longer<R: Results>(ops: &[Op], results: &R, area: &mut [i64]) -> Answer
     ensures value { (env : Environment) → R.stands results.now env → result ≡ run env (length area.old) 0 ops.now [] }
     ensures area { length area.new ≡ length area.old }
 {
+    if !area.is_empty() {
+        if let Some(value) = alone(ops, results) {
+            return Answer::Val(value);
+        }
+    }
     if area.len() >= 2 {
         if let Some(value) = in_hand(ops, results) {
             return Answer::Val(value);
@@ -423,7 +480,12 @@ pub(crate) fn evaluate<R: Results>(ops: &[Op], results: &R, area: &mut [i64]) ->
     ensures area { length area.new ≡ length area.old }
 {
     if !area.is_empty() {
-        if let Some(value) = alone(ops, results) {
+        if let Some(value) = lone(ops, results) {
+            return Answer::Val(value);
+        }
+    }
+    if area.len() >= 2 {
+        if let Some(value) = pair(ops, results) {
             return Answer::Val(value);
         }
     }
