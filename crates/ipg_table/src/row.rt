@@ -15,12 +15,12 @@ pub struct Span {
 #[derive(Debug, Drop)]
 pub enum Op {
     Num(i64),
+    /// The loop variable.
+    Loop,
     /// The length of the part at hand.
     Eoi,
     Own(u32),
     Outer(u32),
-    /// The loop variable.
-    Loop,
     Seen {
         term: u32,
         sym: Sym,

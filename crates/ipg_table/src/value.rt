@@ -317,16 +317,25 @@ fn number(answer: Answer) -> Option<i64>
     }
 }
 
-/// The number that a row puts on the stack where it is a number, the length of the part or the loop variable.
+/// The number that a row is.
+#[inline(always)]
+fn literal(op: &Op) -> Option<i64>
+    ensures { (env : Environment) (room : ℕ) → IfSome result (Puts env room op.now) }
+{
+    match op {
+        Op::Num(value) => number(Answer::Val(*value)),
+        _ => None,
+    }
+}
+
+/// The number that a row puts on the stack where it is a number or the loop variable.
 #[inline(always)]
 fn plain<R: Results>(op: &Op, results: &R) -> Option<i64>
     ensures { (env : Environment) (room : ℕ) → R.stands results.now env → IfSome result (Puts env room op.now) }
 {
     match op {
-        Op::Num(value) => number(Answer::Val(*value)),
-        Op::Eoi => number(whole(results.eoi())),
         Op::Loop => number(found(results.item())),
-        _ => None,
+        _ => literal(op),
     }
 }
 
@@ -336,6 +345,7 @@ fn single<R: Results>(op: &Op, results: &R) -> Option<i64>
     ensures { (env : Environment) (room : ℕ) → R.stands results.now env → IfSome result (Puts env room op.now) }
 {
     match op {
+        Op::Eoi => number(whole(results.eoi())),
         Op::Own(attr) => number(found(results.own(*attr))),
         Op::Outer(attr) => number(found(results.outer(*attr))),
         Op::Seen { term, sym, field } => number(found(results.seen(*term, sym, *field))),
@@ -348,37 +358,44 @@ fn single<R: Results>(op: &Op, results: &R) -> Option<i64>
 fn applied(op: Op2, a: i64, b: i64) -> Option<i64>
     ensures { IfSome result (λ z. on_value (apply_of op a b) limited ≡ Answer.Val z) }
 {
-    match op {
-        Op2::Add => a.checked_add(b),
-        Op2::Sub => a.checked_sub(b),
-        _ => number(apply(op, a, b)),
-    }
-}
-
-/// The number that a plain row computes on its own: no stack is needed then.
-#[inline(always)]
-fn lone<R: Results>(ops: &[Op], results: &R) -> Option<i64>
-    ensures { (env : Environment) (room : ℕ) → R.stands results.now env → 1 ≤ room → IfSome result (λ z. run env room 0 ops.now [] ≡ Answer.Val z) }
-{
-    if ops.len() == 1 {
-        plain(&ops[0], results)
+    if op == Op2::Add {
+        a.checked_add(b)
+    } else if op == Op2::Sub {
+        a.checked_sub(b)
     } else {
-        None
+        number(apply(op, a, b))
     }
 }
 
-/// The number that two plain rows and their operator compute.
+/// The number that a plain row computes on its own, where there is room for it: no stack is needed then.
 #[inline(always)]
-fn pair<R: Results>(ops: &[Op], results: &R) -> Option<i64>
-    ensures { (env : Environment) (room : ℕ) → R.stands results.now env → 2 ≤ room → IfSome result (λ z. run env room 0 ops.now [] ≡ Answer.Val z) }
+fn lone<R: Results>(ops: &[Op], results: &R, room: usize) -> Option<i64>
+    ensures { (env : Environment) → R.stands results.now env → IfSome result (λ z. run env room 0 ops.now [] ≡ Answer.Val z) }
+{
+    if ops.len() != 1 {
+        return None;
+    }
+    if room == 0 {
+        return None;
+    }
+    plain(&ops[0], results)
+}
+
+/// The number that a plain row, a number and their operator compute, where there is room for both.
+#[inline(always)]
+fn pair<R: Results>(ops: &[Op], results: &R, room: usize) -> Option<i64>
+    ensures { (env : Environment) → R.stands results.now env → IfSome result (λ z. run env room 0 ops.now [] ≡ Answer.Val z) }
 {
     if ops.len() != 3 {
+        return None;
+    }
+    if room < 2 {
         return None;
     }
     match &ops[2] {
         Op::Two(op) => {
             let a = plain(&ops[0], results)?;
-            let b = plain(&ops[1], results)?;
+            let b = literal(&ops[1])?;
             applied(*op, a, b)
         }
         _ => None,
@@ -479,15 +496,11 @@ pub(crate) fn evaluate<R: Results>(ops: &[Op], results: &R, area: &mut [i64]) ->
     ensures value { (env : Environment) → R.stands results.now env → result ≡ run env (length area.old) 0 ops.now [] }
     ensures area { length area.new ≡ length area.old }
 {
-    if !area.is_empty() {
-        if let Some(value) = lone(ops, results) {
-            return Answer::Val(value);
-        }
+    if let Some(value) = lone(ops, results, area.len()) {
+        return Answer::Val(value);
     }
-    if area.len() >= 2 {
-        if let Some(value) = pair(ops, results) {
-            return Answer::Val(value);
-        }
+    if let Some(value) = pair(ops, results, area.len()) {
+        return Answer::Val(value);
     }
     longer(ops, results, area)
 }

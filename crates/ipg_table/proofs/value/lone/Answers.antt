@@ -1,6 +1,9 @@
+use Rattle.std.proofs.Common.{◌≤◌, arith}
 use Rattle.ipg_table.proofs.Turning.{one_run}
 use Rattle.ipg_table.proofs.value.lone.Goals as goal
 
-pub returns-then-ops-eq1 : goal.returns-then-ops-eq1
-returns-then-ops-eq1 g c env room stands within =
-    one_run env room c.args.ops.now c.index-ops-0.result c.plain.result c.index-ops-0.is c.if-ops-eq1.true within (c.plain.ensures env room stands)
+pub returns : goal.returns
+returns g c env stands =
+    let within : 1 ≤ c.args.room = omega arith in
+    one_run env c.args.room c.args.ops.now c.index-ops-0.result c.plain.result c.index-ops-0.is c.if-ops-ne1.false within
+    (c.plain.ensures env c.args.room stands)
