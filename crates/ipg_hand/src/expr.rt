@@ -120,9 +120,9 @@ fn behind_first(rows: &[CaseRow]) -> &[CaseRow]
     if rows.is_empty() { &[] } else { &rows[1..] }
 }
 
-/// The first branch of a switch whose condition isn't 0, else the last one.
+/// The branch of a switch that is taken, searched for apart from the calls of `pick`.
 #[inline(never)]
-pub fn pick<R: Results>(
+fn branch<R: Results>(
     site: &Site<'_>,
     results: &R,
     cases: &[CaseRow],
@@ -151,6 +151,26 @@ pub fn pick<R: Results>(
         }
     }
     slot(site, results, other, area)
+}
+
+/// The first branch of a switch whose condition isn't 0, else the last one.
+#[inline(always)]
+pub fn pick<R: Results>(
+    site: &Site<'_>,
+    results: &R,
+    cases: &[CaseRow],
+    other: SlotRow,
+    area: &mut [i64],
+) -> Found
+    requires depth { site.now.tables.now.depth ≤ length area.now }
+    requires size { length site.now.bytes.now ≡ site.now.size }
+    ensures found { (src : Source) (st : Stored) (at : ℕ) (f : Frame) (place : Place) (state : State) (branches : List (CoreExpr × CoreSlot))
+        (last : CoreSlot) → R.stands results.now (environment f state None) → Each (HoldsCase site.now.tables.now) cases.now branches
+        → HoldsSlot site.now.tables.now other last → Shares src at f site.now.tables.now site.now.bytes.now
+        → IsFound src st at f state.own result (spec.pick_on silent f place state branches last) }
+    ensures area { length area.new ≡ length area.old }
+{
+    branch(site, results, cases, other, area)
 }
 
 /// An item of a repetition on what is left of its interval.

@@ -107,6 +107,7 @@ fn halves(prim: Primitive, bytes: &[u8]) -> (u32, u32)
 }
 
 /// A terminal, the symbol of that number, where the bytes begin with it.
+#[inline(always)]
 #[tactic(auto, unfolding(ipg_core::specs::Meaning::token_on, ipg_core::specs::Run::finish, ipg_core::specs::Run::stop))]
 fn token(sym: u32, ends: (u32, u32), bytes: &[u8], token: &[u8]) -> Found
     ensures { (src : Source) (st : Stored) (at : ℕ) (f : Frame) (own : Values) → slice_get src.syms sym ≡ Some (Text token.now)

@@ -3,7 +3,7 @@ use Rattle.std.proofs.lemmas.Int.{to_z-of_z}
 use Rattle.ipg_core.specs.Eval.{is_zero}
 use Rattle.ipg_hand.specs.Found.{IsFound}
 use Rattle.ipg_hand.proofs.Picks as picks
-use Rattle.ipg_hand.proofs.expr.pick.Goals as goal
+use Rattle.ipg_hand.proofs.expr.branch.Goals as goal
 
 pub loop-case-init : goal.loop-case-init
 loop-case-init g c = (λ f place state branches last stands each. picks.picks_all _ f place state branches last _ each, refl)

@@ -4,7 +4,7 @@ use Rattle.ipg_core.specs.declared.grammar.CoreSlot.{CoreSlot}
 use Rattle.ipg_core.specs.Meaning.{Frame, State, Place, environment}
 use Rattle.ipg_table.specs.Rows.{Each, HoldsCase}
 use Rattle.ipg_hand.proofs.Picks.{Picks}
-use Rattle.ipg_hand.proofs.expr.pick.Given as goal
+use Rattle.ipg_hand.proofs.expr.branch.Given as goal
 
 -- the branches that are left come to what all do
 abbrev pub invariant-loop-case : goal.invariant-loop-case
