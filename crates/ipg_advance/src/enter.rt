@@ -99,6 +99,7 @@ fn array_between(first: i64, last: i64, sym: u32) -> Advance
 }
 
 /// An array with its first bound evaluated.
+#[inline(never)]
 fn array_from<R: Results>(
     site: &Site<'_>,
     results: &R,
@@ -121,7 +122,7 @@ fn array_from<R: Results>(
 }
 
 /// An array is entered by its bounds.
-#[inline(never)]
+#[inline(always)]
 pub(crate) fn array<R: Results>(
     site: &Site<'_>,
     results: &R,
@@ -156,6 +157,7 @@ fn many_between(size: u32, from: i64, to: i64) -> Advance
 }
 
 /// A repetition with its left end evaluated.
+#[inline(never)]
 fn many_from<R: Results>(
     site: &Site<'_>,
     results: &R,
@@ -177,7 +179,7 @@ fn many_from<R: Results>(
 }
 
 /// A repetition is entered by its ends.
-#[inline(never)]
+#[inline(always)]
 pub(crate) fn many<R: Results>(
     site: &Site<'_>,
     results: &R,

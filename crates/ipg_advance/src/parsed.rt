@@ -105,6 +105,7 @@ fn place(end: u64) -> u32
 }
 
 /// A repetition goes on behind an item that touches a byte; one that touches none ends it.
+#[inline(never)]
 fn one_turn<A: Allocator + Clone + Drop>(
     tables: &Tables,
     store: &Store<A>,
@@ -129,6 +130,7 @@ fn one_turn<A: Allocator + Clone + Drop>(
 }
 
 /// What a repetition makes of its next item.
+#[inline(always)]
 fn repetition<A: Allocator + Clone + Drop>(
     tables: &Tables,
     store: &Store<A>,
