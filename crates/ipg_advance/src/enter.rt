@@ -139,7 +139,10 @@ pub(crate) fn array<R: Results>(
     ensures area { length area.new ≡ length area.old }
 {
     match value(site.tables, results, first, area) {
-        Answer::Val(first) => array_from(site, results, first, last, sym, area),
+        Answer::Val(first) => {
+            let here = *site;
+            array_from(&here, results, first, last, sym, area)
+        }
         Answer::Fail => Advance::NoTree,
         Answer::Range => Advance::Range,
     }
@@ -194,7 +197,10 @@ pub(crate) fn many<R: Results>(
     ensures area { length area.new ≡ length area.old }
 {
     match value(site.tables, results, row.from, area) {
-        Answer::Val(from) => many_from(site, results, from, row.to, area),
+        Answer::Val(from) => {
+            let here = *site;
+            many_from(&here, results, from, row.to, area)
+        }
         Answer::Fail => Advance::NoTree,
         Answer::Range => Advance::Range,
     }

@@ -170,7 +170,8 @@ pub fn pick<R: Results>(
         → IsFound src st at f state.own result (spec.pick_on silent f place state branches last) }
     ensures area { length area.new ≡ length area.old }
 {
-    branch(site, results, cases, other, area)
+    let here = *site;
+    branch(&here, results, cases, other, area)
 }
 
 /// An item of a repetition on what is left of its interval.
