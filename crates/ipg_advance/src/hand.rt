@@ -52,6 +52,7 @@ fn made<A: Allocator + Clone + Drop>(
 }
 
 /// What is found at a term that is entered now.
+#[inline(always)]
 fn outside<R: Results, A: Allocator + Clone + Drop>(
     site: &Site<'_>,
     store: &Store<A>,
@@ -86,6 +87,7 @@ fn outside<R: Results, A: Allocator + Clone + Drop>(
 }
 
 /// What is found at the next item of an array.
+#[inline(always)]
 fn item<R: Results, A: Allocator + Clone + Drop>(
     site: &Site<'_>,
     store: &Store<A>,
@@ -128,6 +130,7 @@ fn turn_within(site: &Site<'_>, sym: u32, at: u32, to: u32) -> Found
 }
 
 /// What is found at the next item of a repetition.
+#[inline(always)]
 fn next_turn<A: Allocator + Clone + Drop>(
     site: &Site<'_>,
     store: &Store<A>,
