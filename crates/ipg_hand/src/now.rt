@@ -21,8 +21,8 @@ use std::alloc::Allocator;
 /// The result of a term that has run.
 #[derive(Clone, Copy, Debug, PartialEq, Eq)]
 pub struct Done {
-    pub is_switch: bool,
     pub kid: Kid,
+    pub is_switch: bool,
 }
 
 /// An array that runs: its term, the number of its symbol, its items so far, and the loop variable.
