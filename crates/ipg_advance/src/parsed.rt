@@ -24,6 +24,7 @@ use ipg_table::tables::Tables;
 use std::alloc::Allocator;
 
 /// A slot or a switch is past with its result.
+#[inline(always)]
 fn past(is_switch: bool, parsed: Option<Kid>) -> Advance
     ensures { (src : Source) (st : Stored) (at n u : ℕ) (state : State) (items : List tree.Kid) (answer : Result tree.Kid Stop)
         → IsParsed src st at n entries.Outside parsed answer
@@ -36,6 +37,7 @@ fn past(is_switch: bool, parsed: Option<Kid>) -> Advance
 }
 
 /// What a slot or a switch makes of what was parsed.
+#[inline(always)]
 fn outside(action: Action, parsed: Option<Kid>) -> Advance
     ensures { (src : Source) (st : Stored) (t : Rows) (at n u : ℕ) (state : State) (items : List tree.Kid) (term : CoreTerm)
         (answer : Result tree.Kid Stop) → HoldsTerm t action term → IsParsed src st at n entries.Outside parsed answer
@@ -105,7 +107,6 @@ fn place(end: u64) -> u32
 }
 
 /// A repetition goes on behind an item that touches a byte; one that touches none ends it.
-#[inline(never)]
 fn one_turn<A: Allocator + Clone + Drop>(
     tables: &Tables,
     store: &Store<A>,
@@ -130,7 +131,6 @@ fn one_turn<A: Allocator + Clone + Drop>(
 }
 
 /// What a repetition makes of its next item.
-#[inline(always)]
 fn repetition<A: Allocator + Clone + Drop>(
     tables: &Tables,
     store: &Store<A>,
