@@ -140,6 +140,7 @@ pub(crate) fn array<R: Results>(
 {
     match value(site.tables, results, first, area) {
         Answer::Val(first) => {
+            // A copy, so that the site itself need not lie in memory.
             let here = *site;
             array_from(&here, results, first, last, sym, area)
         }
@@ -198,6 +199,7 @@ pub(crate) fn many<R: Results>(
 {
     match value(site.tables, results, row.from, area) {
         Answer::Val(from) => {
+            // A copy, so that the site itself need not lie in memory.
             let here = *site;
             many_from(&here, results, from, row.to, area)
         }

@@ -120,7 +120,7 @@ fn behind_first(rows: &[CaseRow]) -> &[CaseRow]
     if rows.is_empty() { &[] } else { &rows[1..] }
 }
 
-/// The branch of a switch that is taken, searched for apart from the calls of `pick`.
+/// The branch of a switch that is taken. It stays apart, so that room for its answer is only made where it is asked for.
 #[inline(never)]
 fn branch<R: Results>(
     site: &Site<'_>,
@@ -170,6 +170,7 @@ pub fn pick<R: Results>(
         → IsFound src st at f state.own result (spec.pick_on silent f place state branches last) }
     ensures area { length area.new ≡ length area.old }
 {
+    // A copy: the site of a call that takes no switch need not lie in memory.
     let here = *site;
     branch(&here, results, cases, other, area)
 }
