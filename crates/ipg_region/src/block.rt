@@ -1,4 +1,5 @@
-ghost use Rattle.std.specs.Prelude.{◌≡◌, ◌+◌, ◌-◌, ◌^◌, ◌++◌, ◌∷◌, [], ◌<◌, ◌≤◌, length, take, drop, slice_get, Some, IsOk, IfOk, OnOk, OnErr, MatchOption, vec_len, vec_capacity};
+ghost use Rattle.std.specs.Prelude.{◌≡◌, ◌+◌, ◌-◌, ◌^◌, ◌++◌, ◌∷◌, [], ◌<◌, ◌≤◌, length, take, drop, slice_get, Some, IsOk, IfOk, OnOk, OnErr};
+ghost use Rattle.std.specs.Prelude.{MatchOption, vec_len, vec_capacity};
 ghost use Rattle.ipg_region.specs.Pieces.{pieces, Rises, end_before, empty_for};
 
 use std::alloc::{AllocError, Allocator};

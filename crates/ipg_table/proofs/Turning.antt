@@ -1,5 +1,6 @@
 -- One row after another, as the loop takes them.
-use Rattle.std.proofs.Common.{◌≡◌, ℕ, zero, suc, ◌+◌, ◌<◌, ◌≤◌, List, [], ◌∷◌, length, drop, get_or, refl, sym, ap, subst, ◌∙◌, arith, ℤ, Option, Some, None, IfSome}
+use Rattle.std.proofs.Common.{◌≡◌, ℕ, zero, suc, ◌+◌, ◌<◌, ◌≤◌, List, [], ◌∷◌, length, drop, get_or}
+use Rattle.std.proofs.Common.{refl, sym, ap, subst, ◌∙◌, arith, ℤ, Option, Some, None, IfSome}
 use Rattle.ipg_num.specs.Number.{limited, apply_of}
 use Rattle.ipg_num.specs.declared.op.Op2.{Op2}
 use Rattle.ipg_num.specs.declared.op.Answer.{Answer}

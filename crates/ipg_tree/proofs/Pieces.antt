@@ -75,7 +75,8 @@ attrs_pieces depth name places attrs =
     ∙ sym (line_spaced name (places ++ attrs)))
 
 -- a node says what the tree says that stands there
-pub says : (src : Source) (st : Stored) (at : ℕ) (named : Option Row) (it : Row) (one : Tree) → named ≡ Some it → StandsNode src st at named one → Says st it one
+pub says : (src : Source) (st : Stored) (at : ℕ) (named : Option Row) (it : Row) (one : Tree) → named ≡ Some it
+    → StandsNode src st at named one → Says st it one
 says src st at named it (Node rule size attrs start end kids) is h =
     let has = h.stands.1 in
     let same : it ≡ has.node = let e = sym is ∙ h.is_at has.node has.is_node in cc in

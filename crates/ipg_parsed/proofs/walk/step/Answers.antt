@@ -26,5 +26,6 @@ loop-level-preserved g c =
           (fewer_around _ _ _ _ c.in-Some.level _ c.leave.ensures.room is c.loop-level.invariant.ends);
       left = λ src left h.
           subst (λ levels. Leave src c.args.store.now c.leave.new.self.room levels left) (sym gone)
-          (nothing_next src _ _ _ _ left c.in_default-next_in.ensures (parted src _ _ _ _ _ _ left c.leave.ensures.room is (c.loop-level.invariant.left src left h)));
+          (nothing_next src _ _ _ _ left c.in_default-next_in.ensures (parted src _ _ _ _ _ _ left c.leave.ensures.room is
+          (c.loop-level.invariant.left src left h)));
     }
