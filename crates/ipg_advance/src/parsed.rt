@@ -107,6 +107,7 @@ fn place(end: u64) -> u32
 }
 
 /// A repetition goes on behind an item that touches a byte; one that touches none ends it.
+#[inline(always)]
 fn one_turn<A: Allocator + Clone + Drop>(
     tables: &Tables,
     store: &Store<A>,
@@ -131,6 +132,7 @@ fn one_turn<A: Allocator + Clone + Drop>(
 }
 
 /// What a repetition makes of its next item.
+#[inline(always)]
 fn repetition<A: Allocator + Clone + Drop>(
     tables: &Tables,
     store: &Store<A>,

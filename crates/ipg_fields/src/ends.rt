@@ -157,6 +157,7 @@ pub(crate) fn extent_of<A: Allocator + Clone + Drop>(
 }
 
 /// The ends of a child in its parent's part.
+#[inline(always)]
 pub fn ends_of<A: Allocator + Clone + Drop>(store: &Store<A>, tables: &Tables, kid: Kid) -> Ends
     ensures { OfKid tables.now store.now kid (λ one. ends_view result ≡ spec.ends_of one) }
 {

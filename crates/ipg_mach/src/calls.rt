@@ -70,6 +70,7 @@ impl<'m, A: Allocator + Clone + Drop> Top<'m, A> {
     }
 
     /// Makes a call: its first alternative begins.
+    #[inline(always)]
     pub fn open(&mut self, tables: &'m Tables, new: NewCall) -> Result<(), AllocError>
         ensures highest { (src : Source) (frames : List Frame) (lower : List OpenCall) (f : meaning.Frame) (from : ℕ)
             → IsNew tables.now src (shown self.old) frames lower new f from
