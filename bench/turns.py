@@ -1,5 +1,5 @@
-"""Two commands that take turns: the least time of five runs of each, its peak of memory, and how many times as long the
-first takes as the second.
+"""Two commands that take turns: the least time of 25 runs of each, or of five where a run takes half a second and more, its
+peak of memory, and how many times as long the first takes as the second.
 
   turns.py [--goal TIMES] [--most-ms MS] [--most-mib MIB] [--per-line BYTES] NAME FIRST.. -- SECOND..
 
@@ -14,7 +14,7 @@ import sys
 import tempfile
 import time
 
-ROUNDS = 5
+SHORT = 500  # milliseconds
 
 
 def timed(words):
@@ -62,7 +62,8 @@ def main():
     asked = parsed()
     at = asked.words.index("--")
     first, second = asked.words[:at], asked.words[at + 1:]
-    rounds = [(timed(first), timed(second)) for _ in range(ROUNDS)]
+    rounds = [(timed(first), timed(second))]
+    rounds += [(timed(first), timed(second)) for _ in range(24 if rounds[0][0] < SHORT else 4)]
     ours, theirs = (min(taken) for taken in zip(*rounds))
     most = peak(first)
     row = [asked.name, held(ours, asked.most_ms, "ms"), held(most, asked.most_mib, "MiB")]
