@@ -16,7 +16,7 @@ expect() {
   shift 2
   got=$(./ipg "$@"; echo "status $?")
   if [ "$got" != "$due" ]; then
-    printf 'program: %s\n  got %q\n  due %q\n' "$*" "$got" "$due"
+    printf 'program: %s\n  got %q\n  due %q\n' "$*" "${got:0:400}" "$due"
     failed=1
   fi
 }
@@ -120,13 +120,13 @@ printf '\xff\xff\xff\xff' >"$folder/most"
 printf '\x02\0\0\0' >"$folder/two"
 expect 7 '' parse "$folder/items.ipg" "$folder/most" --arena 1
 expect 7 '' parse "$folder/deep.ipg" "$folder/zeros" --arena 1
-# a call for each of 4,800 bytes fits one MiB without the memo alone
+# a call for each of 7,500 bytes fits one MiB without the memo alone
 echo 'S -> for i = 0 to EOI do B[i, i + 1] ; B -> U8 ;' >"$folder/calls.ipg"
-truncate -s 4800 "$folder/calls"
+truncate -s 7500 "$folder/calls"
 expect 7 '' parse "$folder/calls.ipg" "$folder/calls" --arena 1
 ./ipg parse "$folder/calls.ipg" "$folder/calls" --arena 1 --memo off >"$folder/out"
-if [ $? -ne 0 ] || [ "$(wc -l <"$folder/out")" -ne 9602 ]; then
-  echo "program: a call for each of 4,800 bytes in one MiB, --memo off"
+if [ $? -ne 0 ] || [ "$(wc -l <"$folder/out")" -ne 15002 ]; then
+  echo "program: a call for each of 7,500 bytes in one MiB, --memo off"
   failed=1
 fi
 expect 0 $'0 S 0 4 start=0 end=4\n1 U32LE 0 4 val=2\n1 for Bytes 2\n2 Bytes 4 4 -\n2 Bytes 4 4 -\n' parse "$folder/items.ipg" "$folder/two" --arena 1
