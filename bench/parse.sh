@@ -1,11 +1,11 @@
 #!/usr/bin/env bash
 # Times `parse` on samples of the built-in formats at two sizes, and on a GIF of 5,000 frames, with the peak of memory and
-# how many lines come out. Run `rt run show_sample` once before, which builds it. IPG may name another program than the one
+# how many lines come out. Run `rt run tool_sample` once before, which builds it. IPG may name another program than the one
 # that ./ipg runs.
 set -eu
 cd "$(dirname "$0")/.."
 . bench/program.sh
-sample=crates/show_sample/out/show_sample
+sample=crates/tool_sample/out/tool_sample
 [ -x "$sample" ] || { echo "$sample is not built" >&2; exit 1; }
 work=$(mktemp -d)
 trap 'rm -rf "$work"' EXIT

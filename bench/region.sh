@@ -1,9 +1,9 @@
 #!/usr/bin/env bash
-# Times `bench_region` against a plain Rust program: two million runs of four words, and a
-# million entries put and found again. Run `rt run bench_region` once before, which builds it.
+# Times `tool_region` against a plain Rust program: two million runs of four words, and a
+# million entries put and found again. Run `rt run tool_region` once before, which builds it.
 set -eu
 cd "$(dirname "$0")/.."
-ours=crates/bench_region/out/bench_region
+ours=crates/tool_region/out/tool_region
 [ -x "$ours" ] || { echo "$ours is not built" >&2; exit 1; }
 work=$(mktemp -d)
 trap 'rm -rf "$work"' EXIT

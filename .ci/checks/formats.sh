@@ -2,7 +2,7 @@
 # The grammars' texts are the ones that were published, by their sums, and other programs read the samples.
 # A program that is not installed is left out.
 set -u
-cd "$(dirname "$0")/../../crates/show_sample" || exit 1
+cd "$(dirname "$0")/../../crates/tool_sample" || exit 1
 . ../../.ci/skips.sh
 dir=$(mktemp -d) || exit 1
 trap 'rm -rf "$dir"' EXIT
@@ -26,8 +26,8 @@ want() {
 
 rt run -- gif 3 >/dev/null 2>"$dir/log" || { cat "$dir/log" >&2; exit 1; }
 for name in elf pe gif pcap; do
-  out/show_sample "$name" >"$dir/$name.ipg" || failed=1
-  out/show_sample "$name" 3 >"$dir/$name" || failed=1
+  out/tool_sample "$name" >"$dir/$name.ipg" || failed=1
+  out/tool_sample "$name" 3 >"$dir/$name" || failed=1
 done
 
 sed "s|  |  $dir/|" <<'SUMS' | sha256sum --check --quiet || failed=1

@@ -1,4 +1,4 @@
-// Plain Rust that reads the texts of `count_rules` into the same types: tokens first, then recursive descent.
+// Plain Rust that reads the texts of `tool_rules` into the same types: tokens first, then recursive descent.
 // It checks no limit and knows no exact place of a fault. `peer rules|sum|brackets SIZE RUNS`.
 #![allow(dead_code)]
 

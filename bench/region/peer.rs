@@ -1,4 +1,4 @@
-// What `bench_region` does, with `Vec` and `HashMap` of plain Rust.
+// What `tool_region` does, with `Vec` and `HashMap` of plain Rust.
 use std::collections::HashMap;
 
 struct Region {

@@ -1,8 +1,8 @@
 -- The core grammar of a text: it is read, resolved, completed and ordered, and no repetition is loose; or else what refuses it first.
 use Rattle.std.specs.Prelude.{◌≡◌, ℕ, List, [], Result, Ok, Err, Option, None, Some}
 use Rattle.ipg_ast.specs.declared.grammar.Grammar as written
-use Rattle.ipg_tokens.specs.declared.fault.ReadFault.{ReadFault}
-use Rattle.ipg_syntax.specs.Reading.{read_of}
+use Rattle.ipg_read_tokens.specs.declared.fault.ReadFault.{ReadFault}
+use Rattle.ipg_read_syntax.specs.Reading.{read_of}
 use Rattle.ipg_names.specs.declared.fault.NameFault.{NameFault}
 use Rattle.ipg_names.specs.Fault.{first_of}
 use Rattle.ipg_names.specs.Faults.{faults_of}

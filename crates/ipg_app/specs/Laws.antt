@@ -2,7 +2,7 @@
 use Rattle.std.specs.Prelude.{◌≡◌, ◌≢◌, ℕ, List}
 use Rattle.ipg_outside.specs.Files.{Told, untold}
 use Rattle.ipg_core.specs.Grammar.{Grammar}
-use Rattle.ipg_words.specs.Request.{Check}
+use Rattle.ipg_app_words.specs.Request.{Check}
 use Rattle.ipg_app.specs.Said.{Said}
 use Rattle.ipg_app.specs.Order.{Answers}
 use Rattle.ipg_app.specs.Reply.{use_order, Parses}

@@ -1,9 +1,9 @@
 -- What is said of a text that has no core grammar, with the place in the text or the term.
 use Rattle.std.specs.Prelude.{ℕ, List, ◌∷◌, ◌++◌, codes, decimal}
-use Rattle.ipg_tokens.specs.declared.fault.ReadFault.{ReadFault}
-use Rattle.ipg_tokens.specs.declared.fault.ReadFault.TheVariants as read
-use Rattle.ipg_tokens.specs.declared.fault.Which.{Which}
-use Rattle.ipg_tokens.specs.declared.fault.Which.TheVariants.{Rules, Alternatives, Terms, Depth}
+use Rattle.ipg_read_tokens.specs.declared.fault.ReadFault.{ReadFault}
+use Rattle.ipg_read_tokens.specs.declared.fault.ReadFault.TheVariants as read
+use Rattle.ipg_read_tokens.specs.declared.fault.Which.{Which}
+use Rattle.ipg_read_tokens.specs.declared.fault.Which.TheVariants.{Rules, Alternatives, Terms, Depth}
 use Rattle.ipg_names.specs.declared.fault.NameFault.{NameFault}
 use Rattle.ipg_names.specs.declared.fault.NameFault.TheVariants as name
 use Rattle.ipg_app.specs.Said.{Said, refused, out_of_memory}

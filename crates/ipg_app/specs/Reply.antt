@@ -1,7 +1,7 @@
 -- The reply: for the program's words, the order in which it answers.
 use Rattle.std.specs.Prelude.{◌≡◌, ℕ, ◌^◌, List, length, nat_le, codes, Result, Ok, Err, Option, None, Some, if◌then◌else◌}
 use Rattle.ipg_ast.specs.declared.grammar.Grammar as written
-use Rattle.ipg_tokens.specs.Shaped.{canonical_text}
+use Rattle.ipg_read_tokens.specs.Shaped.{canonical_text}
 use Rattle.ipg_core.specs.Grammar.{Grammar}
 use Rattle.ipg_core.specs.Tree.{Tree}
 use Rattle.ipg_core.specs.Run.{Stop, NoTree, OutOfRange, Deep}
@@ -10,7 +10,7 @@ use Rattle.ipg_core.specs.Lines.{lines}
 use Rattle.ipg_formats.specs.declared.Kind.{Kind}
 use Rattle.ipg_formats.specs.Names.{kind_of}
 use Rattle.ipg_formats.specs.Text.{text_of}
-use Rattle.ipg_words.specs.Request.{Task, Parse, Check, Cert, Verify, Request, Use, Fmt, Trial, request_of}
+use Rattle.ipg_app_words.specs.Request.{Task, Parse, Check, Cert, Verify, Request, Use, Fmt, Trial, request_of}
 use Rattle.ipg_app.specs.Said.{Said, done, done_line, usage, no_parse, range, too_large}
 use Rattle.ipg_app.specs.CoreOf.{grammar_in, CoreOf}
 use Rattle.ipg_app.specs.Checks.{Checks}

@@ -8,8 +8,8 @@ use Rattle.ipg_outside.specs.Files.{Told}
 use Rattle.ipg_outside.specs.Sink.{Output, Breaks, Tells}
 use Rattle.ipg_outside.specs.declared.files.FileFault.{FileFault}
 use Rattle.ipg_outside.specs.declared.files.FileFault.TheVariants as file
-use Rattle.ipg_answers.specs.declared.answering.AnswerFault.{AnswerFault}
-use Rattle.ipg_answers.specs.declared.answering.AnswerFault.TheVariants as fault
+use Rattle.ipg_app_answers.specs.declared.answering.AnswerFault.{AnswerFault}
+use Rattle.ipg_app_answers.specs.declared.answering.AnswerFault.TheVariants as fault
 use Rattle.ipg_app.specs.Said.{Said, read_fault, too_large}
 use Rattle.ipg_app.specs.Order.{Order}
 use Rattle.ipg_app.specs.Reply.{Parses, parse_said, max_input}
@@ -19,8 +19,8 @@ use Rattle.ipg_app.specs.declared.reply.Reply.{Reply}
 use Rattle.ipg_app.specs.declared.reply.Reply.TheVariants.{Text, Parse}
 use Rattle.ipg_mach.specs.declared.machine.Remember.{Remember}
 use Rattle.ipg_mach.specs.declared.machine.Remember.TheVariants as remember
-use Rattle.ipg_words.specs.declared.asking.Memo.{Memo}
-use Rattle.ipg_words.specs.declared.asking.Memo.TheVariants as memo
+use Rattle.ipg_app_words.specs.declared.asking.Memo.{Memo}
+use Rattle.ipg_app_words.specs.declared.asking.Memo.TheVariants as memo
 use Rattle.ipg_app.specs.declared.status.Status.{Status}
 use Rattle.ipg_app.specs.declared.status.Status.TheVariants as status
 

@@ -1,7 +1,7 @@
 //! Writes a grammar anew.
 ghost use Rattle.std.specs.Prelude.{◌≡◌, IfOk};
 ghost use Rattle.ipg_ast.specs.Shape.{IsFlat};
-ghost use Rattle.ipg_tokens.specs.Shaped.{canonical_text};
+ghost use Rattle.ipg_read_tokens.specs.Shaped.{canonical_text};
 ghost use Rattle.ipg_app.specs.Said.{done};
 ghost use Rattle.ipg_app.specs.Lines.{said_of};
 

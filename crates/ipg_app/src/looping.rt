@@ -1,7 +1,7 @@
 //! The line that refuses a grammar by which parsing may not end, G13.
 ghost use Rattle.std.specs.Prelude.{◌≡◌, ◌++◌, ◌∷◌, decimal, IfOk, OnOk, option_copied};
 ghost use Rattle.std.specs.Fmt.{signed_decimal};
-ghost use Rattle.ipg_edges.specs.Edges.{edges_of};
+ghost use Rattle.ipg_facts_edges.specs.Edges.{edges_of};
 ghost use Rattle.ipg_lin.specs.Formula.{assigned};
 ghost use Rattle.ipg_app.specs.Checks as spec;
 ghost use Rattle.ipg_app.specs.Checks.{next_edge, edge_words, cycle_words};
@@ -11,7 +11,7 @@ use crate::core_of::rule_name;
 use crate::said::{Settled, line};
 use crate::status::Status;
 use ipg_core::accepted::Core;
-use ipg_edges::{Edge, edges};
+use ipg_facts_edges::{Edge, edges};
 use ipg_num::item_at;
 use itoa::Buffer;
 use std::alloc::{AllocError, Global};

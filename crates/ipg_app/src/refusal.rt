@@ -9,7 +9,7 @@ ghost use Rattle.ipg_app.specs.Lines.{said_of};
 use crate::said::{Settled, line};
 use crate::status::Status;
 use ipg_names::NameFault;
-use ipg_tokens::{ReadFault, Which};
+use ipg_read_tokens::{ReadFault, Which};
 use itoa::Buffer;
 use std::alloc::{AllocError, Global};
 

@@ -5,7 +5,7 @@ use crate::parse::parse;
 use crate::said::Settled;
 use crate::status::Status;
 use crate::writing::say;
-use ipg_answers::Room;
+use ipg_app_answers::Room;
 use ipg_core::accepted::Checked;
 use ipg_outside::Sink;
 use std::alloc::Global;

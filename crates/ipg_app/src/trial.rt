@@ -12,7 +12,7 @@ use crate::checks::accepted;
 use crate::core_of::core_in_text;
 use crate::said::{Settled, line, usage};
 use crate::status::Status;
-use ipg_answers::{Measured, Size, measure};
+use ipg_app_answers::{Measured, Size, measure};
 use ipg_core::accepted::{Checked, Core};
 use ipg_formats::{Kind, sample, text};
 use itoa::Buffer;

@@ -148,12 +148,12 @@ locals_in alt = length (out-Alt alt).locals
 abbrev pub rules_in : Rule → ℕ
 rules_in rule = sum_by locals_in (out-Rule rule).alts + 1
 
-abbrev pub count_rules : List Rule → ℕ
-count_rules rules = sum_by rules_in rules
+abbrev pub tool_rules : List Rule → ℕ
+tool_rules rules = sum_by rules_in rules
 
 pub record IsFormed (g : Grammar) : Type 0 where
   pub some : 0 < length g.rules
-  pub count : count_rules g.rules ≤ max_rules
+  pub count : tool_rules g.rules ≤ max_rules
   pub each : AllByRecursion IsFormedRule g.rules
 
 -- ---- what can be written: `where` has one level

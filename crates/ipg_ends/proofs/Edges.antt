@@ -15,7 +15,7 @@ use Rattle.ipg_core.specs.Meaning.{Call, Frame, State, term_on, terms_on, start,
 use Rattle.ipg_core.specs.Mention.{term_syms}
 use Rattle.ipg_core.specs.Good.{AltAt}
 use Rattle.ipg_graph.specs.declared.edge.Edge.{Edge}
-use Rattle.ipg_edges.specs.Edges.{numbered, edges_of}
+use Rattle.ipg_facts_edges.specs.Edges.{numbered, edges_of}
 use Rattle.ipg_ends.specs.Laws.{IsEdgeCall, CallsAreEdges}
 use Rattle.ipg_ends.proofs.Named.{Asks, IsNamed, asks_finish, asks_stop, asks_bind, asks_else, term_named}
 

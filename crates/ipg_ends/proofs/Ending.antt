@@ -19,9 +19,9 @@ use Rattle.ipg_core.specs.Total.{Fits, height_for}
 use Rattle.ipg_core.specs.Laws.{AskedFits, AsksWhatFits}
 use Rattle.ipg_graph.specs.declared.edge.Edge.{Edge}
 use Rattle.ipg_graph.specs.Graph.{Graph, IsLive, IsInside, IsWhole}
-use Rattle.ipg_edges.specs.Edges.{edges_of}
-use Rattle.ipg_sound.specs.Reached.{ReachedOn}
-use Rattle.ipg_sound.specs.Laws.{EdgesAreFew, EdgesAreInside}
+use Rattle.ipg_facts_edges.specs.Edges.{edges_of}
+use Rattle.ipg_facts_laws.specs.Reached.{ReachedOn}
+use Rattle.ipg_facts_laws.specs.Laws.{EdgesAreFew, EdgesAreInside}
 use Rattle.ipg_ends.specs.Walks.{IsWalk}
 use Rattle.ipg_ends.specs.Along.{edges_at, live_edges, DeadAreNeverReached, CyclesAreNeverReached}
 use Rattle.ipg_ends.specs.Laws.{IsEdgeCall, EndsWithoutCycles}

@@ -5,8 +5,8 @@ use Rattle.ipg_core.specs.Grammar.{Grammar}
 use Rattle.ipg_graph.specs.declared.edge.Edge.{Edge}
 use Rattle.ipg_graph.specs.Graph.{Graph, graph_of}
 use Rattle.ipg_graph.specs.Cycle.{IsSimpleCycle}
-use Rattle.ipg_edges.specs.Edges.{edges_of}
-use Rattle.ipg_sound.specs.Reached.{ReachedOn}
+use Rattle.ipg_facts_edges.specs.Edges.{edges_of}
+use Rattle.ipg_facts_laws.specs.Reached.{ReachedOn}
 
 -- the edges of these numbers
 abbrev pub edges_at : Grammar → List ℕ → List Edge

@@ -4,7 +4,7 @@ use Rattle.std.specs.List.{flat_map}
 use Rattle.ipg_core.specs.Grammar.{Grammar}
 use Rattle.ipg_core.specs.MustTouch.{Marks}
 use Rattle.ipg_graph.specs.Cycle.{IsSimpleCycle}
-use Rattle.ipg_edges.specs.Edges.{edges_of}
+use Rattle.ipg_facts_edges.specs.Edges.{edges_of}
 use Rattle.ipg_lin.specs.declared.formula.Formula.{Formula}
 use Rattle.ipg_lin.specs.declared.formula.Boxed.{Boxed}
 use Rattle.ipg_lin.specs.Formula.{Solvable}

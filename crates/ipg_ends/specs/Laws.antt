@@ -10,8 +10,8 @@ use Rattle.ipg_core.specs.MustTouch.{Marks, AreLimit}
 use Rattle.ipg_core.specs.Grown.{IsInput}
 use Rattle.ipg_core.specs.Total.{Fits, Total, height_for}
 use Rattle.ipg_graph.specs.declared.edge.Edge.{Edge}
-use Rattle.ipg_edges.specs.Edges.{edges_of}
-use Rattle.ipg_sound.specs.Reached.{Reached}
+use Rattle.ipg_facts_edges.specs.Edges.{edges_of}
+use Rattle.ipg_facts_laws.specs.Reached.{Reached}
 use Rattle.ipg_ends.specs.Along.{DeadAreNeverReached, CyclesAreNeverReached}
 use Rattle.ipg_ends.specs.Conditions.{DeadAreUnsolvable, CyclesAreUnsolvable}
 use Rattle.ipg_ends.specs.Nest.{nest}

@@ -5,12 +5,12 @@ use Rattle.ipg_core.specs.declared.grammar.CoreTerm.{CoreTerm}
 use Rattle.ipg_core.specs.Tree as tree
 use Rattle.ipg_core.specs.Tree.{Tree, Sub}
 use Rattle.ipg_core.specs.Run.{Stop, Asked}
-use Rattle.ipg_moves.specs.Moves as moves
-use Rattle.ipg_moves.specs.Moves.{OpenCall, lifted, taken, first_left, at_hand, silent, always}
-use Rattle.ipg_nodes.specs.declared.kid.Kid.{Kid}
-use Rattle.ipg_nodes.specs.Stored.{Stored, Source}
-use Rattle.ipg_advance.specs.declared.advance.Advance.{Advance}
-use Rattle.ipg_advance.specs.Advance.{IsParsed, IsAdvance, EndsBy, SubEndsBy, AnsweredIsTaken}
+use Rattle.ipg_mach_moves.specs.Moves as moves
+use Rattle.ipg_mach_moves.specs.Moves.{OpenCall, lifted, taken, first_left, at_hand, silent, always}
+use Rattle.ipg_mach_nodes.specs.declared.kid.Kid.{Kid}
+use Rattle.ipg_mach_nodes.specs.Stored.{Stored, Source}
+use Rattle.ipg_mach_term.specs.declared.advance.Advance.{Advance}
+use Rattle.ipg_mach_term.specs.Advance.{IsParsed, IsAdvance, EndsBy, SubEndsBy, AnsweredIsTaken}
 use Rattle.ipg_mach.specs.declared.frame.Frame.{Frame}
 use Rattle.ipg_mach.specs.Calls.{IsSub, size_of, items_in, term_at_hand}
 

@@ -3,9 +3,9 @@ use Rattle.std.proofs.Common.{◌≡◌, ℕ, zero, suc, refl, sym, subst, Optio
 use Rattle.ipg_core.specs.Grammar.{Grammar}
 use Rattle.ipg_core.specs.Tree.{Tree}
 use Rattle.ipg_core.specs.Run.{Stop}
-use Rattle.ipg_moves.specs.Moves.{Evaluation, moves, move, ended}
-use Rattle.ipg_moves.specs.Laws.{AreRight}
-use Rattle.ipg_nodes.specs.Stored.{Source}
+use Rattle.ipg_mach_moves.specs.Moves.{Evaluation, moves, move, ended}
+use Rattle.ipg_mach_moves.specs.Laws.{AreRight}
+use Rattle.ipg_mach_nodes.specs.Stored.{Source}
 use Rattle.ipg_mach.specs.declared.machine.Remember.{Remember}
 use Rattle.ipg_mach.specs.declared.machine.Remember.TheVariants.{Nothing, Answers}
 use Rattle.ipg_mach.specs.declared.machine.Turn.TheVariants.{Done}

@@ -10,14 +10,14 @@ use Rattle.std.proofs.lemmas.Bool.{eqb-true, and_parts}
 use Rattle.std.proofs.lemmas.Cmp.{on_total, then_total}
 use Rattle.ipg_core.specs.Tree.{Tree}
 use Rattle.ipg_core.specs.Run.{Stop}
-use Rattle.ipg_moves.specs.Moves as moves
-use Rattle.ipg_moves.specs.Moves.{same_key, find}
+use Rattle.ipg_mach_moves.specs.Moves as moves
+use Rattle.ipg_mach_moves.specs.Moves.{same_key, find}
 use Rattle.ipg_memo.specs.declared.memo.Key.{Key}
 use Rattle.ipg_memo.specs.declared.memo.Entry.{Entry}
 use Rattle.ipg_memo.specs.declared.memo.Entry.TheVariants as entry
 use Rattle.ipg_memo.specs.Keyed.{Entries, key_cmp}
-use Rattle.ipg_nodes.specs.Stored.{Stored, Source}
-use Rattle.ipg_nodes.specs.Laws.{Grows, TreesStay}
+use Rattle.ipg_mach_nodes.specs.Stored.{Stored, Source}
+use Rattle.ipg_mach_nodes.specs.Laws.{Grows, TreesStay}
 use Rattle.ipg_mach.specs.Known.{key_of, IsEntryOf, IsKnown}
 
 -- ---- what is known stays known as the store grows

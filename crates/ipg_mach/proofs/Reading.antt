@@ -11,22 +11,22 @@ use Rattle.ipg_core.specs.Tree as tree
 use Rattle.ipg_core.specs.Tree.{kids_of}
 use Rattle.ipg_core.specs.Meaning as meaning
 use Rattle.ipg_core.specs.Meaning.{environment, with_kid}
-use Rattle.ipg_moves.specs.Moves as moves
-use Rattle.ipg_moves.specs.Moves.{OpenCall}
-use Rattle.ipg_nodes.specs.declared.kid.Kid.{Kid}
-use Rattle.ipg_nodes.specs.Stored.{Stored, Source, StandKids}
+use Rattle.ipg_mach_moves.specs.Moves as moves
+use Rattle.ipg_mach_moves.specs.Moves.{OpenCall}
+use Rattle.ipg_mach_nodes.specs.declared.kid.Kid.{Kid}
+use Rattle.ipg_mach_nodes.specs.Stored.{Stored, Source, StandKids}
 use Rattle.ipg_table.specs.declared.row.Instr.{Instr}
 use Rattle.ipg_table.specs.declared.row.Span.{Span}
 use Rattle.ipg_table.specs.declared.row.SlotRow.{SlotRow}
 use Rattle.ipg_table.specs.declared.row.Action.{Action}
 use Rattle.ipg_table.specs.declared.row.Action.TheVariants as action
 use Rattle.ipg_table.specs.Rows.{Rows, HoldsTerm, StandFor}
-use Rattle.ipg_hand.specs.declared.now.Running.{Running}
-use Rattle.ipg_hand.specs.Found.{LiesAt}
-use Rattle.ipg_hand.specs.Now.{Lent, HasRun, Stands, AreResults, WithRunning}
-use Rattle.ipg_advance.specs.declared.entry.Entry.{Entry}
-use Rattle.ipg_advance.specs.declared.entry.Entry.TheVariants as entry
-use Rattle.ipg_advance.specs.Advance.{IsEntry, environment_at}
+use Rattle.ipg_mach_slot.specs.declared.now.Running.{Running}
+use Rattle.ipg_mach_slot.specs.Found.{LiesAt}
+use Rattle.ipg_mach_slot.specs.Now.{Lent, HasRun, Stands, AreResults, WithRunning}
+use Rattle.ipg_mach_term.specs.declared.entry.Entry.{Entry}
+use Rattle.ipg_mach_term.specs.declared.entry.Entry.TheVariants as entry
+use Rattle.ipg_mach_term.specs.Advance.{IsEntry, environment_at}
 use Rattle.ipg_piles.specs.Piled.{Piled, between, below, above}
 use Rattle.ipg_mach.specs.declared.frame.Frame.{Frame}
 use Rattle.ipg_mach.specs.declared.reader.View.{View}

@@ -8,11 +8,11 @@ use Rattle.ipg_memo.specs.declared.memo.Key.{Key}
 use Rattle.ipg_memo.specs.declared.memo.Entry.{Entry}
 use Rattle.ipg_memo.specs.declared.memo.Entry.TheVariants as entry
 use Rattle.ipg_memo.specs.Keyed.{Entries}
-use Rattle.ipg_moves.specs.Moves.{Known, learn, learned}
-use Rattle.ipg_nodes.specs.declared.store.Mark.{Mark}
-use Rattle.ipg_nodes.specs.Stored.{Stored, Source, IsMark, IsEnd, before}
-use Rattle.ipg_nodes.specs.Laws.{TreesStay}
-use Rattle.ipg_close.specs.Laws.{GrowsFromBefore}
+use Rattle.ipg_mach_moves.specs.Moves.{Known, learn, learned}
+use Rattle.ipg_mach_nodes.specs.declared.store.Mark.{Mark}
+use Rattle.ipg_mach_nodes.specs.Stored.{Stored, Source, IsMark, IsEnd, before}
+use Rattle.ipg_mach_nodes.specs.Laws.{TreesStay}
+use Rattle.ipg_mach_node.specs.Laws.{GrowsFromBefore}
 use Rattle.ipg_mach.specs.Known.{IsEntryOf, IsKnown, key_of}
 use Rattle.ipg_mach.specs.Stage.{IsRaised, Remembers}
 use Rattle.ipg_mach.proofs.Knowing as knowing

@@ -7,7 +7,7 @@ use Rattle.ipg_piles.specs.Piled.{between}
 use Rattle.ipg_core.specs.declared.grammar.CoreTerm.{CoreTerm}
 use Rattle.ipg_table.specs.declared.row.Instr.{Instr}
 use Rattle.ipg_core.specs.declared.grammar.CoreRule.{CoreRule}
-use Rattle.ipg_moves.specs.Moves.{alts_of}
+use Rattle.ipg_mach_moves.specs.Moves.{alts_of}
 use Rattle.ipg_table.specs.declared.row.RuleRow.{RuleRow}
 use Rattle.ipg_table.specs.Rows.{Rows, Each, HoldsInstr, HoldsAlt, HoldsRule, rows_at}
 use Rattle.ipg_mach.specs.Calls.{term_at_hand}

@@ -8,24 +8,24 @@ use Rattle.ipg_core.specs.Tree.{Tree}
 use Rattle.ipg_core.specs.Within.{TreeWithin}
 use Rattle.ipg_core.specs.Run.{Stop, NoTree, OutOfRange, Deep, Asked}
 use Rattle.ipg_core.specs.Meaning as meaning
-use Rattle.ipg_moves.specs.Moves as moves
-use Rattle.ipg_moves.specs.Moves.{OpenCall, Evaluation, Highest, Works, Holds, Known, Tally, ended, ended_by, asked_part, asked_key, asks}
+use Rattle.ipg_mach_moves.specs.Moves as moves
+use Rattle.ipg_mach_moves.specs.Moves.{OpenCall, Evaluation, Highest, Works, Holds, Known, Tally, ended, ended_by, asked_part, asked_key, asks}
 use Rattle.ipg_memo.specs.declared.memo.Key.{Key}
 use Rattle.ipg_memo.specs.declared.memo.Entry.{Entry}
 use Rattle.ipg_memo.specs.declared.memo.Entry.TheVariants as entry
-use Rattle.ipg_nodes.specs.declared.kid.Kid.TheVariants as kid
-use Rattle.ipg_advance.specs.Advance.{EndsBy}
-use Rattle.ipg_nodes.specs.Stored.{Stored, Source, StandsTree, IsMark, before}
+use Rattle.ipg_mach_nodes.specs.declared.kid.Kid.TheVariants as kid
+use Rattle.ipg_mach_term.specs.Advance.{EndsBy}
+use Rattle.ipg_mach_nodes.specs.Stored.{Stored, Source, StandsTree, IsMark, before}
 use Rattle.ipg_table.specs.Rows.{Rows}
 use Rattle.ipg_piles.specs.Piled.{Piled, below, between}
 use Rattle.ipg_mach.specs.declared.frame.Frame.{Frame}
 use Rattle.ipg_region.specs.declared.region.RunId.{RunId}
-use Rattle.ipg_nodes.specs.declared.store.Mark.{Mark}
+use Rattle.ipg_mach_nodes.specs.declared.store.Mark.{Mark}
 use Rattle.ipg_memo.specs.Keyed.{Entries}
 use Rattle.ipg_mach.specs.declared.frame.Held.{Held}
 use Rattle.ipg_mach.specs.declared.frame.Held.TheVariants as held
 use Rattle.ipg_mach.specs.declared.frame.NewCall.{NewCall}
-use Rattle.ipg_parsed.specs.declared.parsed.Counts.{Counts}
+use Rattle.ipg_tree_walk.specs.declared.parsed.Counts.{Counts}
 use Rattle.ipg_mach.specs.Calls.{Shown, IsHighest, IsHolding, IsKey, IsAnswer, IsWorking, IsNew, IsSub, Wait, Keeps, size_of}
 use Rattle.ipg_mach.specs.Known.{IsEntryOf, IsKnown, key_of}
 use Rattle.ipg_mach.specs.Counted.{IsTally}

@@ -1,10 +1,10 @@
 -- What was stored before a mark stays as the store grows and is cut behind it.
 use Rattle.std.proofs.Common.{◌≡◌, ℕ, ◌≤◌, refl, sym, ap, ◌∙◌, subst, arith, List, ◌++◌, length, take, max}
 use Rattle.std.proofs.lemmas.List.{take-append-le, length-append, length-take}
-use Rattle.ipg_nodes.specs.declared.store.Mark.{Mark}
-use Rattle.ipg_nodes.specs.Stored.{Stored, IsMark, before}
-use Rattle.ipg_nodes.specs.Laws.{Grows}
-use Rattle.ipg_close.specs.Laws.{BeforeBefore}
+use Rattle.ipg_mach_nodes.specs.declared.store.Mark.{Mark}
+use Rattle.ipg_mach_nodes.specs.Stored.{Stored, IsMark, before}
+use Rattle.ipg_mach_nodes.specs.Laws.{Grows}
+use Rattle.ipg_mach_node.specs.Laws.{BeforeBefore}
 use Rattle.ipg_mach.specs.declared.frame.Frame.{Frame}
 use Rattle.ipg_mach.specs.Calls.{Shown, Keeps}
 

@@ -2,9 +2,9 @@
 use Rattle.std.proofs.Common.{◌≡◌, refl, sym, subst, List, ◌∷◌, None, Result}
 use Rattle.ipg_core.specs.Tree.{Tree}
 use Rattle.ipg_core.specs.Run.{Stop}
-use Rattle.ipg_moves.specs.Moves.{OpenCall, Key}
-use Rattle.ipg_nodes.specs.Stored.{Source, before}
-use Rattle.ipg_close.specs.Laws.{BeforeBefore, GrowsFromBefore, ItemsStay, ResultsStay}
+use Rattle.ipg_mach_moves.specs.Moves.{OpenCall, Key}
+use Rattle.ipg_mach_nodes.specs.Stored.{Source, before}
+use Rattle.ipg_mach_node.specs.Laws.{BeforeBefore, GrowsFromBefore, ItemsStay, ResultsStay}
 use Rattle.ipg_table.specs.Rows.{Rows}
 use Rattle.ipg_piles.specs.Piled.{below}
 use Rattle.ipg_mach.specs.declared.frame.Frame.{Frame}

@@ -8,21 +8,21 @@ use Rattle.ipg_core.specs.Tree as tree
 use Rattle.ipg_core.specs.Tree.{Tree}
 use Rattle.ipg_core.specs.Meaning as meaning
 use Rattle.ipg_core.specs.Meaning.{State, node_of}
-use Rattle.ipg_moves.specs.Moves as moves
-use Rattle.ipg_moves.specs.Moves.{OpenCall, Past, turned, begins, runs_on, key_at}
-use Rattle.ipg_nodes.specs.declared.store.Mark.{Mark}
-use Rattle.ipg_nodes.specs.Stored.{Stored, Source, IsMark, before}
-use Rattle.ipg_nodes.specs.Laws.{Grows}
+use Rattle.ipg_mach_moves.specs.Moves as moves
+use Rattle.ipg_mach_moves.specs.Moves.{OpenCall, Past, turned, begins, runs_on, key_at}
+use Rattle.ipg_mach_nodes.specs.declared.store.Mark.{Mark}
+use Rattle.ipg_mach_nodes.specs.Stored.{Stored, Source, IsMark, before}
+use Rattle.ipg_mach_nodes.specs.Laws.{Grows}
 use Rattle.ipg_table.specs.declared.row.AltRow.{AltRow}
 use Rattle.ipg_table.specs.declared.row.Instr.{Instr}
 use Rattle.ipg_table.specs.Rows.{Rows, Each, HoldsInstr, HoldsAlt, rows_at}
-use Rattle.ipg_hand.specs.Now.{AreResults}
-use Rattle.ipg_close.specs.Items.{HasItems}
-use Rattle.ipg_close.specs.Laws.{BeforeBefore, ItemsStay, NoneHasRun, ResultsStay}
+use Rattle.ipg_mach_slot.specs.Now.{AreResults}
+use Rattle.ipg_mach_node.specs.Items.{HasItems}
+use Rattle.ipg_mach_node.specs.Laws.{BeforeBefore, ItemsStay, NoneHasRun, ResultsStay}
 use Rattle.ipg_piles.specs.Piled.{Piled, Turns, below, above}
-use Rattle.ipg_advance.specs.declared.entry.Entry.{Entry}
-use Rattle.ipg_advance.specs.declared.entry.Entry.TheVariants.{Outside, Items, Turns as TurnsTo}
-use Rattle.ipg_advance.specs.Advance.{IsEntry}
+use Rattle.ipg_mach_term.specs.declared.entry.Entry.{Entry}
+use Rattle.ipg_mach_term.specs.declared.entry.Entry.TheVariants.{Outside, Items, Turns as TurnsTo}
+use Rattle.ipg_mach_term.specs.Advance.{IsEntry}
 use Rattle.ipg_mach.specs.declared.frame.Frame.{Frame}
 use Rattle.ipg_mach.specs.declared.frame.Held.{Held}
 use Rattle.ipg_mach.specs.Calls.{Shown, items_in, IsAnswer, IsAtWork, IsHolding, IsHighest, IsReady, IsCall, Wait, size_of}

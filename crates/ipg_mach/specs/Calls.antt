@@ -7,23 +7,23 @@ use Rattle.ipg_core.specs.Tree.{Tree}
 use Rattle.ipg_core.specs.Within.{TreeWithin}
 use Rattle.ipg_core.specs.Run.{Stop, NoTree, OutOfRange, Asked}
 use Rattle.ipg_core.specs.Meaning as meaning
-use Rattle.ipg_moves.specs.Moves as moves
-use Rattle.ipg_moves.specs.Moves.{OpenCall, Highest, Works, Holds, Key, silent, at_hand}
+use Rattle.ipg_mach_moves.specs.Moves as moves
+use Rattle.ipg_mach_moves.specs.Moves.{OpenCall, Highest, Works, Holds, Key, silent, at_hand}
 use Rattle.ipg_region.specs.declared.region.RunId.{RunId}
-use Rattle.ipg_nodes.specs.declared.kid.Kid.{Kid}
-use Rattle.ipg_nodes.specs.declared.kid.Kid.TheVariants as kid
+use Rattle.ipg_mach_nodes.specs.declared.kid.Kid.{Kid}
+use Rattle.ipg_mach_nodes.specs.declared.kid.Kid.TheVariants as kid
 use Rattle.ipg_table.specs.declared.row.Action.{Action}
 use Rattle.ipg_table.specs.declared.row.Action.TheVariants as action
-use Rattle.ipg_hand.specs.declared.now.Running.{Running}
-use Rattle.ipg_advance.specs.declared.entry.Entry.{Entry}
-use Rattle.ipg_advance.specs.declared.entry.Entry.TheVariants as entry
-use Rattle.ipg_nodes.specs.declared.store.Mark.{Mark}
-use Rattle.ipg_nodes.specs.Stored.{Stored, Source, StandsTree, IsMark, before}
+use Rattle.ipg_mach_slot.specs.declared.now.Running.{Running}
+use Rattle.ipg_mach_term.specs.declared.entry.Entry.{Entry}
+use Rattle.ipg_mach_term.specs.declared.entry.Entry.TheVariants as entry
+use Rattle.ipg_mach_nodes.specs.declared.store.Mark.{Mark}
+use Rattle.ipg_mach_nodes.specs.Stored.{Stored, Source, StandsTree, IsMark, before}
 use Rattle.ipg_table.specs.declared.row.Instr.{Instr}
 use Rattle.ipg_table.specs.Rows.{Rows, Each, HoldsInstr, HoldsAlt, StandFor, attrs_in}
-use Rattle.ipg_hand.specs.Now.{AreResults}
-use Rattle.ipg_advance.specs.Advance.{IsEntry, EndsBy}
-use Rattle.ipg_close.specs.Items.{HasItems}
+use Rattle.ipg_mach_slot.specs.Now.{AreResults}
+use Rattle.ipg_mach_term.specs.Advance.{IsEntry, EndsBy}
+use Rattle.ipg_mach_node.specs.Items.{HasItems}
 use Rattle.ipg_piles.specs.Piled.{Piled, between, IsBase, below, above}
 use Rattle.ipg_mach.specs.declared.frame.Frame.{Frame}
 use Rattle.ipg_mach.specs.declared.frame.NewCall.{NewCall}

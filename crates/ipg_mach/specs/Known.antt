@@ -4,13 +4,13 @@ use Rattle.std.specs.FinMap as map
 use Rattle.ipg_core.specs.Tree.{Tree}
 use Rattle.ipg_core.specs.Within.{TreeWithin}
 use Rattle.ipg_core.specs.Run.{Stop, NoTree}
-use Rattle.ipg_moves.specs.Moves as moves
-use Rattle.ipg_moves.specs.Moves.{find}
+use Rattle.ipg_mach_moves.specs.Moves as moves
+use Rattle.ipg_mach_moves.specs.Moves.{find}
 use Rattle.ipg_memo.specs.declared.memo.Key.{Key}
 use Rattle.ipg_memo.specs.declared.memo.Entry.{Entry}
 use Rattle.ipg_memo.specs.declared.memo.Entry.TheVariants as entry
 use Rattle.ipg_memo.specs.Keyed.{Entries}
-use Rattle.ipg_nodes.specs.Stored.{Stored, Source, StandsTree}
+use Rattle.ipg_mach_nodes.specs.Stored.{Stored, Source, StandsTree}
 
 -- a call by its three numbers
 abbrev pub key_of : Key → moves.Key

@@ -4,10 +4,10 @@ use Rattle.ipg_core.specs.Grammar.{Grammar}
 use Rattle.ipg_core.specs.Tree.{Tree}
 use Rattle.ipg_core.specs.Within.{TreeWithin}
 use Rattle.ipg_core.specs.Run.{Stop, NoTree, OutOfRange}
-use Rattle.ipg_moves.specs.Moves.{Evaluation, Known, Tally, moves, opening, ended}
-use Rattle.ipg_nodes.specs.Stored.{Source, StandsTree}
+use Rattle.ipg_mach_moves.specs.Moves.{Evaluation, Known, Tally, moves, opening, ended}
+use Rattle.ipg_mach_nodes.specs.Stored.{Source, StandsTree}
 use Rattle.ipg_table.specs.Rows.{Rows}
-use Rattle.ipg_parsed.specs.Parse.{Walked, AllLeft}
+use Rattle.ipg_tree_walk.specs.Parse.{Walked, AllLeft}
 use Rattle.ipg_mach.specs.declared.parsing.Outcome as code
 use Rattle.ipg_mach.specs.declared.parsing.Outcome.TheVariants as outcome
 use Rattle.ipg_mach.specs.Counted.{IsTally}

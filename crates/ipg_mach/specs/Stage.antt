@@ -3,17 +3,17 @@ use Rattle.std.specs.Prelude.{◌≡◌, ℕ, List, Option, Some, None}
 use Rattle.ipg_memo.specs.Keyed.{Entries}
 use Rattle.ipg_memo.specs.declared.memo.Key.{Key}
 use Rattle.ipg_memo.specs.declared.memo.Entry.{Entry}
-use Rattle.ipg_nodes.specs.declared.kid.Kid.{Kid}
-use Rattle.ipg_nodes.specs.declared.kid.Kid.TheVariants as kid
+use Rattle.ipg_mach_nodes.specs.declared.kid.Kid.{Kid}
+use Rattle.ipg_mach_nodes.specs.declared.kid.Kid.TheVariants as kid
 use Rattle.ipg_memo.specs.declared.memo.Entry.TheVariants as entry
-use Rattle.ipg_nodes.specs.declared.store.Mark.{Mark}
-use Rattle.ipg_moves.specs.Moves.{OpenCall, Evaluation, Known, silent, at_hand}
-use Rattle.ipg_nodes.specs.Stored.{Stored, Source, IsMark, IsEnd, before}
+use Rattle.ipg_mach_nodes.specs.declared.store.Mark.{Mark}
+use Rattle.ipg_mach_moves.specs.Moves.{OpenCall, Evaluation, Known, silent, at_hand}
+use Rattle.ipg_mach_nodes.specs.Stored.{Stored, Source, IsMark, IsEnd, before}
 use Rattle.ipg_table.specs.Rows.{Rows}
-use Rattle.ipg_hand.specs.Found.{Calls}
-use Rattle.ipg_advance.specs.Advance.{EndsBy}
+use Rattle.ipg_mach_slot.specs.Found.{Calls}
+use Rattle.ipg_mach_term.specs.Advance.{EndsBy}
 use Rattle.ipg_mach.specs.declared.frame.Frame.{Frame}
-use Rattle.ipg_parsed.specs.declared.parsed.Counts.{Counts}
+use Rattle.ipg_tree_walk.specs.declared.parsed.Counts.{Counts}
 use Rattle.ipg_mach.specs.declared.work.Work as work
 use Rattle.ipg_mach.specs.Calls.{Shown, shown, IsHighest}
 use Rattle.ipg_mach.specs.Known.{IsKnown}

@@ -2,7 +2,7 @@
 use Rattle.std.specs.Prelude.{[], Result, Option, Some, None}
 use Rattle.ipg_core.specs.Tree.{Tree}
 use Rattle.ipg_core.specs.Run.{Stop}
-use Rattle.ipg_moves.specs.Moves.{Known}
+use Rattle.ipg_mach_moves.specs.Moves.{Known}
 use Rattle.ipg_mach.specs.declared.machine.Remember.{Remember}
 use Rattle.ipg_mach.specs.declared.machine.Remember.TheVariants.{Nothing, Answers}
 use Rattle.ipg_mach.specs.declared.machine.Turn.{Turn}

@@ -2,11 +2,11 @@
 
 ghost use Rattle.std.specs.Prelude.{◌≡◌, ℕ, List, Option};
 ghost use Rattle.ipg_core.specs.Grammar.{Grammar};
-ghost use Rattle.ipg_moves.specs.Moves as moves;
-ghost use Rattle.ipg_moves.specs.Moves.{Known, Tally};
+ghost use Rattle.ipg_mach_moves.specs.Moves as moves;
+ghost use Rattle.ipg_mach_moves.specs.Moves.{Known, Tally};
 ghost use Rattle.ipg_mach.specs.Counted.{IsTally};
 
-use ipg_parsed::Counts;
+use ipg_tree_walk::Counts;
 
 /// One body, where the rule is global.
 fn body(holder: Option<(u32, u32)>) -> u64
@@ -19,7 +19,7 @@ fn body(holder: Option<(u32, u32)>) -> u64
 }
 
 /// The first rule is open.
-#[tactic(auto, unfolding(ipg_moves::specs::Moves::opening))]
+#[tactic(auto, unfolding(ipg_mach_moves::specs::Moves::opening))]
 pub(crate) fn opening() -> Counts
     ensures { (g : Grammar) (s : List ℕ) (known : Option Known) → IsTally result (moves.opening g s known).tally }
 {

@@ -1,13 +1,13 @@
 //! What is kept for a parse.
 
 ghost use Rattle.std.specs.Prelude.{◌≡◌, IfOk, Result};
-ghost use Rattle.ipg_nodes.specs.Stored.{Source, Stored, nothing};
+ghost use Rattle.ipg_mach_nodes.specs.Stored.{Source, Stored, nothing};
 ghost use Rattle.ipg_mach.specs.Known.{IsKnown};
 ghost use Rattle.ipg_mach.specs.Turning.{known_at};
 
 use crate::machine::Remember;
 use ipg_memo::Memo;
-use ipg_nodes::Store;
+use ipg_mach_nodes::Store;
 use std::alloc::{AllocError, Allocator};
 
 /// Nodes, and the answers of calls that stand among them. Without a memo answers aren't remembered.

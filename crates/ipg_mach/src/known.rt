@@ -4,9 +4,9 @@ ghost use Rattle.std.specs.Prelude.{◌≡◌, Option, Some, Result, OnOk};
 ghost use Rattle.ipg_core.specs.Grammar.{Grammar, rule_at, holder_of};
 ghost use Rattle.ipg_core.specs.Tree.{Tree};
 ghost use Rattle.ipg_core.specs.Run.{Stop};
-ghost use Rattle.ipg_moves.specs.Moves as moves;
-ghost use Rattle.ipg_moves.specs.Moves.{Known};
-ghost use Rattle.ipg_nodes.specs.Stored.{Source, Stored};
+ghost use Rattle.ipg_mach_moves.specs.Moves as moves;
+ghost use Rattle.ipg_mach_moves.specs.Moves.{Known};
+ghost use Rattle.ipg_mach_nodes.specs.Stored.{Source, Stored};
 ghost use Rattle.ipg_mach.specs.Known.{key_of, IsEntryOf, IsKnown};
 
 use ipg_memo::{Entry, Key, Memo};

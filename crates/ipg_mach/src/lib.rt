@@ -14,7 +14,7 @@ mod remembered;
 mod top;
 mod work;
 
-pub use ipg_parsed::{Counts, Parsed};
+pub use ipg_tree_walk::{Counts, Parsed};
 pub use kept::Kept;
 pub use machine::{Machine, Remember, Turn};
 pub use parsing::{Outcome, parse, parse_over};

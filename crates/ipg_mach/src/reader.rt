@@ -4,12 +4,12 @@ ghost use Rattle.std.specs.Prelude.{◌≡◌, ◌≤◌, ◌-◌, ◌^◌, ◌<
 ghost use Rattle.ipg_core.specs.Part.{part as part_of};
 ghost use Rattle.ipg_core.specs.Tree.{Tree};
 ghost use Rattle.ipg_core.specs.Run.{Stop, Asked};
-ghost use Rattle.ipg_moves.specs.Moves.{OpenCall, silent, always};
-ghost use Rattle.ipg_moves.specs.Moves as moves;
-ghost use Rattle.ipg_nodes.specs.Stored.{Source};
+ghost use Rattle.ipg_mach_moves.specs.Moves.{OpenCall, silent, always};
+ghost use Rattle.ipg_mach_moves.specs.Moves as moves;
+ghost use Rattle.ipg_mach_nodes.specs.Stored.{Source};
 ghost use Rattle.ipg_table.specs.Rows.{HoldsInstr};
-ghost use Rattle.ipg_advance.specs.Advance.{IsAtHand, IsAdvance, EndsBy};
-ghost use Rattle.ipg_hand.specs.Now.{lent};
+ghost use Rattle.ipg_mach_term.specs.Advance.{IsAtHand, IsAdvance, EndsBy};
+ghost use Rattle.ipg_mach_slot.specs.Now.{lent};
 ghost use Rattle.ipg_mach.specs.Lending.{Lends};
 ghost use Rattle.ipg_mach.specs.Calls as calls;
 ghost use Rattle.ipg_mach.specs.Calls.{shown, IsWorking, IsSub, items_in, term_at_hand};
@@ -17,11 +17,11 @@ ghost use Rattle.ipg_mach.specs.declared.frame.Frame.{Frame};
 
 use crate::lent::first;
 use crate::top::Top;
-use ipg_advance::laws::{answered_is_taken, sub_ends_by};
-use ipg_advance::{Advance, AtHand, Entry, at_hand, taken};
+use ipg_mach_term::laws::{answered_is_taken, sub_ends_by};
+use ipg_mach_term::{Advance, AtHand, Entry, at_hand, taken};
 use ipg_core::grammar::{CoreField, Sym};
-use ipg_hand::{Now, Running, Site};
-use ipg_nodes::Kid;
+use ipg_mach_slot::{Now, Running, Site};
+use ipg_mach_nodes::Kid;
 use ipg_num::item_at;
 use ipg_table::results::Results;
 use ipg_table::row::{Action, Instr};
@@ -103,7 +103,7 @@ impl<'v, 'm, A: Allocator + Clone + Drop> View<'v, 'm, A> {
 }
 
 impl<'v, 'm, A: Allocator + Clone + Drop> Results for View<'v, 'm, A> {
-    ghost use Rattle.ipg_hand.specs.Now.{Lent, Stands};
+    ghost use Rattle.ipg_mach_slot.specs.Now.{Lent, Stands};
     ghost use Rattle.ipg_mach.specs.Lending.{Lends};
 
     ghost stands = { λ view env. (l : Lent) → Lends view l → Stands l env };

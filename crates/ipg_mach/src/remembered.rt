@@ -4,9 +4,9 @@ ghost use Rattle.std.specs.Prelude.{◌≡◌, Option, Some, None, Result, IfOk,
 ghost use Rattle.ipg_core.specs.Grammar.{Grammar, rule_at, holder_of};
 ghost use Rattle.ipg_core.specs.Tree.{Tree};
 ghost use Rattle.ipg_core.specs.Run.{Stop};
-ghost use Rattle.ipg_moves.specs.Moves as moves;
-ghost use Rattle.ipg_moves.specs.Moves.{Known};
-ghost use Rattle.ipg_nodes.specs.Stored.{Source, IsMark, before};
+ghost use Rattle.ipg_mach_moves.specs.Moves as moves;
+ghost use Rattle.ipg_mach_moves.specs.Moves.{Known};
+ghost use Rattle.ipg_mach_nodes.specs.Stored.{Source, IsMark, before};
 ghost use Rattle.ipg_table.specs.Rows.{StandFor};
 ghost use Rattle.ipg_mach.specs.Calls.{shown};
 ghost use Rattle.ipg_mach.specs.Known.{key_of, IsEntryOf, IsKnown};
@@ -14,10 +14,10 @@ ghost use Rattle.ipg_mach.specs.Stage.{IsRaised, Remembers};
 
 use crate::known::learn;
 use crate::top::Top;
-use ipg_close::laws::grows_from_before;
+use ipg_mach_node::laws::grows_from_before;
 use ipg_memo::{Entry, Key, Memo};
-use ipg_nodes::laws::trees_stay;
-use ipg_nodes::{Mark, Store};
+use ipg_mach_nodes::laws::trees_stay;
+use ipg_mach_nodes::{Mark, Store};
 use ipg_table::tables::Tables;
 use std::alloc::{AllocError, Allocator};
 

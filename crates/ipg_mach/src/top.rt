@@ -10,27 +10,27 @@ ghost use Rattle.ipg_core.specs.Environment as core;
 ghost use Rattle.ipg_core.specs.Run.{Stop};
 ghost use Rattle.ipg_core.specs.Meaning as meaning;
 ghost use Rattle.ipg_core.specs.Meaning.{node_of, with_kid, with_value};
-ghost use Rattle.ipg_moves.specs.Moves as moves;
-ghost use Rattle.ipg_moves.specs.Moves.{OpenCall, Past, turned, begins, runs_on, key_at};
-ghost use Rattle.ipg_nodes.specs.Stored.{Source, IsMark};
+ghost use Rattle.ipg_mach_moves.specs.Moves as moves;
+ghost use Rattle.ipg_mach_moves.specs.Moves.{OpenCall, Past, turned, begins, runs_on, key_at};
+ghost use Rattle.ipg_mach_nodes.specs.Stored.{Source, IsMark};
 ghost use Rattle.ipg_table.specs.Rows.{Rows, Each, HoldsAlt, HoldsInstr};
-ghost use Rattle.ipg_advance.specs.Advance.{IsAdvance, IsItem};
-ghost use Rattle.ipg_hand.specs.Now.{IsDone};
+ghost use Rattle.ipg_mach_term.specs.Advance.{IsAdvance, IsItem};
+ghost use Rattle.ipg_mach_slot.specs.Now.{IsDone};
 ghost use Rattle.ipg_piles.specs.Piled.{IsBase, below};
-ghost use Rattle.ipg_advance.specs.declared.entry.Entry.TheVariants.{Outside};
+ghost use Rattle.ipg_mach_term.specs.declared.entry.Entry.TheVariants.{Outside};
 ghost use Rattle.ipg_mach.specs.Calls.{shown, IsAtWork, IsWorking, IsHolding, IsHighest, IsReady, Keeps, items_in, term_at_hand};
 ghost use Rattle.ipg_mach.specs.Calls as calls;
 ghost use Rattle.ipg_mach.specs.declared.frame.Frame.{Frame};
 
 use crate::frame::{Frame, Held};
 use crate::lent::{behind_first, first};
-use ipg_advance::{Advance, Entry};
-use ipg_close::laws::{
+use ipg_mach_term::{Advance, Entry};
+use ipg_mach_node::laws::{
     before_before, items_stay, none_has_run, one_more, result_set, results_stay,
 };
-use ipg_close::{Closing, Scratch, array, close, repetition};
-use ipg_hand::Done;
-use ipg_nodes::{Kid, Mark, RunId, Store};
+use ipg_mach_node::{Closing, Scratch, array, close, repetition};
+use ipg_mach_slot::Done;
+use ipg_mach_nodes::{Kid, Mark, RunId, Store};
 use ipg_piles::Piles;
 use ipg_table::row::{AltRow, Instr};
 use ipg_table::tables::Tables;

@@ -4,7 +4,7 @@ use Rattle.std.proofs.lemmas.List.{length-map}
 use Rattle.std.proofs.lemmas.List.Sums.{sum_by-cons}
 use Rattle.ipg_ast.specs.declared.grammar.Rule.{Rule, out-Rule}
 use Rattle.ipg_ast.specs.declared.grammar.Alt.{Alt, out-Alt}
-use Rattle.ipg_ast.specs.Shape.{locals_in, rules_in, count_rules, max_rules}
+use Rattle.ipg_ast.specs.Shape.{locals_in, rules_in, tool_rules, max_rules}
 use Rattle.ipg_names.specs.Roster.{Entry, local, locals_from, family_of, roster_from}
 use Rattle.ipg_names.proofs.Lists.{at_item, pieces}
 
@@ -24,7 +24,7 @@ locals_length r a (alt ∷ alts) =
 pub family_length : (r : ℕ) (rule : Rule) → length (family_of r rule) ≡ rules_in rule
 family_length r rule = let h = locals_length r 0 (out-Rule rule).alts in omega (arith, h)
 
-pub roster_length : (r : ℕ) (rules : List Rule) → length (roster_from r rules) ≡ count_rules rules
+pub roster_length : (r : ℕ) (rules : List Rule) → length (roster_from r rules) ≡ tool_rules rules
 roster_length r [] = refl
 roster_length r (rule ∷ rules) =
     let next = r + length (family_of r rule) in
@@ -49,5 +49,5 @@ locals_turn r alts a alt old new all is within put so_far =
     pieces old _ new (locals_from r (a + 1) (drop (a + 1) alts)) (locals_from r a (alt ∷ drop (a + 1) alts)) all put refl
     (ap (λ xs. old ++ locals_from r a xs) (sym (at_item alts a alt is within)) ∙ so_far)
 
-pub few_so_far : (rules : List Rule) (old rest : List Entry) → old ++ rest ≡ roster_from 0 rules → count_rules rules ≤ max_rules → length old < 2 ^ 32
+pub few_so_far : (rules : List Rule) (old rest : List Entry) → old ++ rest ≡ roster_from 0 rules → tool_rules rules ≤ max_rules → length old < 2 ^ 32
 few_so_far rules old rest whole few = omega (arith, ap length whole, length-append old rest, roster_length 0 rules)

@@ -17,7 +17,7 @@ use Rattle.ipg_ast.specs.declared.grammar.Field.TheVariants.{Id as Attribute, St
 use Rattle.ipg_ast.specs.declared.grammar.Expr.{Expr}
 use Rattle.ipg_ast.specs.declared.grammar.Expr.TheOpen.{Expr-F}
 use Rattle.ipg_ast.specs.declared.grammar.Expr.TheFolds.{fold-Expr}
-use Rattle.ipg_ast.specs.Shape.{IsFilled, max_rules, max_alts, max_terms, count_rules}
+use Rattle.ipg_ast.specs.Shape.{IsFilled, max_rules, max_alts, max_terms, tool_rules}
 
 -- ---- terms, branches of switches and identifiers, counted together
 
@@ -101,6 +101,6 @@ pub record IsReadableRule (rule : Rule) : Type 0 where
 
 pub record IsReadable (g : Grammar) : Type 0 where
   pub some : 0 < length g.rules
-  pub count : count_rules g.rules ≤ max_rules
+  pub count : tool_rules g.rules ≤ max_rules
   pub each : AllByRecursion IsReadableRule g.rules
   pub few : parts_count g < 2 ^ 32

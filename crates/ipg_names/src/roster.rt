@@ -1,6 +1,6 @@
 //! The rules of a text in the order of their heads, local ones included.
 ghost use Rattle.std.specs.Prelude.{◌≡◌, ◌<◌, ◌≤◌, ◌^◌, ◌++◌, length, map, IfOk, OnOk};
-ghost use Rattle.ipg_ast.specs.Shape.{count_rules, max_rules, max_alts};
+ghost use Rattle.ipg_ast.specs.Shape.{tool_rules, max_rules, max_alts};
 ghost use Rattle.ipg_names.specs.Roster.{locals_from, family_of, roster_from};
 ghost use Rattle.ipg_names.specs.View.{entries_view, HasFewAlts, HaveFewAlts, local_entries};
 
@@ -16,7 +16,7 @@ pub struct Entry<'a> {
 }
 
 pub fn roster<'a>(alloc: Global, rules: &'a [Rule]) -> Result<Vec<Entry<'a>>, AllocError>
-    requires count { count_rules rules.now ≤ max_rules }
+    requires count { tool_rules rules.now ≤ max_rules }
     requires alts { HaveFewAlts rules.now }
     ensures { IfOk result (λ roster. entries_view roster.items ≡ roster_from 0 rules.now) }
 {

@@ -1,7 +1,7 @@
 -- What open calls have come to: results of terms, attributes and items, those of a call on top of those of the calls below it.
 use Rattle.std.specs.Prelude.{◌≡◌, ℕ, ◌-◌, ◌≤◌, List, [], length, take, drop, Option, ℤ}
-use Rattle.ipg_nodes.specs.declared.kid.Kid.{Kid}
-use Rattle.ipg_hand.specs.declared.now.Done.{Done}
+use Rattle.ipg_mach_nodes.specs.declared.kid.Kid.{Kid}
+use Rattle.ipg_mach_slot.specs.declared.now.Done.{Done}
 use Rattle.ipg_piles.specs.declared.piles.Bases.{Bases}
 
 pub record Piled : Type 0 where

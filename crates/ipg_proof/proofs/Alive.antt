@@ -10,13 +10,13 @@ use Rattle.ipg_core.specs.Grammar.{Grammar}
 use Rattle.ipg_core.specs.MustTouch.{Marks, or_false}
 use Rattle.ipg_graph.specs.declared.edge.Edge.{Edge}
 use Rattle.ipg_graph.specs.Graph.{IsLive, ends}
-use Rattle.ipg_edges.specs.Edges.{edges_of}
+use Rattle.ipg_facts_edges.specs.Edges.{edges_of}
 use Rattle.ipg_lin.specs.declared.formula.Formula.{Formula}
 use Rattle.ipg_lin.specs.declared.formula.Boxed.{Boxed}
 use Rattle.ipg_lin.specs.Formula.{Solvable}
 use Rattle.ipg_cert.specs.declared.refutation.Refutation.{Refutation}
 use Rattle.ipg_cert.specs.Laws.{ChecksRefute}
-use Rattle.ipg_sound.specs.Laws.{AllSolved, ConditionsAreParts, JointSolvesParts}
+use Rattle.ipg_facts_laws.specs.Laws.{AllSolved, ConditionsAreParts, JointSolvesParts}
 use Rattle.ipg_proof.specs.Calls.{Calls, calls_of, keep_of, keeps, joint_of, is_checked, edge_checks, live_graph, with_set}
 use Rattle.ipg_proof.specs.Cycles.{LiveCyclesAreCycles, LoopsAreLive}
 use Rattle.ipg_proof.proofs.Lists.{all_weaker}

@@ -9,8 +9,8 @@ use Rattle.ipg_lin.specs.declared.formula.Formula.{Formula}
 use Rattle.ipg_lin.specs.declared.formula.Boxed.{Boxed}
 use Rattle.ipg_facts.specs.Numbers.{keep}
 use Rattle.ipg_facts.specs.Joint.{joint}
-use Rattle.ipg_sound.specs.Laws.{IsPart, ArePartsWith, ConditionsAreParts}
-use Rattle.ipg_sound.specs.Bounded.{JointIsPart}
+use Rattle.ipg_facts_laws.specs.Laws.{IsPart, ArePartsWith, ConditionsAreParts}
+use Rattle.ipg_facts_laws.specs.Bounded.{JointIsPart}
 use Rattle.ipg_proof.specs.Calls.{Calls, keeps, joint_of}
 
 pub some_same : {A : Type 0} (a b : A) → Some a ≡ Some b → a ≡ b

@@ -3,7 +3,7 @@ use Rattle.std.proofs.Common.{ℕ, List, [], ◌∷◌, map, length, replicate, 
 use Rattle.std.specs.Prelude.{IsTrue}
 use Rattle.std.specs.List.{AllByRecursion}
 use Rattle.ipg_graph.specs.Answers.{RunsAreWhole}
-use Rattle.ipg_edges.specs.Edges.{edges_of}
+use Rattle.ipg_facts_edges.specs.Edges.{edges_of}
 use Rattle.ipg_lin.specs.Formula.{Solvable}
 use Rattle.ipg_cert.specs.declared.refutation.Refutation.{Refutation}
 use Rattle.ipg_cert.specs.Laws.{ChecksRefute}

@@ -5,7 +5,7 @@ use Rattle.ipg_core.specs.Grammar.{Grammar}
 use Rattle.ipg_core.specs.MustTouch.{Marks, or_false}
 use Rattle.ipg_graph.specs.declared.edge.Edge.{Edge}
 use Rattle.ipg_graph.specs.Graph.{Graph, graph_of}
-use Rattle.ipg_edges.specs.Edges.{edges_of}
+use Rattle.ipg_facts_edges.specs.Edges.{edges_of}
 use Rattle.ipg_lin.specs.declared.formula.Formula.{Formula}
 use Rattle.ipg_lin.specs.declared.formula.Boxed.{Boxed}
 use Rattle.ipg_facts.specs.Numbers.{keep}

@@ -3,7 +3,7 @@ use Rattle.std.specs.Prelude.{◌≡◌, ℕ, ◌+◌, ◌<◌, ◌≤◌, ◌�
 use Rattle.ipg_core.specs.Grammar.{Grammar}
 use Rattle.ipg_graph.specs.Graph.{Graph}
 use Rattle.ipg_graph.specs.Answers.{Spot, Start, At, IsNext, HasNoNext, IsRun}
-use Rattle.ipg_edges.specs.Edges.{edges_of}
+use Rattle.ipg_facts_edges.specs.Edges.{edges_of}
 use Rattle.ipg_proof.specs.declared.certificate.Certificate.{Certificate}
 use Rattle.ipg_proof.specs.Calls.{dead_edges, cycles_of, live_graph}
 

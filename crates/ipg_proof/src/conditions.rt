@@ -1,14 +1,14 @@
 //! The conditions of edges by their numbers, alone and along a cycle.
 
 ghost use Rattle.std.specs.Prelude.{◌≡◌, ◌++◌, ◌<◌, length, IfOk, OnOk, Some, option_to_list};
-ghost use Rattle.ipg_sound.specs.Laws.{IsPart};
+ghost use Rattle.ipg_facts_laws.specs.Laws.{IsPart};
 ghost use Rattle.ipg_proof.specs.Calls as spec;
 ghost use Rattle.ipg_proof.specs.Seen.{seen};
 
 use crate::calls::Calls;
 use ipg_facts::{joint, keep};
 use ipg_lin::{Boxed, Formula};
-use ipg_sound::laws::{conditions_are_parts, joint_is_part};
+use ipg_facts_laws::laws::{conditions_are_parts, joint_is_part};
 use std::alloc::{AllocError, Global};
 
 /// The conditions under which the call of the edge is made on its caller's whole part, and the bounds of their

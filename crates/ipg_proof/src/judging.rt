@@ -1,7 +1,7 @@
 //! Whether a certificate proves a grammar.
 ghost use Rattle.std.specs.Prelude.{◌≡◌, IfOk, MatchResult, MatchOption};
 ghost use Rattle.ipg_proof.specs.Proves.{Proves, AreChecked, IsUnsound, IsUnsoundness, IsFault};
-ghost use Rattle.ipg_edges.specs.Edges.{edges_of};
+ghost use Rattle.ipg_facts_edges.specs.Edges.{edges_of};
 
 use crate::calls::Calls;
 use crate::certificate::Certificate;
@@ -9,7 +9,7 @@ use crate::checking::unsound;
 use crate::fault::ProofWhy;
 use crate::placing::misplaced;
 use ipg_core::accepted::Core;
-use ipg_edges::edges;
+use ipg_facts_edges::edges;
 use ipg_graph::Edge;
 use ipg_touch::must_touch;
 use std::alloc::{AllocError, Global};

@@ -1,14 +1,14 @@
 //! The cycles of the edges that aren't dead.
 
 ghost use Rattle.std.specs.Prelude.{◌≡◌, map, replicate, false, true, slice_set, IfOk};
-ghost use Rattle.ipg_edges.specs.Edges.{edges_of};
+ghost use Rattle.ipg_facts_edges.specs.Edges.{edges_of};
 ghost use Rattle.ipg_graph.specs.Answers.{Start};
 ghost use Rattle.ipg_proof.specs.Calls.{with_set, live_graph};
 
 use ipg_cert::Refutation;
 use ipg_core::accepted::Core;
 use ipg_graph::{Cycles, Edge};
-use ipg_sound::laws::{edges_are_few, edges_are_inside};
+use ipg_facts_laws::laws::{edges_are_few, edges_are_inside};
 use std::alloc::{AllocError, Global};
 
 fn set(flags: &mut Vec<bool>, at: u32)

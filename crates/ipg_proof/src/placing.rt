@@ -1,6 +1,6 @@
 //! Which entry is out of place.
 ghost use Rattle.std.specs.Prelude.{◌≡◌, ◌+◌, ◌<◌, ◌^◌, map, length, IfOk, MatchOption};
-ghost use Rattle.ipg_edges.specs.Edges.{edges_of};
+ghost use Rattle.ipg_facts_edges.specs.Edges.{edges_of};
 ghost use Rattle.ipg_graph.specs.Answers.{Start, IsRun};
 ghost use Rattle.ipg_proof.specs.Calls.{dead_edges, cycles_of, live_graph};
 ghost use Rattle.ipg_proof.specs.Places.{Rise, IsFirstOff, IsFirstOther, AreInPlace, IsMismatch};

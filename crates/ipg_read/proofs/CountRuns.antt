@@ -1,10 +1,10 @@
 -- A run of what is due is a run of the machine that counts: the same fault, and rows that lead to its counts.
 use Rattle.std.proofs.Common.{◌≡◌, ℕ, ◌+◌, List, [], ◌∷◌, Option, Some, None, Result, Ok, Err, refl, ap, ◌∙◌, sym, subst}
-use Rattle.ipg_syntax.specs.Classes.{Tok}
-use Rattle.ipg_syntax.specs.Machine as M
-use Rattle.ipg_syntax.specs.Counting.{Seen, counters}
-use Rattle.ipg_scan.specs.Rowed.{Row}
-use Rattle.ipg_scan.specs.Asked as A
+use Rattle.ipg_read_syntax.specs.Classes.{Tok}
+use Rattle.ipg_read_syntax.specs.Machine as M
+use Rattle.ipg_read_syntax.specs.Counting.{Seen, counters}
+use Rattle.ipg_read_scan.specs.Rowed.{Row}
+use Rattle.ipg_read_scan.specs.Asked as A
 use Rattle.ipg_read.specs.Counted.{Counts, notes}
 use Rattle.ipg_read.proofs.Dues.{site_due, pos_due}
 use Rattle.ipg_read.proofs.Ends.{part_end}

@@ -4,20 +4,20 @@ use Rattle.ipg_num.specs.declared.op.Op2.TheVariants.{Div, Sub}
 use Rattle.ipg_ast.specs.declared.grammar.Ident.{Ident}
 use Rattle.ipg_ast.specs.declared.grammar.Span.{Span}
 use Rattle.ipg_ast.specs.declared.grammar.What.{What}
-use Rattle.ipg_syntax.specs.Classes as C
-use Rattle.ipg_syntax.specs.Classes.{Infix, level, Tok}
-use Rattle.ipg_syntax.specs.Machine as M
-use Rattle.ipg_tokens.specs.declared.fault.Which.TheVariants.{Terms}
-use Rattle.ipg_syntax.specs.Counting.{Seen, counters, more}
-use Rattle.ipg_scan.specs.Lexemes.{infix_of, coded_infix}
-use Rattle.ipg_scan.specs.declared.due.Due.{Due}
-use Rattle.ipg_scan.specs.declared.due.Due.TheVariants as D
-use Rattle.ipg_scan.specs.declared.row.Role.TheVariants as Use
-use Rattle.ipg_scan.specs.declared.row.Extent.TheVariants as Extent
-use Rattle.ipg_scan.specs.Rowed.{Row}
-use Rattle.ipg_scan.specs.Rowed as R
-use Rattle.ipg_scan.specs.Asked as A
-use Rattle.ipg_scan.specs.Asked.{Step, lost, moved, after_rows, advance}
+use Rattle.ipg_read_syntax.specs.Classes as C
+use Rattle.ipg_read_syntax.specs.Classes.{Infix, level, Tok}
+use Rattle.ipg_read_syntax.specs.Machine as M
+use Rattle.ipg_read_tokens.specs.declared.fault.Which.TheVariants.{Terms}
+use Rattle.ipg_read_syntax.specs.Counting.{Seen, counters, more}
+use Rattle.ipg_read_scan.specs.Lexemes.{infix_of, coded_infix}
+use Rattle.ipg_read_scan.specs.declared.due.Due.{Due}
+use Rattle.ipg_read_scan.specs.declared.due.Due.TheVariants as D
+use Rattle.ipg_read_scan.specs.declared.row.Role.TheVariants as Use
+use Rattle.ipg_read_scan.specs.declared.row.Extent.TheVariants as Extent
+use Rattle.ipg_read_scan.specs.Rowed.{Row}
+use Rattle.ipg_read_scan.specs.Rowed as R
+use Rattle.ipg_read_scan.specs.Asked as A
+use Rattle.ipg_read_scan.specs.Asked.{Step, lost, moved, after_rows, advance}
 use Rattle.ipg_read.specs.Counted.{Counts, note, notes}
 use Rattle.ipg_read.proofs.Dues.{use_role, use_due, frames_due, inner_due, base_due, part_due, site_due, pos_due}
 use Rattle.ipg_read.proofs.Levels.{above_none, above_zero, above_one, no_question, tighter}

@@ -1,15 +1,15 @@
 -- What is due at a position of the machine.
 use Rattle.std.proofs.Common.{◌+◌, List, [], ◌∷◌}
-use Rattle.ipg_syntax.specs.Classes.{level}
-use Rattle.ipg_syntax.specs.Machine as M
-use Rattle.ipg_syntax.specs.Machine.{Acts}
-use Rattle.ipg_scan.specs.Lexemes.{coded_infix}
-use Rattle.ipg_scan.specs.declared.row.Site.{Site}
-use Rattle.ipg_scan.specs.declared.row.Site.TheVariants.{Global, Local}
-use Rattle.ipg_scan.specs.declared.row.Role.{Role}
-use Rattle.ipg_scan.specs.declared.row.Role.TheVariants as Use
-use Rattle.ipg_scan.specs.declared.due.Due.{Due}
-use Rattle.ipg_scan.specs.declared.due.Due.TheVariants as D
+use Rattle.ipg_read_syntax.specs.Classes.{level}
+use Rattle.ipg_read_syntax.specs.Machine as M
+use Rattle.ipg_read_syntax.specs.Machine.{Acts}
+use Rattle.ipg_read_scan.specs.Lexemes.{coded_infix}
+use Rattle.ipg_read_scan.specs.declared.row.Site.{Site}
+use Rattle.ipg_read_scan.specs.declared.row.Site.TheVariants.{Global, Local}
+use Rattle.ipg_read_scan.specs.declared.row.Role.{Role}
+use Rattle.ipg_read_scan.specs.declared.row.Role.TheVariants as Use
+use Rattle.ipg_read_scan.specs.declared.due.Due.{Due}
+use Rattle.ipg_read_scan.specs.declared.due.Due.TheVariants as D
 
 module _ {A : Acts} where
   abbrev pub use_role : M.SlotUse A → Role

@@ -1,10 +1,10 @@
 -- Where tokens end within a term, no grammar ends.
 use Rattle.std.proofs.Common.{◌≡◌, ℕ, List, [], ◌∷◌, Err, refl}
-use Rattle.ipg_syntax.specs.Machine as M
-use Rattle.ipg_syntax.specs.Machine.{Acts}
-use Rattle.ipg_scan.specs.declared.due.Due.{Due}
-use Rattle.ipg_scan.specs.declared.due.Due.TheVariants as D
-use Rattle.ipg_scan.specs.Asked as Asked
+use Rattle.ipg_read_syntax.specs.Machine as M
+use Rattle.ipg_read_syntax.specs.Machine.{Acts}
+use Rattle.ipg_read_scan.specs.declared.due.Due.{Due}
+use Rattle.ipg_read_scan.specs.declared.due.Due.TheVariants as D
+use Rattle.ipg_read_scan.specs.Asked as Asked
 use Rattle.ipg_read.proofs.Dues.{frames_due, base_due, part_due}
 
 frames_end : {B : Acts} (at : ℕ) (fs : List (M.Frame B)) (r : List Due) → Asked.ended at (frames_due fs r) ≡ Err at

@@ -2,9 +2,9 @@
 use Rattle.std.proofs.Common.{◌≡◌, ℕ, ◌+◌, ◌≤◌, ◌<◌, [], Bool, true, false, not, nat_le, refl, arith}
 use Rattle.std.proofs.lemmas.Bool.{le-leb, lt-leb, leb-true, leb-false}
 use Rattle.ipg_num.specs.declared.op.Op2.TheVariants.{Add, Sub, Mul, Div, Mod, Shl, Shr, BitAnd, BitOr, BitXor, Eq, Ne, Lt, Le, Gt, Ge}
-use Rattle.ipg_syntax.specs.Classes.{Infix, either, both, op, level}
-use Rattle.ipg_scan.specs.Lexemes.{infix_of, coded_infix}
-use Rattle.ipg_scan.specs.Asked as A
+use Rattle.ipg_read_syntax.specs.Classes.{Infix, either, both, op, level}
+use Rattle.ipg_read_scan.specs.Lexemes.{infix_of, coded_infix}
+use Rattle.ipg_read_scan.specs.Asked as A
 
 pub coded_back : (i : Infix) → infix_of (coded_infix i) ≡ i
 coded_back either = refl

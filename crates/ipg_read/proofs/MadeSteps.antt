@@ -13,20 +13,20 @@ use Rattle.ipg_ast.specs.declared.grammar.Term.{Term}
 use Rattle.ipg_ast.specs.declared.grammar.Term.TheVariants as T
 use Rattle.ipg_ast.specs.declared.grammar.Alt.{Alt}
 use Rattle.ipg_ast.specs.declared.grammar.Rule.{Rule}
-use Rattle.ipg_syntax.specs.Classes as C
-use Rattle.ipg_syntax.specs.Classes.{Infix, level, Tok}
-use Rattle.ipg_syntax.specs.Machine as M
-use Rattle.ipg_syntax.specs.Grammars.{infix_expr}
-use Rattle.ipg_syntax.specs.Making.{made, last}
-use Rattle.ipg_scan.specs.Lexemes.{infix_of, coded_infix}
-use Rattle.ipg_scan.specs.declared.due.Due.{Due}
-use Rattle.ipg_scan.specs.declared.due.Due.TheVariants as D
-use Rattle.ipg_scan.specs.declared.row.Role.TheVariants as Use
-use Rattle.ipg_scan.specs.declared.row.Extent.TheVariants as Extent
-use Rattle.ipg_scan.specs.Rowed.{Row}
-use Rattle.ipg_scan.specs.Rowed as R
-use Rattle.ipg_scan.specs.Asked as A
-use Rattle.ipg_scan.specs.Asked.{Step, lost, moved, after_rows, advance}
+use Rattle.ipg_read_syntax.specs.Classes as C
+use Rattle.ipg_read_syntax.specs.Classes.{Infix, level, Tok}
+use Rattle.ipg_read_syntax.specs.Machine as M
+use Rattle.ipg_read_syntax.specs.Grammars.{infix_expr}
+use Rattle.ipg_read_syntax.specs.Making.{made, last}
+use Rattle.ipg_read_scan.specs.Lexemes.{infix_of, coded_infix}
+use Rattle.ipg_read_scan.specs.declared.due.Due.{Due}
+use Rattle.ipg_read_scan.specs.declared.due.Due.TheVariants as D
+use Rattle.ipg_read_scan.specs.declared.row.Role.TheVariants as Use
+use Rattle.ipg_read_scan.specs.declared.row.Extent.TheVariants as Extent
+use Rattle.ipg_read_scan.specs.Rowed.{Row}
+use Rattle.ipg_read_scan.specs.Rowed as R
+use Rattle.ipg_read_scan.specs.Asked as A
+use Rattle.ipg_read_scan.specs.Asked.{Step, lost, moved, after_rows, advance}
 use Rattle.ipg_read.specs.Built.{Parts, slot, make, makes}
 use Rattle.ipg_read.proofs.Dues.{use_role, use_due, frames_due, inner_due, base_due, part_due, site_due, pos_due}
 use Rattle.ipg_read.proofs.Levels.{coded_back, above_none, above_zero, above_one, no_question, tighter}

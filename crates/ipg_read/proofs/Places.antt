@@ -1,7 +1,7 @@
 -- Where the token of a number begins.
 use Rattle.std.proofs.Common.{◌≡◌, ℕ, zero, suc, ◌<◌, ◌≤◌, List, [], ◌∷◌, length, slice_index_or, refl, arith}
-use Rattle.ipg_syntax.specs.Reading.{place_of}
-use Rattle.ipg_tokens.specs.declared.token.Token.{Token}
+use Rattle.ipg_read_syntax.specs.Reading.{place_of}
+use Rattle.ipg_read_tokens.specs.declared.token.Token.{Token}
 
 pub place_here : (text : List ℕ) (ts : List Token) (n : ℕ) (d : Token) → n < length ts → (slice_index_or ts n d).span.from ≡ place_of text ts n
 place_here text [] n d within = absurd (omega arith)

@@ -1,17 +1,17 @@
 -- The answer that rows give is that of the grammar of grammars.
 use Rattle.std.specs.Prelude.{MatchResult}
 use Rattle.std.proofs.Common.{◌≡◌, ℕ, List, Option, Some, None, Result, Ok, Err, refl, ap, ◌∙◌, sym}
-use Rattle.ipg_tokens.specs.Lexical.{tokens_of}
-use Rattle.ipg_tokens.specs.declared.token.Token.{Token}
-use Rattle.ipg_tokens.specs.declared.fault.ReadFault.TheVariants.{Syntax}
-use Rattle.ipg_syntax.specs.Classes.{classes}
-use Rattle.ipg_syntax.specs.Limits.{Over}
-use Rattle.ipg_syntax.specs.Machine as M
-use Rattle.ipg_syntax.specs.Counting.{counters}
-use Rattle.ipg_syntax.specs.Making.{made}
-use Rattle.ipg_syntax.specs.Reading.{place_of, read_of, tokens_answer, counted_answer, within_answer, made_answer}
-use Rattle.ipg_scan.specs.Rowed.{Row}
-use Rattle.ipg_scan.specs.Asked as A
+use Rattle.ipg_read_tokens.specs.Lexical.{tokens_of}
+use Rattle.ipg_read_tokens.specs.declared.token.Token.{Token}
+use Rattle.ipg_read_tokens.specs.declared.fault.ReadFault.TheVariants.{Syntax}
+use Rattle.ipg_read_syntax.specs.Classes.{classes}
+use Rattle.ipg_read_syntax.specs.Limits.{Over}
+use Rattle.ipg_read_syntax.specs.Machine as M
+use Rattle.ipg_read_syntax.specs.Counting.{counters}
+use Rattle.ipg_read_syntax.specs.Making.{made}
+use Rattle.ipg_read_syntax.specs.Reading.{place_of, read_of, tokens_answer, counted_answer, within_answer, made_answer}
+use Rattle.ipg_read_scan.specs.Rowed.{Row}
+use Rattle.ipg_read_scan.specs.Asked as A
 use Rattle.ipg_read.specs.Counted.{nothing}
 use Rattle.ipg_read.specs.Built.{makes, blank}
 use Rattle.ipg_read.specs.Told.{limit_answer, scan_answer}

@@ -15,18 +15,18 @@ use Rattle.ipg_ast.specs.declared.grammar.Term.{Term}
 use Rattle.ipg_ast.specs.declared.grammar.Term.TheVariants as T
 use Rattle.ipg_ast.specs.declared.grammar.Alt.{Alt}
 use Rattle.ipg_ast.specs.declared.grammar.Rule.{Rule}
-use Rattle.ipg_syntax.specs.Grammars.{infix_expr, alt_of, rule_of}
-use Rattle.ipg_syntax.specs.Making.{last}
-use Rattle.ipg_scan.specs.declared.row.Site.{Site}
-use Rattle.ipg_scan.specs.declared.row.Site.TheVariants.{Global, Local}
-use Rattle.ipg_scan.specs.declared.row.Role.{Role}
-use Rattle.ipg_scan.specs.declared.row.Role.TheVariants as Use
-use Rattle.ipg_scan.specs.declared.row.Extent.{Extent}
-use Rattle.ipg_scan.specs.declared.row.Extent.TheVariants.{Open, Length, Ends}
+use Rattle.ipg_read_syntax.specs.Grammars.{infix_expr, alt_of, rule_of}
+use Rattle.ipg_read_syntax.specs.Making.{last}
+use Rattle.ipg_read_scan.specs.declared.row.Site.{Site}
+use Rattle.ipg_read_scan.specs.declared.row.Site.TheVariants.{Global, Local}
+use Rattle.ipg_read_scan.specs.declared.row.Role.{Role}
+use Rattle.ipg_read_scan.specs.declared.row.Role.TheVariants as Use
+use Rattle.ipg_read_scan.specs.declared.row.Extent.{Extent}
+use Rattle.ipg_read_scan.specs.declared.row.Extent.TheVariants.{Open, Length, Ends}
 use Rattle.ipg_read.specs.declared.build.Build.{Build}
 use Rattle.ipg_read.specs.Counted.{below}
-use Rattle.ipg_scan.specs.Rowed.{Row}
-use Rattle.ipg_scan.specs.Rowed as R
+use Rattle.ipg_read_scan.specs.Rowed.{Row}
+use Rattle.ipg_read_scan.specs.Rowed as R
 
 -- names, expressions and slots that no row took yet; `outer` are the terms before a `where`
 pub record Parts : Type 0 where

@@ -1,18 +1,18 @@
 -- What is counted of the rows, each count up to one past its limit, and the first limit passed.
 use Rattle.std.specs.Prelude.{ℕ, List, [], ◌∷◌, None, max, option_map}
-use Rattle.ipg_tokens.specs.declared.fault.Which.TheVariants.{Alternatives, Terms, Depth}
-use Rattle.ipg_syntax.specs.Limits as Limits
-use Rattle.ipg_syntax.specs.Counting as Counting
-use Rattle.ipg_syntax.specs.Counting.{more, deeper, noted, noted_rule}
+use Rattle.ipg_read_tokens.specs.declared.fault.Which.TheVariants.{Alternatives, Terms, Depth}
+use Rattle.ipg_read_syntax.specs.Limits as Limits
+use Rattle.ipg_read_syntax.specs.Counting as Counting
+use Rattle.ipg_read_syntax.specs.Counting.{more, deeper, noted, noted_rule}
 use Rattle.ipg_read.specs.declared.limits.Over.{Over}
 use Rattle.ipg_read.specs.declared.limits.Seen.{Seen}
-use Rattle.ipg_scan.specs.declared.row.Site.{Site}
-use Rattle.ipg_scan.specs.declared.row.Site.TheVariants.{Global, Local}
-use Rattle.ipg_scan.specs.declared.row.Role.{Role}
-use Rattle.ipg_scan.specs.declared.row.Role.TheVariants as Use
+use Rattle.ipg_read_scan.specs.declared.row.Site.{Site}
+use Rattle.ipg_read_scan.specs.declared.row.Site.TheVariants.{Global, Local}
+use Rattle.ipg_read_scan.specs.declared.row.Role.{Role}
+use Rattle.ipg_read_scan.specs.declared.row.Role.TheVariants as Use
 use Rattle.ipg_read.specs.declared.count.Count.{Count}
-use Rattle.ipg_scan.specs.Rowed.{Row}
-use Rattle.ipg_scan.specs.Rowed as R
+use Rattle.ipg_read_scan.specs.Rowed.{Row}
+use Rattle.ipg_read_scan.specs.Rowed as R
 
 abbrev pub over_of : Over → Limits.Over
 over_of o = record { which = o.which; at = o.at }

@@ -1,10 +1,10 @@
 -- The answer that the code's outcome gives.
 use Rattle.std.specs.Prelude.{ℕ, List, Result, Ok, Err}
 use Rattle.ipg_ast.specs.declared.grammar.Grammar.{Grammar}
-use Rattle.ipg_tokens.specs.declared.token.Token.{Token}
-use Rattle.ipg_tokens.specs.declared.fault.ReadFault.{ReadFault}
-use Rattle.ipg_tokens.specs.declared.fault.ReadFault.TheVariants.{Syntax, Limit}
-use Rattle.ipg_syntax.specs.Reading.{place_of}
+use Rattle.ipg_read_tokens.specs.declared.token.Token.{Token}
+use Rattle.ipg_read_tokens.specs.declared.fault.ReadFault.{ReadFault}
+use Rattle.ipg_read_tokens.specs.declared.fault.ReadFault.TheVariants.{Syntax, Limit}
+use Rattle.ipg_read_syntax.specs.Reading.{place_of}
 use Rattle.ipg_read.specs.declared.reading.Outcome.{Outcome}
 use Rattle.ipg_read.specs.declared.reading.Outcome.TheVariants as O
 

@@ -1,14 +1,14 @@
 -- The answer that rows give.
 use Rattle.std.specs.Prelude.{ℕ, List, Option, Some, None, Result, Ok, Err}
 use Rattle.ipg_ast.specs.declared.grammar.Grammar.{Grammar}
-use Rattle.ipg_tokens.specs.declared.token.Token.{Token}
-use Rattle.ipg_tokens.specs.declared.fault.ReadFault.{ReadFault}
-use Rattle.ipg_tokens.specs.declared.fault.ReadFault.TheVariants.{Syntax, Limit}
-use Rattle.ipg_syntax.specs.Limits.{Over}
-use Rattle.ipg_syntax.specs.Reading.{place_of}
-use Rattle.ipg_syntax.specs.Classes.{classes}
-use Rattle.ipg_scan.specs.Rowed.{Row}
-use Rattle.ipg_scan.specs.Asked.{run, start}
+use Rattle.ipg_read_tokens.specs.declared.token.Token.{Token}
+use Rattle.ipg_read_tokens.specs.declared.fault.ReadFault.{ReadFault}
+use Rattle.ipg_read_tokens.specs.declared.fault.ReadFault.TheVariants.{Syntax, Limit}
+use Rattle.ipg_read_syntax.specs.Limits.{Over}
+use Rattle.ipg_read_syntax.specs.Reading.{place_of}
+use Rattle.ipg_read_syntax.specs.Classes.{classes}
+use Rattle.ipg_read_scan.specs.Rowed.{Row}
+use Rattle.ipg_read_scan.specs.Asked.{run, start}
 use Rattle.ipg_read.specs.Counted.{notes, nothing}
 use Rattle.ipg_read.specs.Built.{makes, blank}
 

@@ -1,16 +1,16 @@
 //! The grammar that rows make.
 
 ghost use Rattle.std.specs.Prelude.{◌≡◌, [], ◌∷◌, OnOk, IfOk};
-ghost use Rattle.ipg_syntax.specs.Grammars.{infix_expr};
-ghost use Rattle.ipg_scan.specs.Lexemes.{ident_of, infix_of};
-ghost use Rattle.ipg_scan.specs.Rowed.{row_of, rows_of, member_of};
+ghost use Rattle.ipg_read_syntax.specs.Grammars.{infix_expr};
+ghost use Rattle.ipg_read_scan.specs.Lexemes.{ident_of, infix_of};
+ghost use Rattle.ipg_read_scan.specs.Rowed.{row_of, rows_of, member_of};
 ghost use Rattle.ipg_read.specs.Counted.{below};
 ghost use Rattle.ipg_read.specs.Built as B;
 ghost use Rattle.ipg_read.specs.Built.{parts_of};
 
 use ipg_ast::{Alt, Case, Expr, Field, Ident, Name, Place, Rule, Slot, Span, Term, What};
 use ipg_num::{Held, List};
-use ipg_scan::{Extent, Infix, Label, Member, Role, Row, Site, Stack};
+use ipg_read_scan::{Extent, Infix, Label, Member, Role, Row, Site, Stack};
 use std::alloc::{AllocError, Global};
 use std::mem::replace;
 

@@ -1,13 +1,13 @@
 //! The first limit that rows pass.
 
 ghost use Rattle.std.specs.Prelude.{◌≡◌, [], ◌∷◌, OnOk, IfOk, option_map};
-ghost use Rattle.ipg_scan.specs.Rowed.{row_of, rows_of};
+ghost use Rattle.ipg_read_scan.specs.Rowed.{row_of, rows_of};
 ghost use Rattle.ipg_read.specs.Counted as C;
 ghost use Rattle.ipg_read.specs.Counted.{counts_of, over_of};
 
 use crate::limits::{Over, Seen, deeper, more, noted, noted_rule};
-use ipg_scan::{Role, Row, Site, Stack};
-use ipg_tokens::Which;
+use ipg_read_scan::{Role, Row, Site, Stack};
+use ipg_read_tokens::Which;
 use std::alloc::{AllocError, Global};
 
 /// The depths of expressions that are still parts to be, and the lengths of the lists that are being made.

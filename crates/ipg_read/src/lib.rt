@@ -9,5 +9,5 @@ mod reading;
 mod tests;
 
 pub use ipg_ast::Grammar;
-pub use ipg_tokens::{ReadFault, Token, TokenKind, Which, tokens};
+pub use ipg_read_tokens::{ReadFault, Token, TokenKind, Which, tokens};
 pub use reading::read;

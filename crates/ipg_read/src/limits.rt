@@ -1,9 +1,9 @@
 ghost use Rattle.std.specs.Prelude.{◌≡◌};
-ghost use Rattle.ipg_syntax.specs.Limits.{limit};
-ghost use Rattle.ipg_syntax.specs.Counting as C;
+ghost use Rattle.ipg_read_syntax.specs.Limits.{limit};
+ghost use Rattle.ipg_read_syntax.specs.Counting as C;
 ghost use Rattle.ipg_read.specs.Counted.{seen_of};
 
-use ipg_tokens::Which;
+use ipg_read_tokens::Which;
 
 /// A limit that is passed, and the number of the token there.
 #[derive(Clone, Copy)]

@@ -1,8 +1,8 @@
 ghost use Rattle.std.specs.Prelude.{◌≡◌, ◌⊎◌, ◌≤◌, ◌^◌, ℕ, List, MatchResult, IfOk, length, Ok, Err};
-ghost use Rattle.ipg_syntax.specs.Laws.{Refused};
-ghost use Rattle.ipg_syntax.specs.Reading.{ReadsWithin, read_of, place_of};
-ghost use Rattle.ipg_scan.specs.Rowed.{rows_of};
-ghost use Rattle.ipg_tokens.specs.declared.token.Token.{Token as Tokened};
+ghost use Rattle.ipg_read_syntax.specs.Laws.{Refused};
+ghost use Rattle.ipg_read_syntax.specs.Reading.{ReadsWithin, read_of, place_of};
+ghost use Rattle.ipg_read_scan.specs.Rowed.{rows_of};
+ghost use Rattle.ipg_read_tokens.specs.declared.token.Token.{Token as Tokened};
 ghost use Rattle.ipg_read.specs.Told.{answer, rows_answer};
 ghost use Rattle.ipg_read.specs.Outcomes.{told};
 
@@ -12,8 +12,8 @@ use crate::limits::Over;
 use crate::{Grammar, ReadFault, Token, tokens};
 use ipg_ast::Rule;
 use ipg_num::List;
-use ipg_scan::{Found, Row, scan};
-use ipg_syntax::laws::{reads_exactly, refused_exactly};
+use ipg_read_scan::{Found, Row, scan};
+use ipg_read_syntax::laws::{reads_exactly, refused_exactly};
 use std::alloc::{AllocError, Global};
 
 /// The grammar that a text reads as, within the limits.

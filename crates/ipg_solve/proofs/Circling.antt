@@ -11,8 +11,8 @@ use Rattle.ipg_cert.specs.Facts.{Fact}
 use Rattle.ipg_cert.specs.Checks.{atom_in, coefficient, plus_times, zero_form, sum_from, weighted_sum, is_absurd, combines}
 use Rattle.ipg_cert.proofs.SeenLemmas.{coefficient-append, coefficient-scaled}
 use Rattle.ipg_cert.proofs.Absurd.{in_zero}
-use Rattle.ipg_levels.specs.declared.edge.Edge.{Edge}
-use Rattle.ipg_levels.specs.Falls.{edge_at, LeadBack, fall_of, IsCircle}
+use Rattle.ipg_solve_potentials.specs.declared.edge.Edge.{Edge}
+use Rattle.ipg_solve_potentials.specs.Falls.{edge_at, LeadBack, fall_of, IsCircle}
 use Rattle.ipg_solve.specs.Edges.{edges_in, IsSized, entries_of}
 use Rattle.ipg_solve.proofs.Shapes.{unit, taken}
 use Rattle.ipg_solve.proofs.Narrow.{IsNarrow}

@@ -9,7 +9,7 @@ use Rattle.ipg_lin.specs.declared.formula.Formula.{Formula}
 use Rattle.ipg_lin.specs.declared.formula.Boxed.{Boxed}
 use Rattle.ipg_cert.specs.Facts.{Fact, AtMost, Choice, facts_of, bound_facts}
 use Rattle.ipg_cert.specs.Checks.{root_facts}
-use Rattle.ipg_levels.specs.Falls.{edge_at, IsEdge, AreEdges}
+use Rattle.ipg_solve_potentials.specs.Falls.{edge_at, IsEdge, AreEdges}
 use Rattle.ipg_solve.specs.Differences.{is_difference, are_differences}
 use Rattle.ipg_solve.specs.Edges.{edge_of, edges_in, IsSized}
 use Rattle.ipg_solve.proofs.Shapes.{node_below}

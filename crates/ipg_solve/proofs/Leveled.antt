@@ -15,10 +15,10 @@ use Rattle.ipg_cert.specs.Facts.{Fact, AtMost, Choice, bound_facts, facts_of}
 use Rattle.ipg_cert.specs.Checks.{root_facts, combines}
 use Rattle.ipg_cert.proofs.Told.{all_hold}
 use Rattle.ipg_cert.proofs.Sound.{le_test}
-use Rattle.ipg_levels.specs.declared.edge.Edge.{Edge}
-use Rattle.ipg_levels.specs.declared.settling.Settled.{Settled}
-use Rattle.ipg_levels.specs.declared.settling.Settled.TheVariants.{Levels, Circle}
-use Rattle.ipg_levels.specs.Falls.{level_at, Falls, AllFall, Settles}
+use Rattle.ipg_solve_potentials.specs.declared.edge.Edge.{Edge}
+use Rattle.ipg_solve_potentials.specs.declared.settling.Settled.{Settled}
+use Rattle.ipg_solve_potentials.specs.declared.settling.Settled.TheVariants.{Levels, Circle}
+use Rattle.ipg_solve_potentials.specs.Falls.{level_at, Falls, AllFall, Settles}
 use Rattle.ipg_solve.specs.Decides.{Solves}
 use Rattle.ipg_solve.specs.Differences.{are_differences}
 use Rattle.ipg_solve.specs.Edges.{edge_of, edges_in, entries_of, IsSized, AreBetween, AreHeights}

@@ -9,7 +9,7 @@ use borrow.Author.Differences.{same_in, product_is}
 use Rattle.ipg_lin.specs.Form.{Assignment, sum_at, terms_width}
 use Rattle.ipg_cert.specs.Checks.{coefficient}
 use Rattle.ipg_cert.proofs.Sums.{both_true}
-use Rattle.ipg_levels.specs.Falls.{level_at}
+use Rattle.ipg_solve_potentials.specs.Falls.{level_at}
 use Rattle.ipg_solve.specs.Differences.{is_one, is_minus_one, is_difference}
 use Rattle.ipg_solve.specs.Edges.{node_of}
 

@@ -5,8 +5,8 @@ use Rattle.std.specs.List.{flat_map}
 use Rattle.std.specs.Int.RustNames.{unsigned_abs}
 use Rattle.ipg_lin.specs.Form.{Form}
 use Rattle.ipg_cert.specs.Facts.{Fact, AtMost, Choice}
-use Rattle.ipg_levels.specs.declared.edge.Edge.{Edge}
-use Rattle.ipg_levels.specs.Falls.{level_at}
+use Rattle.ipg_solve_potentials.specs.declared.edge.Edge.{Edge}
+use Rattle.ipg_solve_potentials.specs.Falls.{level_at}
 use Rattle.ipg_solve.specs.Within.{no_bounds}
 
 -- the node of the first variable that is taken so often, or the ground

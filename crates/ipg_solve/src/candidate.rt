@@ -7,7 +7,7 @@ use crate::decision::Decision;
 use ipg_cert::{Refutation, check};
 use ipg_lin::{Boxed, Formula, holds};
 use ipg_num::List;
-use ipg_seek::Found;
+use ipg_solve_search::Found;
 use std::alloc::{AllocError, Global};
 
 fn is_within(value: i64, bound: &(i64, i64)) -> bool

@@ -15,7 +15,7 @@ use crate::levels::decide_differences;
 use ipg_cert::{Refutation, Step};
 use ipg_lin::{Boxed, Formula};
 use ipg_num::List;
-use ipg_seek::seek;
+use ipg_solve_search::seek;
 use std::alloc::{AllocError, Global};
 
 /// Whether a formula can hold in a box.

@@ -1,6 +1,6 @@
 ghost use Rattle.std.specs.Prelude.{◌≡◌, ◌+◌, ◌^◌, ◌<◌, ◌≤◌, ◌∷◌, [], ◌-ℤ◌, ◌≤ℤ◌, length, map, max, take, IfOk};
 ghost use Rattle.ipg_lin.specs.Formula.{width};
-ghost use Rattle.ipg_levels.specs.Falls.{level_at};
+ghost use Rattle.ipg_solve_potentials.specs.Falls.{level_at};
 ghost use Rattle.ipg_solve.specs.Decides.{Decides};
 ghost use Rattle.ipg_solve.specs.Differences.{IsDifference, IsShort};
 ghost use Rattle.ipg_solve.specs.Edges.{AreBetween, AreHeights, entries_of};
@@ -14,7 +14,7 @@ use crate::decision::Decision;
 use crate::edges::edges_of;
 use crate::width::width_of;
 use ipg_cert::{Refutation, Step};
-use ipg_levels::{Settled, settle};
+use ipg_solve_potentials::{Settled, settle};
 use ipg_lin::{Boxed, Formula};
 use ipg_num::List;
 use std::alloc::{AllocError, Global};

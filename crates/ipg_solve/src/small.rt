@@ -10,7 +10,7 @@ use crate::levels::decide_differences;
 use ipg_cert::{Refutation, Step, check};
 use ipg_lin::{Boxed, Formula, Linear, holds, is_over};
 use ipg_num::List;
-use ipg_seek::{Found, seek};
+use ipg_solve_search::{Found, seek};
 use std::alloc::Global;
 use std::test::Fail;
 

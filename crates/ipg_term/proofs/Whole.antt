@@ -11,7 +11,7 @@ use Rattle.ipg_graph.specs.declared.edge.Edge.{Edge}
 use Rattle.ipg_graph.specs.Graph.{Graph, ends, IsLive}
 use Rattle.ipg_graph.specs.Cycle.{IsSimpleCycle}
 use Rattle.ipg_graph.specs.Answers.{Start, End, IsRun}
-use Rattle.ipg_edges.specs.Edges.{edges_of}
+use Rattle.ipg_facts_edges.specs.Edges.{edges_of}
 use Rattle.ipg_lin.specs.Formula.{assigned}
 use Rattle.ipg_cert.specs.declared.refutation.Refutation.{Refutation}
 use Rattle.ipg_proof.specs.Calls.{calls_of, joint_of, keep_of, keeps, edge_checks, cycle_checks, live_graph}

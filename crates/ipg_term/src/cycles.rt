@@ -1,7 +1,7 @@
 //! Cycles whose conditions can't hold together, up to the first whose can.
 
 ghost use Rattle.std.specs.Prelude.{◌≡◌, ◌<◌, length, map, IfOk, IsTrue, MatchResult};
-ghost use Rattle.ipg_edges.specs.Edges.{edges_of};
+ghost use Rattle.ipg_facts_edges.specs.Edges.{edges_of};
 ghost use Rattle.ipg_graph.specs.Answers.{End};
 ghost use Rattle.ipg_graph.specs.Lending.{AnswersWith};
 ghost use Rattle.ipg_proof.specs.Calls.{keeps, cycle_checks, live_graph};

@@ -4,7 +4,7 @@ ghost use Rattle.std.specs.Prelude.{◌≡◌, ◌<◌, ℤ, ◌≤ℤ◌, ◌<�
 ghost use Rattle.std.specs.Int.RustNames.{unsigned_abs};
 ghost use Rattle.ipg_lin.specs.Formula.{assigned};
 ghost use Rattle.ipg_solve.specs.Decides.{Solves};
-ghost use Rattle.ipg_sound.specs.Laws.{IsPart};
+ghost use Rattle.ipg_facts_laws.specs.Laws.{IsPart};
 ghost use Rattle.ipg_term.specs.Least.{IsLeast};
 ghost use Rattle.ipg_term.specs.Halving.{narrowed, IsKnown, Settles};
 

@@ -11,11 +11,11 @@ use Rattle.ipg_core.specs.Touch.{Ends, tree_ends}
 use Rattle.ipg_core.specs.Tree.{Tree, Node, rule_of, attrs_of}
 use Rattle.ipg_table.specs.declared.row.RuleRow.{RuleRow}
 use Rattle.ipg_table.specs.Rows.{Rows, Each, HoldsRule}
-use Rattle.ipg_parsed.specs.Visits.{size_of}
-use Rattle.ipg_parsed.specs.declared.walk.Visit.{Visit}
-use Rattle.ipg_nodes.specs.declared.kid.Node.{Node as Row}
-use Rattle.ipg_nodes.specs.Stored.{Stored, Source}
-use Rattle.ipg_parsed.specs.Left.{StandsNode}
+use Rattle.ipg_tree_walk.specs.Visits.{size_of}
+use Rattle.ipg_tree_walk.specs.declared.walk.Visit.{Visit}
+use Rattle.ipg_mach_nodes.specs.declared.kid.Node.{Node as Row}
+use Rattle.ipg_mach_nodes.specs.Stored.{Stored, Source}
+use Rattle.ipg_tree_walk.specs.Left.{StandsNode}
 use Rattle.ipg_tree.specs.Line.{Says, head_line}
 use Rattle.ipg_tree.specs.declared.line.Places.{Places}
 use Rattle.ipg_tree.specs.Words.{spaced, parted}

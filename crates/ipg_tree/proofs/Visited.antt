@@ -6,13 +6,13 @@ use Rattle.ipg_core.specs.Grammar.{Grammar}
 use Rattle.ipg_core.specs.Lines.{items_line, tree_lines, kid_lines, kids_lines, lines}
 use Rattle.ipg_core.specs.Tree as tree
 use Rattle.ipg_core.specs.Tree.{Tree, Kids, no_kids, kid, count_of}
-use Rattle.ipg_nodes.specs.declared.kid.Kid.{Kid}
-use Rattle.ipg_nodes.specs.declared.kid.Kid.TheVariants as row
-use Rattle.ipg_nodes.specs.Stored.{Stored, Source, StandsKid, StandKids}
-use Rattle.ipg_parsed.specs.declared.walk.Visit.{Visit}
-use Rattle.ipg_parsed.specs.Visits.{Seen, kid_visits, kids_visits, visits, from_of}
-use Rattle.ipg_parsed.specs.Left.{NodeOf, StandsNode, Shows}
-use Rattle.ipg_parsed.specs.Parse.{Walked, Left}
+use Rattle.ipg_mach_nodes.specs.declared.kid.Kid.{Kid}
+use Rattle.ipg_mach_nodes.specs.declared.kid.Kid.TheVariants as row
+use Rattle.ipg_mach_nodes.specs.Stored.{Stored, Source, StandsKid, StandKids}
+use Rattle.ipg_tree_walk.specs.declared.walk.Visit.{Visit}
+use Rattle.ipg_tree_walk.specs.Visits.{Seen, kid_visits, kids_visits, visits, from_of}
+use Rattle.ipg_tree_walk.specs.Left.{NodeOf, StandsNode, Shows}
+use Rattle.ipg_tree_walk.specs.Parse.{Walked, Left}
 use Rattle.ipg_outside.specs.Sink.{Output}
 use Rattle.ipg_tree.proofs.Putting.{Progress, begun}
 use Rattle.ipg_tree.specs.Line.{line_of, lines_of, head_line, child_line}

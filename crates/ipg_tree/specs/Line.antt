@@ -5,9 +5,9 @@ use Rattle.ipg_core.specs.Lines.{node_line, leaf_line, items_line, hex, short_he
 use Rattle.ipg_core.specs.Touch.{tree_ends}
 use Rattle.ipg_core.specs.Tree as tree
 use Rattle.ipg_core.specs.Tree.{Tree, Kid, Sub, Token, Number, Raw, Array, Many, rule_of, attrs_of}
-use Rattle.ipg_nodes.specs.declared.kid.Node.{Node}
-use Rattle.ipg_nodes.specs.Stored.{Stored}
-use Rattle.ipg_parsed.specs.Visits.{Seen, size_of}
+use Rattle.ipg_mach_nodes.specs.declared.kid.Node.{Node}
+use Rattle.ipg_mach_nodes.specs.Stored.{Stored}
+use Rattle.ipg_tree_walk.specs.Visits.{Seen, size_of}
 
 -- the node says what the tree says, but for its children
 pub record Says (st : Stored) (node : Node) (one : Tree) : Type 0 where

@@ -2,9 +2,9 @@
 use Rattle.std.specs.Prelude.{◌≡◌}
 use Rattle.ipg_core.specs.Grammar.{Grammar}
 use Rattle.ipg_core.specs.Tree.{Tree}
-use Rattle.ipg_nodes.specs.Stored.{Source, StandsTree}
+use Rattle.ipg_mach_nodes.specs.Stored.{Source, StandsTree}
 use Rattle.ipg_table.specs.Rows.{StandFor}
-use Rattle.ipg_parsed.specs.Parse.{Parse}
+use Rattle.ipg_tree_walk.specs.Parse.{Parse}
 
 -- the tables of the parse stand for the grammar, and its symbols and its input are the source's
 pub record Shares (parse : Parse) (src : Source) (g : Grammar) : Type 0 where

@@ -5,8 +5,8 @@ ghost use Rattle.ipg_core.specs.declared.grammar.Sym.{Sym};
 ghost use Rattle.ipg_core.specs.Grammar.{Grammar};
 ghost use Rattle.ipg_core.specs.Lines as spec;
 ghost use Rattle.ipg_core.specs.Tree.{Kids};
-ghost use Rattle.ipg_nodes.specs.declared.kid.Kid.{Kid as Row};
-ghost use Rattle.ipg_nodes.specs.Stored.{Source, StandKids};
+ghost use Rattle.ipg_mach_nodes.specs.declared.kid.Kid.{Kid as Row};
+ghost use Rattle.ipg_mach_nodes.specs.Stored.{Source, StandKids};
 ghost use Rattle.ipg_table.specs.Rows.{StandFor};
 ghost use Rattle.ipg_tree.specs.Puts.{Puts};
 ghost use Rattle.ipg_tree.specs.Words.{parted};
@@ -15,9 +15,9 @@ use crate::names::sym_name;
 use crate::tail::Tail;
 use crate::words::{put, put_bytes, put_start};
 use ipg_core::grammar::Primitive;
-use ipg_nodes::RunId;
+use ipg_mach_nodes::RunId;
 use ipg_outside::{Sink, SinkFault};
-use ipg_parsed::{Parsed, Visit};
+use ipg_tree_walk::{Parsed, Visit};
 use std::alloc::Allocator;
 
 /// Puts the places of a leaf, after a space, before what follows them.

@@ -4,9 +4,9 @@ ghost use Rattle.std.specs.Prelude.{◌≡◌, ◌+◌, ◌≤◌, ◌^◌, ◌+
 ghost use Rattle.ipg_core.specs.Grammar.{Grammar};
 ghost use Rattle.ipg_core.specs.Lines as spec;
 ghost use Rattle.ipg_core.specs.Tree.{Tree, rule_of};
-ghost use Rattle.ipg_nodes.specs.Stored.{Source};
+ghost use Rattle.ipg_mach_nodes.specs.Stored.{Source};
 ghost use Rattle.ipg_table.specs.Rows.{StandFor};
-ghost use Rattle.ipg_parsed.specs.Left.{StandsNode};
+ghost use Rattle.ipg_tree_walk.specs.Left.{StandsNode};
 ghost use Rattle.ipg_tree.specs.Line.{Says, head_line};
 ghost use Rattle.ipg_tree.specs.Puts.{Puts};
 ghost use Rattle.ipg_tree.specs.Words.{spaced, parted};
@@ -14,9 +14,9 @@ ghost use Rattle.ipg_tree.specs.Words.{spaced, parted};
 use crate::names::rule_name;
 use crate::tail::Tail;
 use crate::words::{put, put_attr};
-use ipg_nodes::Node;
+use ipg_mach_nodes::Node;
 use ipg_outside::{Sink, SinkFault};
-use ipg_parsed::{Parsed, Visit};
+use ipg_tree_walk::{Parsed, Visit};
 use ipg_table::tables::Tables;
 use std::alloc::Allocator;
 

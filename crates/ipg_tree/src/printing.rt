@@ -4,9 +4,9 @@ ghost use Rattle.std.specs.Prelude.{◌≡◌, ◌+◌, ◌-◌, ◌^◌, ℕ, L
 ghost use Rattle.ipg_core.specs.Grammar.{Grammar};
 ghost use Rattle.ipg_core.specs.Lines as spec;
 ghost use Rattle.ipg_core.specs.Tree.{Tree};
-ghost use Rattle.ipg_nodes.specs.Stored.{Source};
-ghost use Rattle.ipg_parsed.specs.Left.{Shows};
-ghost use Rattle.ipg_parsed.specs.Visits.{Seen};
+ghost use Rattle.ipg_mach_nodes.specs.Stored.{Source};
+ghost use Rattle.ipg_tree_walk.specs.Left.{Shows};
+ghost use Rattle.ipg_tree_walk.specs.Visits.{Seen};
 ghost use Rattle.ipg_tree.specs.Line.{line_of};
 ghost use Rattle.ipg_tree.specs.Puts.{Puts};
 ghost use Rattle.ipg_tree.specs.Shares.{Shares, IsTree};
@@ -15,9 +15,9 @@ use crate::leaf::{put_items, put_raw, put_text, put_value};
 use crate::line::put_node;
 use crate::names::text_of;
 use crate::tail::Tail;
-use ipg_nodes::Kid;
+use ipg_mach_nodes::Kid;
 use ipg_outside::{Sink, SinkFault};
-use ipg_parsed::{Parsed, Visit};
+use ipg_tree_walk::{Parsed, Visit};
 use std::alloc::Allocator;
 
 /// Writes the line of a visit, which is made in `line` where it is short.

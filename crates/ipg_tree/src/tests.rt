@@ -1,9 +1,9 @@
 use crate::leaf::{put_raw, put_text, put_value};
 use crate::tail::Tail;
 use ipg_core::grammar::Primitive;
-use ipg_nodes::Kid;
+use ipg_mach_nodes::Kid;
 use ipg_outside::{MemSink, SinkFault};
-use ipg_parsed::Visit;
+use ipg_tree_walk::Visit;
 use std::test::Fail;
 
 fn at(depth: u64, from: u64, to: u64) -> Visit {

@@ -1,7 +1,7 @@
 use Rattle.std.proofs.Common.{Ok}
 use Rattle.std.proofs.lemmas.Result.{IfOk-weaker}
 use Rattle.ipg_formats.specs.Text.{text_of}
-use Rattle.ipg_words.specs.Seen.{task_seen}
+use Rattle.ipg_app_words.specs.Seen.{task_seen}
 use Rattle.ipg_app.specs.CoreOf.{CoreOf}
 use Rattle.ipg_app.specs.Reply.{core_of, order_by}
 use Rattle.ipg_app.specs.Settled.{IsSettled}

@@ -1,7 +1,7 @@
 use Rattle.std.proofs.lemmas.Result.{IfOk-weaker}
 use Rattle.ipg_app.specs.Reply.{order_by}
 use Rattle.ipg_app.specs.Run.{Settles}
-use Rattle.ipg_words.specs.Seen.{task_seen}
+use Rattle.ipg_app_words.specs.Seen.{task_seen}
 use Rattle.ipg_app.specs.Found.{FoundCore, core_in_file, silence}
 use Rattle.ipg_app.specs.Lines.{said_of}
 use Rattle.ipg_app.specs.Settled.{IsSettled}

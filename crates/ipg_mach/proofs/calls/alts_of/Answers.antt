@@ -1,7 +1,7 @@
 use Rattle.std.specs.Prelude.{slice_get}
 use Rattle.std.specs.Option.{option_copied}
 use Rattle.std.proofs.Common.{sym, ap, ◌∙◌, subst}
-use Rattle.ipg_moves.specs.Moves as moves
+use Rattle.ipg_mach_moves.specs.Moves as moves
 use Rattle.ipg_core.specs.Grammar.{rule_at}
 use Rattle.ipg_table.specs.Rows.{Each, HoldsAlt}
 use Rattle.ipg_mach.proofs.Rows as rows

@@ -1,6 +1,6 @@
 use Rattle.std.proofs.Common.{refl, sym, ap, ◌∙◌, subst, ◌≡◌, List, ℕ, Bor, Some}
 use Rattle.std.proofs.lemmas.Result.{IfOk-weaker}
-use Rattle.ipg_moves.specs.Moves.{moves, opening, ended}
+use Rattle.ipg_mach_moves.specs.Moves.{moves, opening, ended}
 use Rattle.ipg_table.specs.Rows.{Rows}
 use Rattle.ipg_mach.specs.Stage.{staged, source, IsAt}
 use Rattle.ipg_mach.specs.Outcome.{IsOutcome}

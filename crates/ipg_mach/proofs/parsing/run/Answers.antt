@@ -1,5 +1,5 @@
 use Rattle.std.proofs.Common.{refl, sym, ◌∙◌, subst, suc}
-use Rattle.ipg_moves.specs.Moves.{moves}
+use Rattle.ipg_mach_moves.specs.Moves.{moves}
 use Rattle.ipg_mach.specs.Stage.{staged, IsAt}
 use Rattle.ipg_mach.proofs.Ending as ending
 use Rattle.ipg_mach.proofs.parsing.run.Goals as goal

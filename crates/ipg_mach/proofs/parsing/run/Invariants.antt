@@ -1,6 +1,6 @@
 use Rattle.std.proofs.Common.{◌≡◌, ℕ}
-use Rattle.ipg_moves.specs.Moves.{Evaluation, moves}
-use Rattle.ipg_nodes.specs.Stored.{Source}
+use Rattle.ipg_mach_moves.specs.Moves.{Evaluation, moves}
+use Rattle.ipg_mach_nodes.specs.Stored.{Source}
 use Rattle.ipg_mach.specs.Stage.{staged, IsAt}
 use Rattle.ipg_mach.proofs.parsing.run.Given as goal
 

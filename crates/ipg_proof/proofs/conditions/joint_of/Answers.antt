@@ -1,6 +1,6 @@
 use Rattle.std.proofs.Common.{ap, sym, ◌∙◌, subst}
 use Rattle.ipg_facts.specs.Joint.{joint}
-use Rattle.ipg_sound.specs.Laws.{IsPart}
+use Rattle.ipg_facts_laws.specs.Laws.{IsPart}
 use Rattle.ipg_proof.specs.Seen.{seen}
 use Rattle.ipg_proof.proofs.Parts.{joint_is_part}
 use Rattle.ipg_proof.proofs.conditions.joint_of.Goals as goal

@@ -1,5 +1,5 @@
 use Rattle.std.proofs.Common.{◌≡◌, drop}
-use Rattle.ipg_scan.specs.Rowed.{rows_of}
+use Rattle.ipg_read_scan.specs.Rowed.{rows_of}
 use Rattle.ipg_read.specs.Built as B
 use Rattle.ipg_read.specs.Built.{parts_of}
 use Rattle.ipg_read.proofs.build.built.Given as goal

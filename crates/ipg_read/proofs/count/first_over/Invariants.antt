@@ -1,5 +1,5 @@
 use Rattle.std.proofs.Common.{◌≡◌, drop}
-use Rattle.ipg_scan.specs.Rowed.{rows_of}
+use Rattle.ipg_read_scan.specs.Rowed.{rows_of}
 use Rattle.ipg_read.specs.Counted as C
 use Rattle.ipg_read.specs.Counted.{counts_of}
 use Rattle.ipg_read.proofs.count.first_over.Given as goal

@@ -1,8 +1,8 @@
 use Rattle.std.proofs.Common.{◌≡◌, ◌⊎◌, inl, inr, Ok, Err}
-use Rattle.ipg_tokens.specs.declared.fault.ReadFault.{ReadFault}
-use Rattle.ipg_tokens.specs.declared.fault.ReadFault.TheVariants.{Memory}
-use Rattle.ipg_syntax.specs.Laws.{Refused, RefusedExactly}
-use Rattle.ipg_syntax.specs.Reading.{ReadsWithin, read_of}
+use Rattle.ipg_read_tokens.specs.declared.fault.ReadFault.{ReadFault}
+use Rattle.ipg_read_tokens.specs.declared.fault.ReadFault.TheVariants.{Memory}
+use Rattle.ipg_read_syntax.specs.Laws.{Refused, RefusedExactly}
+use Rattle.ipg_read_syntax.specs.Reading.{ReadsWithin, read_of}
 use Rattle.ipg_read.proofs.Same.{by_words}
 use Rattle.ipg_read.proofs.reading.read.Goals as goal
 

@@ -1,5 +1,5 @@
 use Rattle.std.proofs.Common.{ℕ, ◌+◌, length, sym, subst, ◌∙◌}
-use Rattle.ipg_levels.specs.Falls.{AreEdges, Settles}
+use Rattle.ipg_solve_potentials.specs.Falls.{AreEdges, Settles}
 use Rattle.ipg_cert.specs.Checks.{root_facts}
 use Rattle.ipg_solve.specs.Edges.{AreBetween, AreHeights}
 use Rattle.ipg_solve.proofs.Graph.{joined, root_narrow}

@@ -1,9 +1,9 @@
 use Rattle.std.proofs.Common.{◌≡◌, ℕ, ◌+◌, ◌-◌, ◌^◌, List, length, min}
 use Rattle.ipg_core.specs.Grammar.{Grammar}
 use Rattle.ipg_core.specs.Tree.{Tree}
-use Rattle.ipg_nodes.specs.Stored.{Source}
-use Rattle.ipg_parsed.specs.Visits.{Seen, visits}
-use Rattle.ipg_parsed.specs.Parse.{Left, steps_left}
+use Rattle.ipg_mach_nodes.specs.Stored.{Source}
+use Rattle.ipg_tree_walk.specs.Visits.{Seen, visits}
+use Rattle.ipg_tree_walk.specs.Parse.{Left, steps_left}
 use Rattle.ipg_tree.specs.Shares.{IsTree}
 use Rattle.ipg_tree.proofs.printing.lines.Given as goal
 

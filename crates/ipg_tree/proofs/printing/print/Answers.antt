@@ -1,7 +1,7 @@
 use Rattle.std.proofs.Common.{sym, ap, ◌∙◌, subst}
-use Rattle.ipg_nodes.specs.Stored.{StandsTree}
-use Rattle.ipg_parsed.specs.Left.{Shows}
-use Rattle.ipg_parsed.specs.Visits.{visits}
+use Rattle.ipg_mach_nodes.specs.Stored.{StandsTree}
+use Rattle.ipg_tree_walk.specs.Left.{Shows}
+use Rattle.ipg_tree_walk.specs.Visits.{visits}
 use Rattle.ipg_tree.specs.Line.{lines_of}
 use Rattle.ipg_tree.specs.Shares.{Shares}
 use Rattle.ipg_tree.proofs.Putting.{next, exits, all_put}

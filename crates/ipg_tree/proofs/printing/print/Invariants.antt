@@ -2,9 +2,9 @@ use Rattle.std.proofs.Common.{◌≡◌, List}
 use Rattle.ipg_core.specs.Grammar.{Grammar}
 use Rattle.ipg_core.specs.Lines.{lines}
 use Rattle.ipg_core.specs.Tree.{Tree}
-use Rattle.ipg_nodes.specs.Stored.{Source}
-use Rattle.ipg_parsed.specs.Visits.{Seen}
-use Rattle.ipg_parsed.specs.Parse.{Left, steps_left}
+use Rattle.ipg_mach_nodes.specs.Stored.{Source}
+use Rattle.ipg_tree_walk.specs.Visits.{Seen}
+use Rattle.ipg_tree_walk.specs.Parse.{Left, steps_left}
 use Rattle.ipg_tree.specs.Line.{lines_of}
 use Rattle.ipg_tree.specs.Shares.{IsTree}
 use Rattle.ipg_tree.proofs.Putting.{Progress}

@@ -1,5 +1,5 @@
 use Rattle.std.proofs.Common.{refl, sym, ap, subst, List, []}
-use Rattle.ipg_moves.specs.Moves.{opening, opened}
+use Rattle.ipg_mach_moves.specs.Moves.{opening, opened}
 use Rattle.ipg_mach.specs.declared.frame.Frame.{Frame}
 use Rattle.ipg_mach.specs.Calls.{shown, IsHighest}
 use Rattle.ipg_mach.specs.Known.{IsKnown}

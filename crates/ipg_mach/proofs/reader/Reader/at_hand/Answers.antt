@@ -1,9 +1,9 @@
 use Rattle.std.proofs.Common.{sym, ap, ◌∙◌, subst}
 use Rattle.std.specs.Option.{option_copied}
 use Rattle.ipg_core.specs.Run.{stop}
-use Rattle.ipg_moves.specs.Moves.{first_left, silent, at_hand}
+use Rattle.ipg_mach_moves.specs.Moves.{first_left, silent, at_hand}
 use Rattle.ipg_table.specs.Rows.{HoldsInstr}
-use Rattle.ipg_advance.specs.Advance.{IsAtHand}
+use Rattle.ipg_mach_term.specs.Advance.{IsAtHand}
 use Rattle.ipg_mach.specs.Calls.{size_of, items_in, term_at_hand}
 use Rattle.ipg_mach.proofs.Rows as rows
 use Rattle.ipg_mach.proofs.reader.Reader.at_hand.Goals as goal

@@ -1,6 +1,6 @@
 use Rattle.std.proofs.Common.{sym, ap, ◌∙◌}
 use Rattle.ipg_core.specs.Run.{stop}
-use Rattle.ipg_moves.specs.Moves.{first_left, always}
+use Rattle.ipg_mach_moves.specs.Moves.{first_left, always}
 use Rattle.ipg_table.specs.Rows.{HoldsInstr}
 use Rattle.ipg_mach.proofs.Answered as answered
 use Rattle.ipg_mach.proofs.Rows as rows

@@ -1,7 +1,7 @@
 use Rattle.ipg_mach.specs.declared.frame.Held.TheVariants.{NoTree}
 use Rattle.std.proofs.Common.{refl, sym, ◌∙◌, subst, drop}
 use Rattle.std.proofs.lemmas.Result.{on_ok_weaker}
-use Rattle.ipg_moves.specs.Moves.{begins}
+use Rattle.ipg_mach_moves.specs.Moves.{begins}
 use Rattle.ipg_table.specs.Rows.{Each, HoldsAlt}
 use Rattle.ipg_mach.specs.Calls.{shown, IsHighest}
 use Rattle.ipg_mach.proofs.Rows as rows

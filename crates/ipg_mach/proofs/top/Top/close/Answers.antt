@@ -1,7 +1,7 @@
 use Rattle.std.proofs.Common.{refl, sym, ◌∙◌, subst, Ok}
 use Rattle.ipg_core.specs.Within.{TreeWithin}
 use Rattle.ipg_core.specs.Meaning.{node_of}
-use Rattle.ipg_hand.specs.Now.{AreResults}
+use Rattle.ipg_mach_slot.specs.Now.{AreResults}
 use Rattle.ipg_mach.specs.declared.frame.Held.TheVariants.{Node}
 use Rattle.ipg_mach.specs.Calls.{shown, size_of}
 use Rattle.ipg_mach.proofs.Working as working

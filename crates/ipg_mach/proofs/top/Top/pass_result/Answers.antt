@@ -1,6 +1,6 @@
 use Rattle.std.proofs.Common.{refl, subst, Ok}
 use Rattle.std.proofs.lemmas.Result.{on_ok_weaker}
-use Rattle.ipg_moves.specs.Moves.{Past}
+use Rattle.ipg_mach_moves.specs.Moves.{Past}
 use Rattle.ipg_mach.specs.Calls.{shown, IsHighest}
 use Rattle.ipg_mach.proofs.Working as working
 use Rattle.ipg_mach.proofs.top.Top.pass_result.Goals as goal

@@ -2,7 +2,7 @@ use Rattle.std.proofs.Common.{w64, refl, subst, Ok}
 use Rattle.std.proofs.lemmas.Int.{to_z-of_z}
 use Rattle.std.proofs.lemmas.Result.{on_ok_weaker}
 use Rattle.ipg_core.specs.Meaning.{with_value}
-use Rattle.ipg_moves.specs.Moves.{Past}
+use Rattle.ipg_mach_moves.specs.Moves.{Past}
 use Rattle.ipg_mach.specs.Calls.{shown, IsAtWork, IsHighest}
 use Rattle.ipg_mach.proofs.Working as working
 use Rattle.ipg_mach.proofs.top.Top.pass_value.Goals as goal

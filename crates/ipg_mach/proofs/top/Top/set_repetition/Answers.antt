@@ -1,5 +1,5 @@
 use Rattle.std.proofs.Common.{sym, subst}
-use Rattle.ipg_close.specs.Items.{HasItems}
+use Rattle.ipg_mach_node.specs.Items.{HasItems}
 use Rattle.ipg_mach.specs.Calls.{shown, size_of}
 use Rattle.ipg_mach.proofs.Working as working
 use Rattle.ipg_mach.proofs.Stores as stores

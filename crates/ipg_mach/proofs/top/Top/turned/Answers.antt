@@ -2,8 +2,8 @@ use Rattle.std.proofs.Common.{w64, sym, subst, ◌++◌, ◌∷◌, [], OnOk, Re
 use Rattle.std.proofs.lemmas.Int.{to_z-of_z}
 use Rattle.ipg_core.specs.Run.{Stop}
 use Rattle.ipg_core.specs.Meaning.{with_value}
-use Rattle.ipg_moves.specs.Moves.{Advance, Past, turned}
-use Rattle.ipg_advance.specs.Advance.{IsAdvance, IsEntry}
+use Rattle.ipg_mach_moves.specs.Moves.{Advance, Past, turned}
+use Rattle.ipg_mach_term.specs.Advance.{IsAdvance, IsEntry}
 use Rattle.ipg_mach.specs.declared.frame.Frame.{Frame}
 use Rattle.ipg_mach.specs.Calls.{shown, IsHighest, size_of, items_in, term_at_hand}
 use Rattle.ipg_mach.proofs.Working as working

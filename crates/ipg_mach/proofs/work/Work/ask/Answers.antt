@@ -1,7 +1,7 @@
 use Rattle.std.proofs.Common.{refl, sym, ap, ◌∙◌, subst, OnOk}
 use Rattle.ipg_memo.specs.declared.memo.Key.{Key}
-use Rattle.ipg_moves.specs.Moves.{asks, known_of}
-use Rattle.ipg_nodes.specs.Stored.{before}
+use Rattle.ipg_mach_moves.specs.Moves.{asks, known_of}
+use Rattle.ipg_mach_nodes.specs.Stored.{before}
 use Rattle.ipg_mach.specs.Known.{IsEntryOf, key_of}
 use Rattle.ipg_mach.specs.Stage.{staged, IsAt}
 use Rattle.ipg_mach.proofs.Stepping as stepping

@@ -1,7 +1,7 @@
 use Rattle.std.proofs.Common.{◌<◌, sym, ◌∙◌, subst, OnOk, arith, length}
 use Rattle.std.proofs.lemmas.Bool.{eqb-true, eqb-false}
 use Rattle.std.proofs.lemmas.List.{nil_from_length}
-use Rattle.ipg_moves.specs.Moves as moves
+use Rattle.ipg_mach_moves.specs.Moves as moves
 use Rattle.ipg_mach.specs.Stage.{staged, IsAt}
 use Rattle.ipg_mach.proofs.Stepping as stepping
 use Rattle.ipg_mach.proofs.work.Work.back.Goals as goal

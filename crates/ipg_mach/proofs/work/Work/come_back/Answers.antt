@@ -1,7 +1,7 @@
 use Rattle.std.proofs.Common.{sym, ap, ◌∙◌, ◌∷◌, subst, arith, Some}
 use Rattle.std.proofs.lemmas.Result.{on_ok_weaker}
-use Rattle.ipg_moves.specs.Moves as moves
-use Rattle.ipg_nodes.specs.Stored.{before}
+use Rattle.ipg_mach_moves.specs.Moves as moves
+use Rattle.ipg_mach_nodes.specs.Stored.{before}
 use Rattle.ipg_mach.specs.declared.frame.Frame.{Frame}
 use Rattle.ipg_mach.specs.Calls.{Shown, shown, IsHolding, IsSub, Awaits}
 use Rattle.ipg_mach.specs.Known.{IsKnown, IsEntryOf}

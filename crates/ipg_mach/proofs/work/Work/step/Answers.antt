@@ -1,5 +1,5 @@
 use Rattle.std.proofs.Common.{sym, subst, OnOk}
-use Rattle.ipg_moves.specs.Moves.{move, move_by}
+use Rattle.ipg_mach_moves.specs.Moves.{move, move_by}
 use Rattle.ipg_mach.specs.Stage.{staged, IsAt}
 use Rattle.ipg_mach.proofs.Stepping as stepping
 use Rattle.ipg_mach.proofs.work.Work.step.Goals as goal

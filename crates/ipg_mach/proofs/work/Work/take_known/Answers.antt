@@ -1,7 +1,7 @@
 use Rattle.std.proofs.Common.{sym, subst, Some}
 use Rattle.std.proofs.lemmas.Result.{on_ok_weaker}
-use Rattle.ipg_nodes.specs.Stored.{before}
-use Rattle.ipg_advance.specs.Advance.{EndsBy}
+use Rattle.ipg_mach_nodes.specs.Stored.{before}
+use Rattle.ipg_mach_term.specs.Advance.{EndsBy}
 use Rattle.ipg_mach.specs.Calls.{shown, IsSub}
 use Rattle.ipg_mach.specs.Stage.{staged}
 use Rattle.ipg_mach.proofs.Knowing as knowing

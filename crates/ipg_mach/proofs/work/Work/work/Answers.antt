@@ -1,8 +1,8 @@
 use Rattle.std.proofs.Common.{sym, ap, subst, List, OnOk, Bor, ℕ}
 use Rattle.std.proofs.lemmas.Result.{on_ok_weaker}
-use Rattle.ipg_moves.specs.Moves.{works, silent, at_hand}
+use Rattle.ipg_mach_moves.specs.Moves.{works, silent, at_hand}
 use Rattle.ipg_table.specs.Rows.{Rows}
-use Rattle.ipg_advance.specs.Advance.{IsAtHand}
+use Rattle.ipg_mach_term.specs.Advance.{IsAtHand}
 use Rattle.ipg_mach.specs.Calls.{shown, size_of, items_in, term_at_hand}
 use Rattle.ipg_mach.specs.Stage.{Stage, staged, IsAt, IsAsking}
 use Rattle.ipg_mach.proofs.Stepping as stepping

@@ -1,0 +1,86 @@
+-- What the words of the command line ask for.
+use Rattle.std.specs.Prelude.{ℕ, List, [], ◌∷◌, codes, bytes_eq, Option, Some, None, if◌then◌else◌}
+use Rattle.std.specs.Option.{option_and_then}
+use Rattle.clap.specs.Walk.{Text, Row, first_of}
+use Rattle.clap.specs.Simple.{App}
+use Rattle.ipg_app_words.specs.Commands as command
+use Rattle.ipg_app_words.specs.Commands.{taken}
+use Rattle.ipg_app_words.specs.Settings.{memo_in, mib_in, count_in}
+use Rattle.ipg_app_words.specs.declared.asking.Memo.{Memo}
+
+infixl 10 ◌>>=◌
+abbrev pub ◌>>=◌ : {A B : Type 0} → Option A → (A → Option B) → Option B
+a >>= next = option_and_then next a
+
+-- what a grammar is wanted for
+pub data Task : Type 0 where
+  Parse : (input : Text) (memo : Memo) (mib : ℕ) → Task
+  Check : Task
+  Cert : Task
+  Verify : (certificate : Text) → Task
+
+pub data Request : Type 0 where
+  Use : (grammar : Text) → Task → Request
+  Fmt : (grammar : Text) → Request
+  Trial : (kind : Text) (count : ℕ) → Request
+
+abbrev pub parse_task : List Row → Option Task
+parse_task rows = do
+  input ← first_of (codes "FILE") rows
+  memo ← memo_in (first_of (codes "memo") rows)
+  mib ← mib_in (first_of (codes "arena") rows)
+  Some (Parse input memo mib)
+
+abbrev pub verify_task : List Row → Option Task
+verify_task rows = do
+  certificate ← first_of (codes "CERT") rows
+  Some (Verify certificate)
+
+abbrev pub use_by : List Row → Option Task → Option Request
+use_by rows task = do
+  grammar ← first_of (codes "G") rows
+  wanted ← task
+  Some (Use grammar wanted)
+
+abbrev pub fmt_by : List Row → Option Request
+fmt_by rows = do
+  grammar ← first_of (codes "G") rows
+  Some (Fmt grammar)
+
+abbrev pub trial_by : List Row → Option Request
+trial_by rows = do
+  kind ← first_of (codes "KIND") rows
+  text ← first_of (codes "N") rows
+  count ← count_in text
+  Some (Trial kind count)
+
+-- the command, where it takes the words, and what it wants the grammar for
+abbrev pub use_words : App → (List Row → Option Task) → List Text → Option Request
+use_words command task words = do
+  rows ← taken command words
+  use_by rows (task rows)
+
+abbrev pub fmt_words : List Text → Option Request
+fmt_words words = do
+  rows ← taken command.fmt words
+  fmt_by rows
+
+abbrev pub trial_words : List Text → Option Request
+trial_words words = do
+  rows ← taken command.trial words
+  trial_by rows
+
+-- the words from the command's name on
+abbrev pub request_by : Text → List Text → Option Request
+request_by name words = if bytes_eq name (codes "parse") then use_words command.parse parse_task words
+    else (if bytes_eq name (codes "check") then use_words command.check (λ rows. Some Check) words
+    else (if bytes_eq name (codes "cert") then use_words command.cert (λ rows. Some Cert) words
+    else (if bytes_eq name (codes "verify") then use_words command.verify verify_task words
+    else (if bytes_eq name (codes "fmt") then fmt_words words
+    else (if bytes_eq name (codes "trial") then trial_words words
+    else None)))))
+
+-- nothing where the words are no command's
+abbrev pub request_of : List Text → Option Request
+request_of [] = None
+request_of (name ∷ words) = request_by name (name ∷ words)

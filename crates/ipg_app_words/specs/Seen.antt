@@ -1,0 +1,22 @@
+-- What the words ask for, as the code has it.
+use Rattle.std.specs.Prelude.{ℕ, List, Bool, not, ◌==◌, ◌&&◌, slice_index}
+use Rattle.ipg_app_words.specs.Request.{Task, Parse, Check, Cert, Verify, Request, Use, Fmt, Trial}
+use Rattle.ipg_app_words.specs.declared.asking.Asked.{Asked}
+use Rattle.ipg_app_words.specs.declared.asking.Asked.TheVariants as asked
+use Rattle.ipg_app_words.specs.declared.asking.Wanted.{Wanted}
+use Rattle.ipg_app_words.specs.declared.asking.Wanted.TheVariants as wanted
+
+abbrev pub task_seen : Wanted → Task
+task_seen (wanted.Parse input memo mib) = Parse input.now memo mib
+task_seen wanted.Check = Check
+task_seen wanted.Cert = Cert
+task_seen (wanted.Verify certificate) = Verify certificate.now
+
+abbrev pub seen : Asked → Request
+seen (asked.Use grammar task) = Use grammar.now (task_seen task)
+seen (asked.Fmt grammar) = Fmt grammar.now
+seen (asked.Trial kind count) = Trial kind.now count
+
+-- neither `0` nor `+` stands first
+abbrev pub is_plain_first : List ℕ → Bool
+is_plain_first text = not (slice_index text 0 == 48) && not (slice_index text 0 == 43)

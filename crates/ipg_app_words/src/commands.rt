@@ -1,0 +1,53 @@
+//! The commands, each a simple command of `clap`.
+ghost use Rattle.std.specs.Prelude.{◌≡◌, IfOk, false};
+ghost use Rattle.clap.specs.Words.{app_of, rule_of, with_rule};
+ghost use Rattle.ipg_app_words.specs.Commands as spec;
+
+use clap::{Arg, Command};
+use std::alloc::{AllocError, Global};
+
+/// A word that has to be there.
+fn required<'a>(alloc: Global, id: &'a str) -> Arg<'a>
+    ensures rule { rule_of result ≡ spec.required id.now }
+    ensures local { result.global ≡ false }
+{
+    Arg::new(alloc, id).required(true)
+}
+
+/// `--NAME VALUE` or `--NAME=VALUE`.
+fn option<'a>(alloc: Global, name: &'a str) -> Arg<'a>
+    ensures rule { rule_of result ≡ spec.option name.now }
+    ensures local { result.global ≡ false }
+{
+    Arg::new(alloc, name).long(name)
+}
+
+/// A command that takes the name of a grammar.
+pub fn on_grammar<'a>(alloc: Global, name: &'a str) -> Result<Command<'a>, AllocError>
+    ensures { IfOk result (λ command. app_of command ≡ spec.on_grammar name.now) }
+{
+    Command::new(alloc, name).arg(required(alloc, "G"))
+}
+
+pub fn parse<'a>(alloc: Global) -> Result<Command<'a>, AllocError>
+    ensures { IfOk result (λ command. app_of command ≡ spec.parse) }
+{
+    on_grammar(alloc, "parse")?
+        .arg(required(alloc, "FILE"))?
+        .arg(option(alloc, "memo"))?
+        .arg(option(alloc, "arena"))
+}
+
+pub fn trial<'a>(alloc: Global) -> Result<Command<'a>, AllocError>
+    ensures { IfOk result (λ command. app_of command ≡ spec.trial) }
+{
+    Command::new(alloc, "trial")
+        .arg(required(alloc, "KIND"))?
+        .arg(required(alloc, "N"))
+}
+
+pub fn verify<'a>(alloc: Global) -> Result<Command<'a>, AllocError>
+    ensures { IfOk result (λ command. app_of command ≡ spec.verify) }
+{
+    on_grammar(alloc, "verify")?.arg(required(alloc, "CERT"))
+}

@@ -1,0 +1,134 @@
+//! What the words ask for.
+ghost use Rattle.std.specs.Prelude.{◌≡◌, IfOk, Some, map, option_map};
+ghost use Rattle.std.specs.String.{string_bytes};
+ghost use Rattle.clap.specs.Words.{rows_of, found_of};
+ghost use Rattle.ipg_app_words.specs.Commands as command;
+ghost use Rattle.ipg_app_words.specs.Request as spec;
+ghost use Rattle.ipg_app_words.specs.Request.{request_of, request_by, parse_task, verify_task};
+ghost use Rattle.ipg_app_words.specs.Seen.{seen, task_seen};
+
+use crate::asking::{Asked, Wanted};
+use crate::commands::{on_grammar, parse, trial, verify};
+use crate::matching::{taken, value};
+use crate::settings::{count, memo, mib};
+use clap::ArgMatches;
+use std::alloc::{AllocError, Global};
+
+/// What the words ask for, the command's name first; nothing where they are no command's.
+pub fn request<'a>(alloc: Global, words: &'a [String]) -> Result<Option<Asked<'a>>, AllocError>
+    ensures { IfOk result (λ asked. option_map seen asked ≡ request_of (map string_bytes words.now)) }
+{
+    match words.first() {
+        Some(name) => request_by(alloc, name.as_str(), words),
+        None => Ok(None),
+    }
+}
+
+fn request_by<'a>(
+    alloc: Global,
+    name: &str,
+    words: &'a [String],
+) -> Result<Option<Asked<'a>>, AllocError>
+    ensures { IfOk result (λ asked. option_map seen asked ≡ request_by name.now (map string_bytes words.now)) }
+{
+    match name {
+        "parse" => parse_request(alloc, words),
+        "check" => grammar_request(alloc, "check", Wanted::Check, words),
+        "cert" => grammar_request(alloc, "cert", Wanted::Cert, words),
+        "verify" => verify_request(alloc, words),
+        "fmt" => fmt_request(alloc, words),
+        "trial" => trial_request(alloc, words),
+        _ => Ok(None),
+    }
+}
+
+fn parse_request<'a>(alloc: Global, words: &'a [String]) -> Result<Option<Asked<'a>>, AllocError>
+    ensures { IfOk result (λ asked. option_map seen asked ≡ spec.use_words command.parse parse_task (map string_bytes words.now)) }
+{
+    match taken(parse(alloc)?, words)? {
+        Some(matches) => Ok(use_of(&matches, parse_wanted(&matches))),
+        None => Ok(None),
+    }
+}
+
+fn verify_request<'a>(alloc: Global, words: &'a [String]) -> Result<Option<Asked<'a>>, AllocError>
+    ensures { IfOk result (λ asked. option_map seen asked ≡ spec.use_words command.verify verify_task (map string_bytes words.now)) }
+{
+    match taken(verify(alloc)?, words)? {
+        Some(matches) => Ok(use_of(&matches, verify_wanted(&matches))),
+        None => Ok(None),
+    }
+}
+
+/// A command that takes a grammar alone.
+fn grammar_request<'a>(
+    alloc: Global,
+    name: &'a str,
+    task: Wanted<'a>,
+    words: &'a [String],
+) -> Result<Option<Asked<'a>>, AllocError>
+    ensures { IfOk result (λ asked. option_map seen asked ≡ spec.use_words (command.on_grammar name.now) (λ rows. Some (task_seen task.entry))
+        (map string_bytes words.now)) }
+{
+    match taken(on_grammar(alloc, name)?, words)? {
+        Some(matches) => Ok(use_of(&matches, Some(task))),
+        None => Ok(None),
+    }
+}
+
+fn fmt_request<'a>(alloc: Global, words: &'a [String]) -> Result<Option<Asked<'a>>, AllocError>
+    ensures { IfOk result (λ asked. option_map seen asked ≡ spec.fmt_words (map string_bytes words.now)) }
+{
+    match taken(on_grammar(alloc, "fmt")?, words)? {
+        Some(matches) => Ok(fmt_of(&matches)),
+        None => Ok(None),
+    }
+}
+
+fn trial_request<'a>(alloc: Global, words: &'a [String]) -> Result<Option<Asked<'a>>, AllocError>
+    ensures { IfOk result (λ asked. option_map seen asked ≡ spec.trial_words (map string_bytes words.now)) }
+{
+    match taken(trial(alloc)?, words)? {
+        Some(matches) => Ok(trial_of(&matches)),
+        None => Ok(None),
+    }
+}
+
+fn use_of<'a>(matches: &ArgMatches<'a>, task: Option<Wanted<'a>>) -> Option<Asked<'a>>
+    ensures { option_map seen result ≡ spec.use_by (rows_of (found_of matches.now)) (option_map task_seen task.entry) }
+{
+    let grammar = value(matches, "G")?;
+    let task = task?;
+    Some(Asked::Use { grammar, task })
+}
+
+fn fmt_of<'a>(matches: &ArgMatches<'a>) -> Option<Asked<'a>>
+    ensures { option_map seen result ≡ spec.fmt_by (rows_of (found_of matches.now)) }
+{
+    let grammar = value(matches, "G")?;
+    Some(Asked::Fmt { grammar })
+}
+
+fn trial_of<'a>(matches: &ArgMatches<'a>) -> Option<Asked<'a>>
+    ensures { option_map seen result ≡ spec.trial_by (rows_of (found_of matches.now)) }
+{
+    let kind = value(matches, "KIND")?;
+    let count = count(value(matches, "N")?)?;
+    Some(Asked::Trial { kind, count })
+}
+
+fn parse_wanted<'a>(matches: &ArgMatches<'a>) -> Option<Wanted<'a>>
+    ensures { option_map task_seen result ≡ parse_task (rows_of (found_of matches.now)) }
+{
+    let input = value(matches, "FILE")?;
+    let memo = memo(value(matches, "memo"))?;
+    let mib = mib(value(matches, "arena"))?;
+    Some(Wanted::Parse { input, memo, mib })
+}
+
+fn verify_wanted<'a>(matches: &ArgMatches<'a>) -> Option<Wanted<'a>>
+    ensures { option_map task_seen result ≡ verify_task (rows_of (found_of matches.now)) }
+{
+    let certificate = value(matches, "CERT")?;
+    Some(Wanted::Verify { certificate })
+}

@@ -1,5 +1,0 @@
-use Rattle.ipg_counts.proofs.Whole as whole
-use Rattle.ipg_counts.proofs.laws.counts_with_memo.Goals as goal
-
-pub returns : goal.returns
-returns c = whole.counts_with_memo c.heights_agree.ensures c.parses_by_one_call.ensures c.turns_suffice.ensures

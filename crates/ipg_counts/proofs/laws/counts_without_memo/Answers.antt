@@ -1,5 +1,0 @@
-use Rattle.ipg_counts.proofs.Alone as alone
-use Rattle.ipg_counts.proofs.laws.counts_without_memo.Goals as goal
-
-pub returns : goal.returns
-returns c = alone.counts_without_memo c.parses_by_one_call.ensures c.turns_suffice.ensures

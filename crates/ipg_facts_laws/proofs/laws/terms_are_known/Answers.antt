@@ -1,0 +1,5 @@
+use Rattle.ipg_facts_laws.proofs.Ran as ran
+use Rattle.ipg_facts_laws.proofs.laws.terms_are_known.Goals as goal
+
+pub returns : goal.returns
+returns c = ran.terms_are_known

@@ -1,0 +1,99 @@
+//! Laws of the conditions, each the contract of a function that does nothing.
+
+ghost use Rattle.ipg_facts_laws.specs.Bounded.{JointIsPart};
+ghost use Rattle.ipg_facts_laws.specs.Laws.{ConditionsAreParts, EdgesAreFew, EdgesAreInside, EdgesCall, FactsSolve, JointSolvesParts, MembersAreKnown};
+ghost use Rattle.ipg_facts_laws.specs.Laws.{OwnMembersAreKnown, PartsSolveJoint, ReachedCyclesSolve, ReachedEdgesSolve, SpellingsDiffer, TermsAreKnown};
+ghost use Rattle.ipg_facts_laws.specs.Laws.{ValuesAreKnown, ValuesStay};
+
+use ipg_core::laws::{lies_within, touching_touches};
+
+/// Facts that hold where variables have values by their keys make their formula over numbers hold, in its box.
+pub fn facts_solve()
+    ensures { FactsSolve }
+{}
+
+/// Solutions of the parts with one value of variable 0 give one of their joint.
+pub fn parts_solve_joint()
+    ensures { PartsSolveJoint }
+{}
+
+/// A solution of the joint gives one of each part, with its value of variable 0, where the parts have one pair of bounds
+/// for that.
+pub fn joint_solves_parts()
+    ensures { JointSolvesParts }
+{}
+
+/// The conditions of edges are such parts: their variable 0 is a length from 0 to 2^30.
+pub fn conditions_are_parts()
+    ensures { ConditionsAreParts }
+{}
+
+/// The joint of such parts is such a part: it has bounds for each of its variables, and those of variable 0 are theirs.
+pub fn joint_is_part()
+    ensures { JointIsPart }
+{}
+
+/// Where variables have the values of what they stand for, what an expression is to the conditions holds of its value:
+/// its form has that value, the facts that its variables carry hold, and so do those that it is true or false.
+pub fn values_are_known()
+    ensures { ValuesAreKnown }
+{}
+
+/// No two expressions are spelled alike, so a key of an expression's value is of that expression alone.
+pub fn spellings_differ()
+    ensures { SpellingsDiffer }
+{}
+
+/// What a term that has run puts holds: intervals are valid, results touch of them what results of their symbols do,
+/// attributes have their values, tests are true, and a switch took one branch.
+pub fn members_are_known()
+    ensures { MembersAreKnown }
+{}
+
+/// What the edge's own term puts holds where its call is made on the whole part.
+pub fn own_members_are_known()
+    ensures { OwnMembersAreKnown }
+{}
+
+/// What terms put that have run, one after another, holds: the bounds of arrays are known behind them.
+pub fn terms_are_known()
+    ensures { TermsAreKnown }
+{}
+
+/// A value stays where its environment goes on, if behind the items that are mentioned nothing is added.
+pub fn values_stay()
+    ensures { ValuesStay }
+{}
+
+/// Where an edge is reached, its term makes a call on the whole part.
+pub fn edges_call()
+    ensures { EdgesCall }
+{}
+
+/// The calls of a good grammar are from its rules to its rules.
+pub fn edges_are_inside()
+    ensures { EdgesAreInside }
+{}
+
+/// A good grammar has fewer than 2^32 calls.
+pub fn edges_are_few()
+    ensures { EdgesAreFew }
+{}
+
+/// Where an edge is reached in a run that fits a good grammar, its conditions have a solution in their box, in which the
+/// length of the part is that of the caller's part.
+pub fn reached_edges_solve()
+    ensures { ReachedEdgesSolve }
+{
+    lies_within();
+    touching_touches();
+}
+
+/// Where edges are reached on parts of one length, the joint of their conditions has a solution, in which that length is
+/// the part's. So edges whose joint has none are never reached together.
+pub fn reached_cycles_solve()
+    ensures { ReachedCyclesSolve }
+{
+    lies_within();
+    touching_touches();
+}

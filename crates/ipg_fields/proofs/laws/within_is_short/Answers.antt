@@ -1,5 +1,0 @@
-use Rattle.ipg_fields.proofs.Short as short
-use Rattle.ipg_fields.proofs.laws.within_is_short.Goals as goal
-
-pub returns : goal.returns
-returns c = short.within_is_short

@@ -1,6 +1,0 @@
-use Rattle.ipg_levels.specs.Trails.{FallBetween}
-use Rattle.ipg_levels.proofs.level.wrong_between.Given as goal
-
--- no edge so far is broken
-abbrev pub invariant-loop-n : goal.invariant-loop-n
-invariant-loop-n l = FallBetween l.from l.n l.levels l.edges

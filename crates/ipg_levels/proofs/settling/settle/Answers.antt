@@ -1,5 +1,0 @@
-use Rattle.ipg_levels.proofs.Circles.{is_exact}
-use Rattle.ipg_levels.proofs.settling.settle.Goals as goal
-
-pub returns-clause-exact : goal.returns-clause-exact
-returns-clause-exact c = is_exact c.args.nodes c.args.edges.now c.in_ok-settled.settled c.in_ok-settled.ensures

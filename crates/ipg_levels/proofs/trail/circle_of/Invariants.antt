@@ -1,6 +1,0 @@
-use Rattle.std.proofs.Common.{◌≡◌, ◌∷◌, ◌++◌, drop}
-use Rattle.ipg_levels.specs.Trails.{edges_of}
-use Rattle.ipg_levels.proofs.trail.circle_of.Given as goal
-
-abbrev pub invariant-loop-stop : goal.invariant-loop-stop
-invariant-loop-stop l = l.circle ++ edges_of (drop l.stop-index l.stop-items) ≡ l.edge ∷ edges_of l.stop-items

@@ -1,0 +1,5 @@
+use Rattle.ipg_mach_moves.proofs.Ended as ended
+use Rattle.ipg_mach_moves.proofs.laws.stays_within.Goals as goal
+
+pub returns : goal.returns
+returns c = ended.stays_within c.heights_agree.ensures c.lies_within.ensures

@@ -1,0 +1,5 @@
+use Rattle.ipg_mach_nodes.proofs.Once as once
+use Rattle.ipg_mach_nodes.proofs.laws.one_list.Goals as goal
+
+pub returns : goal.returns
+returns c = once.one_list

@@ -1,0 +1,5 @@
+use Rattle.ipg_mach_nodes.proofs.Stays as stays
+use Rattle.ipg_mach_nodes.proofs.laws.trees_stay.Goals as goal
+
+pub returns : goal.returns
+returns c = stays.trees_stay

@@ -1,0 +1,18 @@
+use Rattle.std.proofs.Common.{◌≡◌, List, length, None}
+use Rattle.ipg_core.specs.declared.grammar.CoreExpr.{CoreExpr}
+use Rattle.ipg_core.specs.declared.grammar.CoreSlot.{CoreSlot}
+use Rattle.ipg_core.specs.Meaning.{Frame, State, Place, environment}
+use Rattle.ipg_table.specs.Rows.{Each, HoldsCase}
+use Rattle.ipg_mach_slot.proofs.Picks.{Picks}
+use Rattle.ipg_mach_slot.proofs.expr.branch.Given as goal
+
+-- the branches that are left come to what all do
+abbrev pub invariant-loop-case : goal.invariant-loop-case
+invariant-loop-case g l =
+    ((f : Frame) (place : Place) (state : State) (branches : List (CoreExpr × CoreSlot)) (last : CoreSlot)
+    → g.R.Results.stands l.results (environment f state None)
+    → Each (HoldsCase l.site.tables.now) l.cases branches → Picks l.site.tables.now f place state branches last l.left)
+    × (length l.area ≡ length l.fn.area)
+
+abbrev pub decreases-loop-case : goal.decreases-loop-case
+decreases-loop-case g l = length l.left

@@ -1,5 +1,0 @@
-use Rattle.ipg_moves.proofs.Ended as ended
-use Rattle.ipg_moves.proofs.laws.stays_within.Goals as goal
-
-pub returns : goal.returns
-returns c = ended.stays_within c.heights_agree.ensures c.lies_within.ensures

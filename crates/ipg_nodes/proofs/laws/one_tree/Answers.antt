@@ -1,5 +1,0 @@
-use Rattle.ipg_nodes.proofs.Once as once
-use Rattle.ipg_nodes.proofs.laws.one_tree.Goals as goal
-
-pub returns : goal.returns
-returns c = once.one_tree

@@ -1,5 +1,0 @@
-use Rattle.ipg_nodes.proofs.Stays as stays
-use Rattle.ipg_nodes.proofs.laws.trees_stay.Goals as goal
-
-pub returns : goal.returns
-returns c = stays.trees_stay

@@ -1,5 +1,0 @@
-use Rattle.ipg_sound.proofs.Widths as widths
-use Rattle.ipg_sound.proofs.laws.conditions_are_parts.Goals as goal
-
-pub returns : goal.returns
-returns c = widths.conditions_are_parts

@@ -1,5 +1,0 @@
-use Rattle.ipg_sound.proofs.Inside as inside
-use Rattle.ipg_sound.proofs.laws.edges_are_few.Goals as goal
-
-pub returns : goal.returns
-returns c = inside.edges_are_few

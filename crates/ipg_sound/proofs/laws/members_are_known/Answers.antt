@@ -1,5 +1,0 @@
-use Rattle.ipg_sound.proofs.Ran as ran
-use Rattle.ipg_sound.proofs.laws.members_are_known.Goals as goal
-
-pub returns : goal.returns
-returns c = ran.members_are_known

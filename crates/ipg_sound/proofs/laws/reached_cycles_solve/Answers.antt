@@ -1,5 +1,0 @@
-use Rattle.ipg_sound.proofs.Cycles as cycles
-use Rattle.ipg_sound.proofs.laws.reached_cycles_solve.Goals as goal
-
-pub returns : goal.returns
-returns c = cycles.reached_cycles_solve c.lies_within.ensures c.touching_touches.ensures

@@ -1,5 +1,0 @@
-use Rattle.ipg_sound.proofs.Solved as solved
-use Rattle.ipg_sound.proofs.laws.reached_edges_solve.Goals as goal
-
-pub returns : goal.returns
-returns c = solved.reached_edges_solve c.lies_within.ensures c.touching_touches.ensures

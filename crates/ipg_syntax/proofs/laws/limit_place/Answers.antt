@@ -1,5 +1,0 @@
-use Rattle.ipg_syntax.proofs.Readings as readings
-use Rattle.ipg_syntax.proofs.laws.limit_place.Goals as goal
-
-pub returns : goal.returns
-returns c = readings.limit_place

@@ -1,5 +1,0 @@
-use Rattle.ipg_syntax.proofs.Readings as readings
-use Rattle.ipg_syntax.proofs.laws.reads_exactly.Goals as goal
-
-pub returns : goal.returns
-returns c = readings.reads_exactly
