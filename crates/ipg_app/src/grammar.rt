@@ -8,8 +8,8 @@ ghost use Rattle.ipg_app.specs.Lines.{said_of};
 use crate::refusal::refusal;
 use crate::said::Settled;
 use ipg_ast::Grammar;
-use ipg_read_tokens::ReadFault;
 use ipg_names_text as texts;
+use ipg_read_tokens::ReadFault;
 use std::alloc::{AllocError, Global};
 
 /// The grammar that a text reads as, whose names can be resolved and whose local rules have one level, or what is said of a text that is none.

@@ -23,13 +23,13 @@ use crate::status::Status;
 use crate::trial::trial;
 use crate::verifying::judge;
 use ipg_app_answers::Room;
+use ipg_app_words::{Asked, Memo, Wanted, request};
 use ipg_ast::Grammar;
 use ipg_core::accepted::{Checked, Core};
 use ipg_formats::{Kind, kind_named, text};
 use ipg_mach::Remember;
 use ipg_outside::{FileFault, Files};
 use ipg_read_tokens::ReadFault;
-use ipg_app_words::{Asked, Memo, Wanted, request};
 use std::alloc::{AllocError, Global};
 
 const MAX_TEXT: u64 = 1 << 20;

@@ -10,8 +10,8 @@ ghost use Rattle.ipg_app_answers.specs.Measured.{Measures};
 
 use crate::answering::{BYTES_PER_MIB, has_answer};
 use ipg_core::accepted::Checked;
-use ipg_mach_count_laws::laws::counts_with_memo;
 use ipg_mach::{Outcome, Parsed, Remember, parse};
+use ipg_mach_count_laws::laws::counts_with_memo;
 use ipg_table::tables::compile;
 use ipg_tree::lines;
 use linked_list_allocator::LocalHeap;

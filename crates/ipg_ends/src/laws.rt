@@ -4,7 +4,9 @@ ghost use Rattle.ipg_ends.specs.Laws.{CallsAreEdges, EndsWhereNoneSolve, EndsWit
 ghost use Rattle.ipg_ends.specs.Walks.{LongWalksHoldCycles};
 
 use ipg_core::laws::{asks_what_fits, heights_agree};
-use ipg_facts_laws::laws::{edges_are_few, edges_are_inside, reached_cycles_solve, reached_edges_solve};
+use ipg_facts_laws::laws::{
+    edges_are_few, edges_are_inside, reached_cycles_solve, reached_edges_solve,
+};
 
 /// A walk of as many edges as a graph has vertices holds a simple cycle.
 pub fn long_walks_hold_cycles()

@@ -17,8 +17,8 @@ ghost use Rattle.ipg_mach.specs.declared.frame.Frame.{Frame};
 
 use crate::frame::{Frame, NewCall, Outer};
 use crate::top::Top;
-use ipg_mach_term::Entry;
 use ipg_mach_node::laws::{before_before, grows_from_before, items_stay, results_stay};
+use ipg_mach_term::Entry;
 use ipg_num::item_at;
 use ipg_region::Stack;
 use ipg_table::row::AltRow;

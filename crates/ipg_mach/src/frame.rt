@@ -1,7 +1,7 @@
 //! Frames of open calls.
 
-use ipg_mach_term::Entry;
 use ipg_mach_nodes::{Mark, RunId};
+use ipg_mach_term::Entry;
 use ipg_piles::Bases;
 use ipg_table::row::{AltRow, Instr};
 

@@ -6,8 +6,8 @@ ghost use Rattle.ipg_mach.specs.Known.{IsKnown};
 ghost use Rattle.ipg_mach.specs.Turning.{known_at};
 
 use crate::machine::Remember;
-use ipg_memo::Memo;
 use ipg_mach_nodes::Store;
+use ipg_memo::Memo;
 use std::alloc::{AllocError, Allocator};
 
 /// Nodes, and the answers of calls that stand among them. Without a memo answers aren't remembered.

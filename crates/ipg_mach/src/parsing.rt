@@ -21,8 +21,8 @@ use crate::kept::Kept;
 use crate::machine::{Machine, Remember, Turn};
 use ipg_mach_moves::laws::ends_only_so;
 use ipg_mach_nodes::Store;
-use ipg_tree_walk::{Counts, Parsed};
 use ipg_table::tables::Tables;
+use ipg_tree_walk::{Counts, Parsed};
 use std::alloc::{AllocError, Allocator};
 
 /// What a parse comes to.

@@ -17,11 +17,11 @@ ghost use Rattle.ipg_mach.specs.declared.frame.Frame.{Frame};
 
 use crate::lent::first;
 use crate::top::Top;
+use ipg_core::grammar::{CoreField, Sym};
+use ipg_mach_nodes::Kid;
+use ipg_mach_slot::{Now, Running, Site};
 use ipg_mach_term::laws::{answered_is_taken, sub_ends_by};
 use ipg_mach_term::{Advance, AtHand, Entry, at_hand, taken};
-use ipg_core::grammar::{CoreField, Sym};
-use ipg_mach_slot::{Now, Running, Site};
-use ipg_mach_nodes::Kid;
 use ipg_num::item_at;
 use ipg_table::results::Results;
 use ipg_table::row::{Action, Instr};

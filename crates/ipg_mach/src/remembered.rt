@@ -15,9 +15,9 @@ ghost use Rattle.ipg_mach.specs.Stage.{IsRaised, Remembers};
 use crate::known::learn;
 use crate::top::Top;
 use ipg_mach_node::laws::grows_from_before;
-use ipg_memo::{Entry, Key, Memo};
 use ipg_mach_nodes::laws::trees_stay;
 use ipg_mach_nodes::{Mark, Store};
+use ipg_memo::{Entry, Key, Memo};
 use ipg_table::tables::Tables;
 use std::alloc::{AllocError, Allocator};
 

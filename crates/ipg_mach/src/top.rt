@@ -24,13 +24,13 @@ ghost use Rattle.ipg_mach.specs.declared.frame.Frame.{Frame};
 
 use crate::frame::{Frame, Held};
 use crate::lent::{behind_first, first};
-use ipg_mach_term::{Advance, Entry};
 use ipg_mach_node::laws::{
     before_before, items_stay, none_has_run, one_more, result_set, results_stay,
 };
 use ipg_mach_node::{Closing, Scratch, array, close, repetition};
-use ipg_mach_slot::Done;
 use ipg_mach_nodes::{Kid, Mark, RunId, Store};
+use ipg_mach_slot::Done;
+use ipg_mach_term::{Advance, Entry};
 use ipg_piles::Piles;
 use ipg_table::row::{AltRow, Instr};
 use ipg_table::tables::Tables;

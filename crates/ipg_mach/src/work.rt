@@ -20,13 +20,13 @@ use crate::known::known;
 use crate::machine::Turn;
 use crate::reader::Reader;
 use crate::top::Top;
-use ipg_mach_term::AtHand;
 use ipg_mach_node::laws::grows_from_before;
-use ipg_memo::{Entry, Key, Memo};
 use ipg_mach_nodes::Kid;
 use ipg_mach_nodes::laws::trees_stay;
-use ipg_tree_walk::Counts;
+use ipg_mach_term::AtHand;
+use ipg_memo::{Entry, Key, Memo};
 use ipg_region::Stack;
+use ipg_tree_walk::Counts;
 use std::alloc::{AllocError, Allocator};
 
 /// The highest call, the frames of those that wait for it, what is known, and what has been counted.

@@ -14,10 +14,10 @@ ghost use Rattle.ipg_mach_node.specs.Closes.{Closes, head_of};
 
 use crate::laws::grows_on;
 use crate::scratch::{Scratch, put_attrs, put_kids};
-use ipg_mach_results::{Ends, extent};
-use ipg_mach_slot::Done;
 use ipg_mach_nodes::laws::kids_stay;
 use ipg_mach_nodes::{Head, RunId, Store};
+use ipg_mach_results::{Ends, extent};
+use ipg_mach_slot::Done;
 use ipg_table::tables::Tables;
 use std::alloc::{AllocError, Allocator};
 

@@ -10,8 +10,8 @@ ghost use Rattle.ipg_mach_slot.specs.Now.{IsDone};
 ghost use Rattle.ipg_mach_node.specs.Items.{HasItems};
 
 use crate::laws::{grows_on, items_stay};
-use ipg_mach_slot::Done;
 use ipg_mach_nodes::{Kid, Store};
+use ipg_mach_slot::Done;
 use std::alloc::{AllocError, Allocator};
 
 /// The items of an array that is past, stored as its result.

@@ -5,9 +5,9 @@ ghost use Rattle.ipg_core.specs.Environment as environment;
 ghost use Rattle.ipg_core.specs.Meaning.{entry};
 ghost use Rattle.ipg_mach_node.specs.Kept.{rows_done, attrs_at};
 
+use ipg_mach_nodes::Kid;
 use ipg_mach_results::value_at;
 use ipg_mach_slot::Done;
-use ipg_mach_nodes::Kid;
 use std::alloc::{AllocError, Allocator};
 
 /// Rows of a node that is being made, kept to be used again.

@@ -1,7 +1,7 @@
 use crate::scratch::{put_attrs, put_kids};
 use crate::{array, repetition};
-use ipg_mach_slot::Done;
 use ipg_mach_nodes::{Head, Kid, Store};
+use ipg_mach_slot::Done;
 use std::test::Fail;
 
 /// The rows of a node over raw bytes, a switch that took a node, and a repetition of that node; the attribute 4, set

@@ -10,9 +10,9 @@ ghost use Rattle.ipg_mach_slot.specs.Now as spec;
 ghost use Rattle.ipg_mach_slot.specs.Now.{lent, Stands, HasRun, ItemsStand};
 
 use ipg_core::grammar::{CoreField, Sym};
+use ipg_mach_nodes::{Kid, Store};
 use ipg_mach_results::laws::{within_are_short, within_is_short};
 use ipg_mach_results::{field_of, greatest_end, is_read_by, item_field, items_of, value_at};
-use ipg_mach_nodes::{Kid, Store};
 use ipg_num::item_at;
 use ipg_table::results::Results;
 use ipg_table::tables::Tables;

@@ -16,8 +16,8 @@ ghost use Rattle.ipg_mach_moves.specs.Moves.{silent};
 
 use crate::found::Found;
 use ipg_core::grammar::{Primitive, Sym};
-use ipg_mach_results::width;
 use ipg_mach_nodes::Kid;
+use ipg_mach_results::width;
 use ipg_table::tables::Tables;
 
 /// The ends of an interval as places, where it is valid.

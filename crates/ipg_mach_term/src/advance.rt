@@ -1,8 +1,8 @@
 //! What the term at hand makes of its call.
 
 use crate::entry::Entry;
-use ipg_mach_slot::Done;
 use ipg_mach_nodes::Kid;
+use ipg_mach_slot::Done;
 
 /// What the term at hand makes of its call; `sym` is the number of a symbol.
 #[derive(Clone, Copy, Debug, PartialEq, Eq)]

@@ -16,9 +16,9 @@ ghost use Rattle.ipg_mach_term.specs.Advance.{IsEntry, IsParsed, IsItem, IsAdvan
 
 use crate::advance::Advance;
 use crate::entry::Entry;
+use ipg_mach_nodes::{Kid, Store};
 use ipg_mach_results::{ends_of, touches};
 use ipg_mach_slot::Done;
-use ipg_mach_nodes::{Kid, Store};
 use ipg_table::row::Action;
 use ipg_table::tables::Tables;
 use std::alloc::Allocator;

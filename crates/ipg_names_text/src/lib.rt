@@ -7,9 +7,9 @@ ghost use Rattle.ipg_read_syntax.specs.Reading.{read_of};
 ghost use Rattle.ipg_names.specs.Readable.{IsReadable};
 
 use ipg_ast::Grammar;
-use ipg_read_canonical_laws::laws::{keeps_tokens, reads_formed};
 use ipg_names::laws::formed_is_readable;
 use ipg_read::{ReadFault, read};
+use ipg_read_canonical_laws::laws::{keeps_tokens, reads_formed};
 use ipg_read_syntax::laws::{reads_exactly, refused_exactly};
 use std::alloc::Global;
 

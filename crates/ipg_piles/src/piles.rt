@@ -4,8 +4,8 @@ ghost use Rattle.std.specs.Prelude.{◌≡◌, ◌<◌, ◌≤◌, ◌^◌, leng
 ghost use Rattle.ipg_piles.specs.Piled as spec;
 ghost use Rattle.ipg_piles.specs.Piled.{below, above, AreTops, IsBase, Turns};
 
-use ipg_mach_slot::Done;
 use ipg_mach_nodes::Kid;
+use ipg_mach_slot::Done;
 use std::alloc::{AllocError, Allocator};
 use std::marker::Model;
 

@@ -7,8 +7,8 @@ ghost use Rattle.ipg_proof.specs.Seen.{seen};
 
 use crate::calls::Calls;
 use ipg_facts::{joint, keep};
-use ipg_lin::{Boxed, Formula};
 use ipg_facts_laws::laws::{conditions_are_parts, joint_is_part};
+use ipg_lin::{Boxed, Formula};
 use std::alloc::{AllocError, Global};
 
 /// The conditions under which the call of the edge is made on its caller's whole part, and the bounds of their

@@ -5,8 +5,8 @@ ghost use Rattle.ipg_proof.specs.Worth.{AcceptsIsTotal, ProvesIsAccepted, Proves
 
 use ipg_cert::laws::checks_refute;
 use ipg_ends::laws::ends_where_none_solve;
-use ipg_graph::runs_are_whole;
 use ipg_facts_laws::laws::{conditions_are_parts, joint_solves_parts};
+use ipg_graph::runs_are_whole;
 
 /// A grammar that a certificate proves is accepted: none of its cycles can be walked on one length of the part.
 pub fn proves_is_accepted()

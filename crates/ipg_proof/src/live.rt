@@ -7,8 +7,8 @@ ghost use Rattle.ipg_proof.specs.Calls.{with_set, live_graph};
 
 use ipg_cert::Refutation;
 use ipg_core::accepted::Core;
-use ipg_graph::{Cycles, Edge};
 use ipg_facts_laws::laws::{edges_are_few, edges_are_inside};
+use ipg_graph::{Cycles, Edge};
 use std::alloc::{AllocError, Global};
 
 fn set(flags: &mut Vec<bool>, at: u32)

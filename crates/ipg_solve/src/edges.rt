@@ -7,8 +7,8 @@ ghost use Rattle.ipg_cert.specs.Facts.{facts_of, bound_facts};
 ghost use Rattle.ipg_cert.specs.Checks.{root_facts};
 ghost use Rattle.ipg_solve.specs.Edges.{node_of, edge_of, edges_in, IsSized};
 
-use ipg_solve_potentials::Edge;
 use ipg_lin::{Boxed, Formula, Linear};
+use ipg_solve_potentials::Edge;
 use std::alloc::{AllocError, Global};
 
 /// The node of the first variable that is taken so often, or the ground.

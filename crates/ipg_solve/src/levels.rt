@@ -14,9 +14,9 @@ use crate::decision::Decision;
 use crate::edges::edges_of;
 use crate::width::width_of;
 use ipg_cert::{Refutation, Step};
-use ipg_solve_potentials::{Settled, settle};
 use ipg_lin::{Boxed, Formula};
 use ipg_num::List;
+use ipg_solve_potentials::{Settled, settle};
 use std::alloc::{AllocError, Global};
 
 /// The difference, which lies within the bounds.

@@ -7,9 +7,9 @@ use crate::dead::dead_edges;
 use crate::fault::{TermFault, TermWhy};
 use ipg_core::accepted::{Checked, Core};
 use ipg_facts_edges::edges;
+use ipg_facts_laws::laws::edges_are_few;
 use ipg_proof::laws::{accepts_is_total, live_cycles_are_cycles, loops_are_live};
 use ipg_proof::{Calls, Certificate};
-use ipg_facts_laws::laws::edges_are_few;
 use ipg_touch::must_touch;
 use std::alloc::Global;
 

@@ -16,8 +16,8 @@ use crate::tail::Tail;
 use crate::words::{put, put_attr};
 use ipg_mach_nodes::Node;
 use ipg_outside::{Sink, SinkFault};
-use ipg_tree_walk::{Parsed, Visit};
 use ipg_table::tables::Tables;
+use ipg_tree_walk::{Parsed, Visit};
 use std::alloc::Allocator;
 
 /// A name of so many bytes finds room in one piece with a depth and places.
