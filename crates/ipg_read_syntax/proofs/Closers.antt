@@ -11,7 +11,8 @@ use Rattle.ipg_read_syntax.specs.Written
 use Rattle.ipg_read_syntax.specs.Written.{Toks, ExprTree, TermTree}
 use Rattle.ipg_read_syntax.specs.Machine
 use Rattle.ipg_read_syntax.specs.Machine.{Frame, neg, isnt, left, group, index, then_of, else_of, Inner, want, have, named, dotted, indexed, index_dotted, Base}
-use Rattle.ipg_read_syntax.specs.Machine.{SlotUse, alone, chosen, other, Part, Site, global, local, Pos, State, in_term, after_term, expr, close, onward, verdict}
+use Rattle.ipg_read_syntax.specs.Machine.{SlotUse, alone, chosen, other, Part, Site, global, local, Pos, State, in_term, after_term, expr, close}
+use Rattle.ipg_read_syntax.specs.Machine.{onward, verdict}
 use Rattle.ipg_read_syntax.specs.Making.{trees}
 use Rattle.ipg_ast.specs.declared.grammar.Field.TheVariants.{Start}
 use Rattle.ipg_read_syntax.proofs.Frames.{Ends, tightness, close_left, close_else, name_ends}

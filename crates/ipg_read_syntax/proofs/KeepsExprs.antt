@@ -6,7 +6,8 @@ use Rattle.ipg_ast.specs.declared.grammar.Ident.{Ident}
 use Rattle.ipg_ast.specs.declared.grammar.Field.{Field}
 use Rattle.ipg_ast.specs.declared.grammar.Field.TheVariants.{Id as Attribute, Start, End}
 use Rattle.ipg_num.specs.declared.op.Op2.TheVariants.{Sub}
-use Rattle.ipg_read_syntax.specs.Classes.{op, level, Tok, name, number, sign, bang, question, colon, dot, left_paren, right_paren, start_word, end_word, eoi_word}
+use Rattle.ipg_read_syntax.specs.Classes.{op, level, Tok, name, number, sign, bang, question, colon, dot, left_paren, right_paren, start_word}
+use Rattle.ipg_read_syntax.specs.Classes.{end_word, eoi_word}
 use Rattle.ipg_read_syntax.specs.Written
 use Rattle.ipg_read_syntax.specs.Written.{Toks, ExprTree, field_tok, spell_expr, Stands, prefix_level}
 use Rattle.ipg_read_syntax.specs.Machine

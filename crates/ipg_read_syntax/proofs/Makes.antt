@@ -7,7 +7,8 @@ use Rattle.ipg_ast.specs.declared.grammar.Term.{Term}
 use Rattle.ipg_ast.specs.declared.grammar.Term.TheVariants as T
 use Rattle.ipg_ast.specs.declared.grammar.Alt.{Alt}
 use Rattle.ipg_ast.specs.declared.grammar.Rule.{Rule}
-use Rattle.ipg_read_syntax.specs.Written.{ExprTree, num, eoi, own, part, item, group, neg, isnt, two, choose, PlaceTree, anywhere, long, ends, SlotTree, CaseTree}
+use Rattle.ipg_read_syntax.specs.Written.{ExprTree, num, eoi, own, part, item, group, neg, isnt, two, choose, PlaceTree, anywhere, long, ends}
+use Rattle.ipg_read_syntax.specs.Written.{SlotTree, CaseTree}
 use Rattle.ipg_read_syntax.specs.Written.{TermTree, slot_term, set_term, test_term, repeat_term, many_term, pick_term, LocalTree, AltTree, RuleTree}
 use Rattle.ipg_read_syntax.specs.Grammars.{infix_expr, made_expr, made_place, made_slot, made_case, made_term, alt_of, rule_of, made_local_alt}
 use Rattle.ipg_read_syntax.specs.Grammars.{made_local, made_alt, made_rule}

@@ -5,8 +5,10 @@ use Rattle.ipg_read_syntax.specs.Classes.{left_brace, for_word, to_word, do_word
 use Rattle.ipg_read_syntax.specs.Written.{Toks, TermTree, what_tok, spell_expr, spell_slot, spell_cases, spell_term, spell_terms}
 use Rattle.ipg_read_syntax.specs.Written.{spell_local_alts, spell_locals, spell_alts, spell, Stands, prefix_level, Each, SomeEach}
 use Rattle.ipg_read_syntax.specs.Written.{SlotFits, CaseFits, TermFits, TermsFit, LocalFits, AltFits, RuleFits, Fits}
-use Rattle.ipg_read_syntax.specs.Machine.{Frame, neg, isnt, left, group, index, then_of, else_of, Inner, want, have, named, dotted, indexed, index_dotted, SlotUse}
-use Rattle.ipg_read_syntax.specs.Machine.{alone, chosen, other, Base, length_or_left, right_of, value_of, test_of, first_bound, last_bound, item_left, item_right}
+use Rattle.ipg_read_syntax.specs.Machine.{Frame, neg, isnt, left, group, index, then_of, else_of, Inner, want, have, named, dotted, indexed}
+use Rattle.ipg_read_syntax.specs.Machine.{index_dotted, SlotUse}
+use Rattle.ipg_read_syntax.specs.Machine.{alone, chosen, other, Base, length_or_left, right_of, value_of, test_of, first_bound, last_bound, item_left}
+use Rattle.ipg_read_syntax.specs.Machine.{item_right}
 use Rattle.ipg_read_syntax.specs.Machine.{many_length_or_left, many_right, case_of, Part, slot_named, expr, set_open, set_named, test_open, repeat_open}
 use Rattle.ipg_read_syntax.specs.Machine.{repeat_named, item_due, item_named, many_open, many_named, pick_open, first_case, next_case, case_open, slot_due}
 use Rattle.ipg_read_syntax.specs.Machine.{pick_close, Head, Site, global, local, Pos, start, between, rule_named, local_named, before_term, in_term, after_term}

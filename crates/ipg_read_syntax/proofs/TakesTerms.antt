@@ -11,7 +11,8 @@ use Rattle.ipg_read_syntax.specs.Written.{spell_terms, Stands, PlaceFits, SlotFi
 use Rattle.ipg_read_syntax.specs.Limits.{past}
 use Rattle.ipg_read_syntax.specs.Machine
 use Rattle.ipg_read_syntax.specs.Machine.{Acts, want, have, Base, SlotUse, alone, chosen, other, Site, State, Turn, in_term, after_term, slot_named, slot_due}
-use Rattle.ipg_read_syntax.specs.Machine.{next_case, pick_close, expr, turned, onward, slot_done, slot_passed, slot_move, many_move, many_named, passed, verdict}
+use Rattle.ipg_read_syntax.specs.Machine.{next_case, pick_close, expr, turned, onward, slot_done, slot_passed, slot_move, many_move, many_named}
+use Rattle.ipg_read_syntax.specs.Machine.{passed, verdict}
 use Rattle.ipg_read_syntax.specs.Making.{expr_by, place_by, slot_by, cases_by, term_by, terms_by}
 use Rattle.ipg_read_syntax.proofs.Frames.{Ends}
 use Rattle.ipg_read_syntax.proofs.TakesExprs.{takes_expr, past_append}

@@ -7,7 +7,8 @@ use Rattle.std.proofs.lemmas.Bool.Decides.{nat_tests}
 use Rattle.ipg_ast.specs.declared.token.TokenKind.{TokenKind}
 use Rattle.ipg_ast.specs.declared.token.TokenKind.TheVariants.{Name, Word, Number, Text, Symbol}
 use Rattle.ipg_read_tokens.specs.declared.class.Class.TheVariants.{Naming}
-use Rattle.ipg_read_tokens.specs.Lexical.{Quoted, quoted, in_class, is_letter, is_digit, is_hexadecimal, is_prefixed, is_single, is_one_of, reserved, word, value}
+use Rattle.ipg_read_tokens.specs.Lexical.{Quoted, quoted, in_class, is_letter, is_digit, is_hexadecimal, is_prefixed, is_single, is_one_of, reserved}
+use Rattle.ipg_read_tokens.specs.Lexical.{word, value}
 use Rattle.ipg_read_tokens.specs.Shaped.{is_name, is_symbol}
 use Rattle.ipg_read_token_laws.specs.Forms.{SomeOf, Spells, SpellsOne}
 use Rattle.ipg_read_token_laws.proofs.Bytes.{both, no_mark, not_mark, not_both, pair_single, reserved_name}

@@ -12,7 +12,8 @@ use Rattle.ipg_read_tokens.specs.Lexical.{in_class, run, is_white, is_letter, is
 use Rattle.ipg_read_tokens.specs.Lexical.{text_front, symbol_front, front_of}
 use Rattle.ipg_read_tokens.specs.Shaped.{is_name, is_symbol}
 use Rattle.ipg_read_token_laws.specs.Forms.{SomeOf, Numeral, Closes, IsSpelled, IsBlank, NoneBeyond}
-use Rattle.ipg_read_token_laws.proofs.Bytes.{both, choose, white_front, letter_front, digit_front, single_front_at, pair_single, no_mark, not_mark, reserved_name}
+use Rattle.ipg_read_token_laws.proofs.Bytes.{both, choose, white_front, letter_front, digit_front, single_front_at, pair_single, no_mark, not_mark}
+use Rattle.ipg_read_token_laws.proofs.Bytes.{reserved_name}
 use Rattle.ipg_read_token_laws.proofs.Runs.{run_reaches}
 use Rattle.ipg_read_token_laws.proofs.Texts.{closes_read}
 
