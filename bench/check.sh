@@ -20,7 +20,7 @@ open() {
   printf '  S / "x" ;\nB -> "b" / "" ;\n'
 }
 
-least "$ipg" fmt crates/ipg_app/data/row.ipg
+least "$ipg" fmt crates/ipg/data/row.ipg
 for kind in elf pe gif pcap; do
   least "$ipg" check "@$kind"
   "$ipg" cert "@$kind" >"$work/$kind"

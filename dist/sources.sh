@@ -1,6 +1,6 @@
 # shellcheck shell=bash disable=SC2154
 # For `ipg`, `prove` and the checks: what a program is built from, and how. They set `top`, the repository's folder.
-program="$top/crates/ipg_app/out/ipg_app"
+program="$top/crates/ipg/out/ipg"
 
 # own_crates NAME: a program's own crates, itself and all that it stands on, by their lines of crates.txt
 own_crates() {
@@ -26,11 +26,11 @@ own_folders() {
   done
 }
 
-# these lines for `ipg_app`, and the checksum of each source
+# these lines for `ipg`, and the checksum of each source
 sources() {
   local folders
-  mapfile -t folders < <(own_folders ipg_app)
-  own_crates ipg_app
+  mapfile -t folders < <(own_folders ipg)
+  own_crates ipg
   (cd "$top" && find "${folders[@]}" -type f -print0 | LC_ALL=C sort -z | xargs -0 sha256sum)
 }
 
@@ -39,10 +39,10 @@ is_kept() {
   [ -x "$top/dist/ipg" ] && [ -f "$top/dist/SOURCES" ] && [ "$(sources)" = "$(cat "$top/dist/SOURCES")" ]
 }
 
-# is_built [NAME]: whether a program, `ipg_app` if none is named, was built here, and no source is newer, nor a folder of
+# is_built [NAME]: whether a program, `ipg` if none is named, was built here, and no source is newer, nor a folder of
 # sources, which a file came into or left
 is_built() {
-  local name="${1-ipg_app}" folders
+  local name="${1-ipg}" folders
   local built="$top/crates/$name/out/$name"
   [ -x "$built" ] || return 1
   mapfile -t folders < <(own_folders "$name")
@@ -60,6 +60,6 @@ build() {
   local began
   began=$(date +%s.%N)
   [ -e "$program" ] || (cd "$top/crates" && rt all check --jobs "$(at_once)") </dev/null >&2
-  (cd "$top/crates/ipg_app" && rt run -- parse data/row.ipg data/row.bin) </dev/null >&2 || return 1
+  (cd "$top/crates/ipg" && rt run -- parse data/row.ipg data/row.bin) </dev/null >&2 || return 1
   touch -d "@$began" "$program" || true
 }

@@ -5,7 +5,7 @@ cd "$(dirname "$0")/../.." || exit 1
 top=$PWD
 . .ci/skips.sh
 . dist/sources.sh
-./ipg fmt crates/ipg_app/data/row.ipg >/dev/null || exit 1
+./ipg fmt crates/ipg/data/row.ipg >/dev/null || exit 1
 is_built || program=dist/ipg
 command -v cc >/dev/null || {
   skip memory "a C compiler"
@@ -50,7 +50,7 @@ each() {
   echo "memory: $1: $((number - 1)) requests, each refused in turn; $refused ended the run"
 }
 
-each parse crates/ipg_app/data/row.ipg crates/ipg_app/data/row.bin --arena 1 &&
+each parse crates/ipg/data/row.ipg crates/ipg/data/row.bin --arena 1 &&
   each parse "$folder/g" "$folder/input" --arena 1 &&
   each trial gif 1 &&
   each fmt "$folder/g" &&

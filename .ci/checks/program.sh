@@ -3,8 +3,8 @@
 set -u
 cd "$(dirname "$0")/../.." || exit 1
 . .ci/skips.sh
-grammar=crates/ipg_app/data/row.ipg
-input=crates/ipg_app/data/row.bin
+grammar=crates/ipg/data/row.ipg
+input=crates/ipg/data/row.bin
 tree=$'0 S 0 2 start=0 end=2\n1 tok 0 2 6162\n'
 folder=$(mktemp -d) || exit 1
 trap 'rm -rf "$folder"' EXIT

@@ -9,6 +9,6 @@ command -v python3 >/dev/null || {
 }
 top=$PWD
 . dist/sources.sh
-./ipg fmt crates/ipg_app/data/row.ipg >/dev/null || exit 1
+./ipg fmt crates/ipg/data/row.ipg >/dev/null || exit 1
 is_built || program=dist/ipg
 exec python3 .ci/random_grammars.py "$program"

@@ -30,3 +30,14 @@ pub mod Parted
 pub mod Widths
 pub mod Cycles
 pub mod Bounded
+pub mod Lists
+pub mod Apart
+pub mod Walks
+pub mod Settled
+pub mod Follows
+pub mod Named
+pub mod Edges
+pub mod Live
+pub mod Totals
+pub mod Nesting
+pub mod Solving

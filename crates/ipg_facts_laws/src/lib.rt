@@ -1,4 +1,5 @@
-//! Laws of the conditions of edges: what solves them.
+//! Laws of the conditions of edges: what solves them, and which grammars are total by them.
 #![tactic(auto)]
 
+pub mod ending;
 pub mod laws;

@@ -27,7 +27,7 @@ use Rattle.ipg_mach_slot.specs.Now.{Lent, HasRun, Stands, AreResults, WithRunnin
 use Rattle.ipg_mach_term.specs.declared.entry.Entry.{Entry}
 use Rattle.ipg_mach_term.specs.declared.entry.Entry.TheVariants as entry
 use Rattle.ipg_mach_term.specs.Advance.{IsEntry, environment_at}
-use Rattle.ipg_piles.specs.Piled.{Piled, between, below, above}
+use Rattle.ipg_mach.specs.Piled.{Piled, between, below, above}
 use Rattle.ipg_mach.specs.declared.frame.Frame.{Frame}
 use Rattle.ipg_mach.specs.declared.reader.View.{View}
 use Rattle.ipg_mach.specs.Calls.{IsOpen, size_of, running_in, running_at}

@@ -3,7 +3,7 @@ use Rattle.std.proofs.Common.{◌≡◌, ℕ, zero, suc, ◌-◌, ◌≤◌, ari
 use Rattle.std.specs.Prelude.{slice_get}
 use Rattle.std.proofs.lemmas.Bool.{cases_lt}
 use Rattle.std.proofs.lemmas.List.{take-append-drop, take-append-le, drop-append-le, length-drop}
-use Rattle.ipg_piles.specs.Piled.{between}
+use Rattle.ipg_mach.specs.Piled.{between}
 use Rattle.ipg_core.specs.declared.grammar.CoreTerm.{CoreTerm}
 use Rattle.ipg_table.specs.declared.row.Instr.{Instr}
 use Rattle.ipg_core.specs.declared.grammar.CoreRule.{CoreRule}

@@ -17,7 +17,7 @@ use Rattle.ipg_mach_nodes.specs.declared.kid.Kid.TheVariants as kid
 use Rattle.ipg_mach_term.specs.Advance.{EndsBy}
 use Rattle.ipg_mach_nodes.specs.Stored.{Stored, Source, StandsTree, IsMark, before}
 use Rattle.ipg_table.specs.Rows.{Rows}
-use Rattle.ipg_piles.specs.Piled.{Piled, below, between}
+use Rattle.ipg_mach.specs.Piled.{Piled, below, between}
 use Rattle.ipg_mach.specs.declared.frame.Frame.{Frame}
 use Rattle.ipg_region.specs.declared.region.RunId.{RunId}
 use Rattle.ipg_mach_nodes.specs.declared.store.Mark.{Mark}

@@ -6,7 +6,7 @@ use Rattle.ipg_mach_moves.specs.Moves.{OpenCall, Key}
 use Rattle.ipg_mach_nodes.specs.Stored.{Source, before}
 use Rattle.ipg_mach_node.specs.Laws.{BeforeBefore, GrowsFromBefore, ItemsStay, ResultsStay}
 use Rattle.ipg_table.specs.Rows.{Rows}
-use Rattle.ipg_piles.specs.Piled.{below}
+use Rattle.ipg_mach.specs.Piled.{below}
 use Rattle.ipg_mach.specs.declared.frame.Frame.{Frame}
 use Rattle.ipg_mach.specs.Calls.{Shown, IsHolding, IsWorking, IsWaiting, Wait, items_in, size_of}
 use Rattle.ipg_mach.proofs.Stores.{mark_below, before_below}

@@ -19,7 +19,7 @@ use Rattle.ipg_table.specs.Rows.{Rows, Each, HoldsInstr, HoldsAlt, rows_at}
 use Rattle.ipg_mach_slot.specs.Now.{AreResults}
 use Rattle.ipg_mach_node.specs.Items.{HasItems}
 use Rattle.ipg_mach_node.specs.Laws.{BeforeBefore, ItemsStay, NoneHasRun, ResultsStay}
-use Rattle.ipg_piles.specs.Piled.{Piled, Turns, below, above}
+use Rattle.ipg_mach.specs.Piled.{Piled, Turns, below, above}
 use Rattle.ipg_mach_term.specs.declared.entry.Entry.{Entry}
 use Rattle.ipg_mach_term.specs.declared.entry.Entry.TheVariants.{Outside, Items, Turns as TurnsTo}
 use Rattle.ipg_mach_term.specs.Advance.{IsEntry}

@@ -24,7 +24,7 @@ use Rattle.ipg_table.specs.Rows.{Rows, Each, HoldsInstr, HoldsAlt, StandFor, att
 use Rattle.ipg_mach_slot.specs.Now.{AreResults}
 use Rattle.ipg_mach_term.specs.Advance.{IsEntry, EndsBy}
 use Rattle.ipg_mach_node.specs.Items.{HasItems}
-use Rattle.ipg_piles.specs.Piled.{Piled, between, IsBase, below, above}
+use Rattle.ipg_mach.specs.Piled.{Piled, between, IsBase, below, above}
 use Rattle.ipg_mach.specs.declared.frame.Frame.{Frame}
 use Rattle.ipg_mach.specs.declared.frame.NewCall.{NewCall}
 use Rattle.ipg_mach.specs.declared.frame.Held.{Held}

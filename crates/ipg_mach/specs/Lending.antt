@@ -3,7 +3,7 @@ use denote.Bor.{Bor}
 use Rattle.std.specs.Prelude.{◌≡◌, List}
 use Rattle.ipg_mach_nodes.specs.declared.kid.Kid.{Kid}
 use Rattle.ipg_mach_slot.specs.Now.{Lent}
-use Rattle.ipg_piles.specs.Piled.{between, above}
+use Rattle.ipg_mach.specs.Piled.{between, above}
 use Rattle.ipg_mach.specs.Calls.{running_in}
 use Rattle.ipg_mach.specs.declared.reader.View.{View}
 

@@ -1,3 +1,7 @@
+-- what open calls have come to, one call's on top of another's
+pub mod Piled
+-- what the piles promise each other
+pub mod Small
 -- open calls as frames hold them
 pub mod Calls
 -- what is lent of the highest call

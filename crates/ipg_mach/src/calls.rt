@@ -11,7 +11,7 @@ ghost use Rattle.ipg_mach_moves.specs.Moves as moves;
 ghost use Rattle.ipg_mach_moves.specs.Moves.{OpenCall, Key, begins};
 ghost use Rattle.ipg_mach_nodes.specs.Stored.{Source, IsMark};
 ghost use Rattle.ipg_table.specs.Rows.{Each, HoldsAlt, StandFor};
-ghost use Rattle.ipg_piles.specs.Piled.{between, IsBase, below, above};
+ghost use Rattle.ipg_mach.specs.Piled.{between, IsBase, below, above};
 ghost use Rattle.ipg_mach.specs.Calls.{shown, IsNew, IsCall, IsHighest, IsHolding, IsWorking, Awaits, Keeps};
 ghost use Rattle.ipg_mach.specs.declared.frame.Frame.{Frame};
 

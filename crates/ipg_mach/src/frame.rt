@@ -1,8 +1,8 @@
 //! Frames of open calls.
 
+use crate::piles::Bases;
 use ipg_mach_nodes::{Mark, RunId};
 use ipg_mach_term::Entry;
-use ipg_piles::Bases;
 use ipg_table::row::{AltRow, Instr};
 
 /// Where the attributes of a call's holder stand in the pile of attributes.

@@ -9,6 +9,7 @@ mod known;
 mod lent;
 mod machine;
 mod parsing;
+mod piles;
 mod reader;
 mod remembered;
 mod top;

@@ -16,7 +16,7 @@ ghost use Rattle.ipg_mach_nodes.specs.Stored.{Source, IsMark};
 ghost use Rattle.ipg_table.specs.Rows.{Rows, Each, HoldsAlt, HoldsInstr};
 ghost use Rattle.ipg_mach_term.specs.Advance.{IsAdvance, IsItem};
 ghost use Rattle.ipg_mach_slot.specs.Now.{IsDone};
-ghost use Rattle.ipg_piles.specs.Piled.{IsBase, below};
+ghost use Rattle.ipg_mach.specs.Piled.{IsBase, below};
 ghost use Rattle.ipg_mach_term.specs.declared.entry.Entry.TheVariants.{Outside};
 ghost use Rattle.ipg_mach.specs.Calls.{shown, IsAtWork, IsWorking, IsHolding, IsHighest, IsReady, Keeps, items_in, term_at_hand};
 ghost use Rattle.ipg_mach.specs.Calls as calls;
@@ -24,6 +24,7 @@ ghost use Rattle.ipg_mach.specs.declared.frame.Frame.{Frame};
 
 use crate::frame::{Frame, Held};
 use crate::lent::{behind_first, first};
+use crate::piles::Piles;
 use ipg_mach_node::laws::{
     before_before, items_stay, none_has_run, one_more, result_set, results_stay,
 };
@@ -31,7 +32,6 @@ use ipg_mach_node::{Closing, Scratch, array, close, repetition};
 use ipg_mach_nodes::{Kid, Mark, RunId, Store};
 use ipg_mach_slot::Done;
 use ipg_mach_term::{Advance, Entry};
-use ipg_piles::Piles;
 use ipg_table::row::{AltRow, Instr};
 use ipg_table::tables::Tables;
 use std::alloc::{AllocError, Allocator};

@@ -7,7 +7,7 @@ use Rattle.ipg_facts_edges.specs.Edges.{edges_of}
 use Rattle.ipg_lin.specs.Formula.{Solvable}
 use Rattle.ipg_cert.specs.declared.refutation.Refutation.{Refutation}
 use Rattle.ipg_cert.specs.Laws.{ChecksRefute}
-use Rattle.ipg_ends.specs.Laws.{EndsWhereNoneSolve}
+use Rattle.ipg_facts_laws.specs.Ends.{EndsWhereNoneSolve}
 use Rattle.ipg_proof.specs.Calls.{calls_of, joint_of, edge_checks, cycle_checks, dead_edges, cycles_of, live_graph}
 use Rattle.ipg_proof.specs.Cycles.{LoopsAreLive}
 use Rattle.ipg_proof.specs.Worth.{ProvesIsAccepted, ProvesIsTotal, AcceptsIsTotal}

@@ -4,7 +4,7 @@ ghost use Rattle.ipg_proof.specs.Cycles.{LiveCyclesAreCycles, LoopsAreLive};
 ghost use Rattle.ipg_proof.specs.Worth.{AcceptsIsTotal, ProvesIsAccepted, ProvesIsTotal};
 
 use ipg_cert::laws::checks_refute;
-use ipg_ends::laws::ends_where_none_solve;
+use ipg_facts_laws::ending::ends_where_none_solve;
 use ipg_facts_laws::laws::{conditions_are_parts, joint_solves_parts};
 use ipg_graph::runs_are_whole;
 

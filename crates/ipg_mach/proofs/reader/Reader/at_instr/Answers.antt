@@ -4,7 +4,7 @@ use Rattle.ipg_core.specs.Part.{part}
 use Rattle.ipg_mach_moves.specs.Moves as moves
 use Rattle.ipg_mach_slot.specs.Found.{LiesAt}
 use Rattle.ipg_mach_term.specs.Advance.{IsAtHand, IsEntry}
-use Rattle.ipg_piles.specs.Piled.{below}
+use Rattle.ipg_mach.specs.Piled.{below}
 use Rattle.ipg_mach.specs.Calls.{size_of, items_in}
 use Rattle.ipg_mach.proofs.Reading as reading
 use Rattle.ipg_mach.proofs.Working as working

@@ -2,7 +2,7 @@ use Rattle.std.proofs.Common.{w64, ap, subst, ◌++◌, ◌∷◌, [], OnOk}
 use Rattle.std.proofs.lemmas.Int.{to_z-of_z}
 use Rattle.std.proofs.lemmas.Result.{on_ok_weaker}
 use Rattle.ipg_core.specs.Meaning.{with_value}
-use Rattle.ipg_piles.specs.Piled.{Turns, above}
+use Rattle.ipg_mach.specs.Piled.{Turns, above}
 use Rattle.ipg_mach.specs.Calls.{shown}
 use Rattle.ipg_mach.proofs.Working as working
 use Rattle.ipg_mach.proofs.top.Top.add_value.Goals as goal

@@ -3,7 +3,7 @@ use Rattle.std.specs.Prelude.{slice_set}
 use Rattle.std.proofs.lemmas.List.{length-set}
 use Rattle.ipg_core.specs.Meaning.{with_kid}
 use Rattle.ipg_mach_slot.specs.Now.{AreResults}
-use Rattle.ipg_piles.specs.Piled.{above}
+use Rattle.ipg_mach.specs.Piled.{above}
 use Rattle.ipg_mach.specs.Calls.{shown, size_of, term_at_hand}
 use Rattle.ipg_mach.proofs.Working as working
 use Rattle.ipg_mach.proofs.top.Top.set_result.Goals as goal

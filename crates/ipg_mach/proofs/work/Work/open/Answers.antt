@@ -1,7 +1,7 @@
 use Rattle.std.proofs.Common.{◌≡◌, [], length, arith, ◌∷◌, ◌+◌, refl, sym, ap, ◌∙◌, subst}
 use Rattle.std.proofs.lemmas.List.{length-append}
 use Rattle.ipg_mach_nodes.specs.Stored.{before}
-use Rattle.ipg_piles.specs.Piled.{below}
+use Rattle.ipg_mach.specs.Piled.{below}
 use Rattle.std.proofs.lemmas.Result.{on_ok_weaker}
 use Rattle.ipg_core.specs.Meaning.{outer_for}
 use Rattle.ipg_core.specs.Grammar.{rule_at, holder_of}

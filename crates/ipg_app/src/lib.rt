@@ -1,0 +1,22 @@
+//! Answers the words of the command line, over any files and any output.
+#![tactic(auto)]
+
+mod checks;
+mod core_of;
+mod formatting;
+mod grammar;
+pub mod laws;
+mod looping;
+mod parse;
+mod refusal;
+mod reply;
+pub mod run;
+mod said;
+mod settle;
+pub mod status;
+pub mod sure;
+#[cfg(test)]
+mod tests;
+mod trial;
+mod verifying;
+mod writing;

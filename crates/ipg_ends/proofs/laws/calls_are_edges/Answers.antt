@@ -1,5 +1,0 @@
-use Rattle.ipg_ends.proofs.Edges as edges
-use Rattle.ipg_ends.proofs.laws.calls_are_edges.Goals as goal
-
-pub returns : goal.returns
-returns c = edges.calls_are_edges

@@ -1,5 +1,0 @@
-use Rattle.ipg_ends.proofs.Ending as ending
-use Rattle.ipg_ends.proofs.laws.ends_without_cycles.Goals as goal
-
-pub returns : goal.returns
-returns c = ending.ends_without_cycles c.asks_what_fits.ensures c.edges_are_few.ensures c.edges_are_inside.ensures

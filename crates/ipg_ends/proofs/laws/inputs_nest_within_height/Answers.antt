@@ -1,5 +1,0 @@
-use Rattle.ipg_ends.proofs.Nesting as nesting
-use Rattle.ipg_ends.proofs.laws.inputs_nest_within_height.Goals as goal
-
-pub returns : goal.returns
-returns c = nesting.inputs_nest_within_height c.nests_within_height.ensures

@@ -1,5 +1,0 @@
-use Rattle.ipg_ends.proofs.Walks as walks
-use Rattle.ipg_ends.proofs.laws.long_walks_hold_cycles.Goals as goal
-
-pub returns : goal.returns
-returns c = walks.long_walks_hold_cycles

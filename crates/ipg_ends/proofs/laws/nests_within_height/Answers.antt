@@ -1,5 +1,0 @@
-use Rattle.ipg_ends.proofs.Nesting as nesting
-use Rattle.ipg_ends.proofs.laws.nests_within_height.Goals as goal
-
-pub returns : goal.returns
-returns c = nesting.nests_within_height c.nests_agree.ensures

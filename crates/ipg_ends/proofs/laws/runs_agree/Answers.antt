@@ -1,5 +1,0 @@
-use Rattle.ipg_ends.proofs.Nesting as nesting
-use Rattle.ipg_ends.proofs.laws.runs_agree.Goals as goal
-
-pub returns : goal.returns
-returns c = nesting.runs_agree c.heights_agree.ensures

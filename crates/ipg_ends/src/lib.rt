@@ -1,4 +1,0 @@
-//! Laws of how parsing ends.
-#![tactic(auto)]
-
-pub mod laws;
