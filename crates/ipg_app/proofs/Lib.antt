@@ -6,3 +6,4 @@ pub mod OneCore
 pub mod OneCheck
 pub mod OneVerdict
 pub mod OneParse
+pub mod Meant

@@ -8,9 +8,9 @@ use Rattle.ipg_outside.specs.declared.files.FileFault.TheVariants as file
 use Rattle.ipg_tree.specs.Puts.{Whole}
 use Rattle.ipg_core.specs.Grammar.{Grammar}
 use Rattle.ipg_core.specs.Lines.{lines}
-use Rattle.ipg_app_answers.specs.Answered.{Fails}
-use Rattle.ipg_app_answers.specs.declared.answering.AnswerFault.{AnswerFault}
-use Rattle.ipg_app_answers.specs.declared.answering.AnswerFault.TheVariants as fault
+use Rattle.ipg_app.specs.Answered.{Fails}
+use Rattle.ipg_app.specs.declared.answering.AnswerFault.{AnswerFault}
+use Rattle.ipg_app.specs.declared.answering.AnswerFault.TheVariants as fault
 use Rattle.ipg_app.specs.Said.{Said, done, too_large}
 use Rattle.ipg_app.specs.Order.{Order, reads, have}
 use Rattle.ipg_app.specs.Reply.{Parses, input_in, max_input, order_of}

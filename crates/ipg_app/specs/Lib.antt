@@ -7,6 +7,9 @@ pub mod CoreOf
 -- whether parsing by it ends, and certificates that it does
 pub mod Checks
 pub mod Certificate
+-- what is answered of an input, and how large its tree is
+pub mod Answered
+pub mod Measured
 -- a trial on a sample
 pub mod Trial
 -- in which order it answers, and what it does outside

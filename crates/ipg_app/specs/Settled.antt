@@ -8,8 +8,8 @@ use Rattle.ipg_outside.specs.Files.{Told}
 use Rattle.ipg_outside.specs.Sink.{Output, Breaks, Tells}
 use Rattle.ipg_outside.specs.declared.files.FileFault.{FileFault}
 use Rattle.ipg_outside.specs.declared.files.FileFault.TheVariants as file
-use Rattle.ipg_app_answers.specs.declared.answering.AnswerFault.{AnswerFault}
-use Rattle.ipg_app_answers.specs.declared.answering.AnswerFault.TheVariants as fault
+use Rattle.ipg_app.specs.declared.answering.AnswerFault.{AnswerFault}
+use Rattle.ipg_app.specs.declared.answering.AnswerFault.TheVariants as fault
 use Rattle.ipg_app.specs.Said.{Said, read_fault, too_large}
 use Rattle.ipg_app.specs.Order.{Order}
 use Rattle.ipg_app.specs.Reply.{Parses, parse_said, max_input}

@@ -1,12 +1,14 @@
 //! Answers the words of the command line, over any files and any output.
 #![tactic(auto)]
 
+mod answering;
 mod checks;
 mod core_of;
 mod formatting;
 mod grammar;
 pub mod laws;
 mod looping;
+mod measuring;
 mod parse;
 mod refusal;
 mod reply;

@@ -4,14 +4,14 @@ ghost use Rattle.ipg_core.specs.Grammar.{Grammar};
 ghost use Rattle.ipg_core.specs.Tree.{Tree};
 ghost use Rattle.ipg_core.specs.Run.{Stop};
 ghost use Rattle.ipg_outside.specs.Sink.{Output};
-ghost use Rattle.ipg_app_answers.specs.Answered.{IsGiven};
+ghost use Rattle.ipg_app.specs.Answered.{IsGiven};
 ghost use Rattle.ipg_app.specs.Reply.{Parses};
 ghost use Rattle.ipg_app.specs.Settled.{Replies, Concludes, fault_status};
 
+use crate::answering::{AnswerFault, Given, answer};
 use crate::reply::Due;
 use crate::status::Status;
 use crate::writing::{finish, tell};
-use ipg_app_answers::{AnswerFault, Given, answer};
 use ipg_outside::Sink;
 use std::alloc::Global;
 

@@ -1,11 +1,11 @@
 //! What is to be written: a text, or the tree of an input.
 ghost use Rattle.ipg_app.specs.Settled.{MaySay, IsDue, Replies};
 
+use crate::answering::Room;
 use crate::parse::parse;
 use crate::said::Settled;
 use crate::status::Status;
 use crate::writing::say;
-use ipg_app_answers::Room;
 use ipg_core::accepted::Checked;
 use ipg_outside::Sink;
 use std::alloc::Global;

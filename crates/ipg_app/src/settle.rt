@@ -12,6 +12,7 @@ ghost use Rattle.ipg_app.specs.Found.{Found, FoundCore, Says, grammar_in_file, c
 ghost use Rattle.ipg_app.specs.Lines.{said_of};
 ghost use Rattle.ipg_app.specs.Settled.{IsSettled, IsUnread, remember_of};
 
+use crate::answering::Room;
 use crate::checks::{accepted, say_cert, say_check};
 use crate::core_of::{core_in_text, core_of};
 use crate::formatting::format;
@@ -22,7 +23,6 @@ use crate::said::{Settled, line, usage};
 use crate::status::Status;
 use crate::trial::trial;
 use crate::verifying::judge;
-use ipg_app_answers::Room;
 use ipg_app_words::{Asked, Memo, Wanted, request};
 use ipg_ast::Grammar;
 use ipg_core::accepted::{Checked, Core};

@@ -10,9 +10,9 @@ ghost use Rattle.ipg_app.specs.Trial.{Tries, kind_by, or_usage, max_parts, size_
 
 use crate::checks::accepted;
 use crate::core_of::core_in_text;
+use crate::measuring::{Measured, Size, measure};
 use crate::said::{Settled, line, usage};
 use crate::status::Status;
-use ipg_app_answers::{Measured, Size, measure};
 use ipg_core::accepted::{Checked, Core};
 use ipg_formats::{Kind, sample, text};
 use itoa::Buffer;

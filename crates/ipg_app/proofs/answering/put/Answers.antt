@@ -1,5 +1,5 @@
 use Rattle.std.proofs.Common.{refl}
-use Rattle.ipg_app_answers.proofs.answering.put.Goals as goal
+use Rattle.ipg_app.proofs.answering.put.Goals as goal
 
 pub returns-in-Ok : goal.returns-in-Ok
 returns-in-Ok g c src grammar one h = (refl, c.in-Ok.ensures.lines src grammar one h)

@@ -7,10 +7,10 @@ use Rattle.ipg_core.specs.Run.{Stop, NoTree, OutOfRange}
 use Rattle.ipg_core.specs.Meaning.{Means}
 use Rattle.ipg_outside.specs.Sink.{Output}
 use Rattle.ipg_tree.specs.Puts.{Whole, Part}
-use Rattle.ipg_app_answers.specs.declared.answering.Given.{Given}
-use Rattle.ipg_app_answers.specs.declared.answering.Given.TheVariants as given
-use Rattle.ipg_app_answers.specs.declared.answering.AnswerFault.{AnswerFault}
-use Rattle.ipg_app_answers.specs.declared.answering.AnswerFault.TheVariants as fault
+use Rattle.ipg_app.specs.declared.answering.Given.{Given}
+use Rattle.ipg_app.specs.declared.answering.Given.TheVariants as given
+use Rattle.ipg_app.specs.declared.answering.AnswerFault.{AnswerFault}
+use Rattle.ipg_app.specs.declared.answering.AnswerFault.TheVariants as fault
 
 -- the lines of the tree, all of them; or that there is none, and nothing of it
 abbrev pub IsGiven : Grammar → Result Tree Stop → Given → Option Output → ℕ → Option Output → ℕ → Type 0

@@ -1,7 +1,7 @@
 use Rattle.std.proofs.Common.{subst}
 use Rattle.ipg_core.specs.Good.{Good}
-use Rattle.ipg_app_answers.proofs.Meant.{meant, input_of}
-use Rattle.ipg_app_answers.proofs.answering.has_answer.Goals as goal
+use Rattle.ipg_app.proofs.Meant.{meant, input_of}
+use Rattle.ipg_app.proofs.answering.has_answer.Goals as goal
 
 pub returns : goal.returns
 returns c =

@@ -1,8 +1,8 @@
 use Rattle.std.proofs.Common.{subst}
 use Rattle.ipg_mach.specs.Outcome.{IsOutcome}
 use Rattle.ipg_mach.specs.Stage.{source}
-use Rattle.ipg_app_answers.proofs.Meant.{printable, given_of, fault_of}
-use Rattle.ipg_app_answers.proofs.answering.answer.Goals as goal
+use Rattle.ipg_app.proofs.Meant.{printable, given_of, fault_of}
+use Rattle.ipg_app.proofs.answering.answer.Goals as goal
 
 pub returns-in-Tree-clause-given : goal.returns-in-Tree-clause-given
 returns-in-Tree-clause-given g c =

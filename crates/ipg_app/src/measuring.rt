@@ -6,7 +6,7 @@ ghost use Rattle.ipg_core.specs.Lines.{tree_lines};
 ghost use Rattle.ipg_core.specs.Tree.{Tree};
 ghost use Rattle.ipg_mach_nodes.specs.Stored.{Source};
 ghost use Rattle.ipg_tree.specs.Shares.{IsTree};
-ghost use Rattle.ipg_app_answers.specs.Measured.{Measures};
+ghost use Rattle.ipg_app.specs.Measured.{Measures};
 
 use crate::answering::{BYTES_PER_MIB, has_answer};
 use ipg_core::accepted::Checked;

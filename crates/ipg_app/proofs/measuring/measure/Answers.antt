@@ -1,8 +1,8 @@
 use Rattle.std.proofs.Common.{subst}
 use Rattle.ipg_mach.specs.Outcome.{IsOutcome}
 use Rattle.ipg_mach.specs.Stage.{source}
-use Rattle.ipg_app_answers.proofs.Meant.{printable, size_is}
-use Rattle.ipg_app_answers.proofs.measuring.measure.Goals as goal
+use Rattle.ipg_app.proofs.Meant.{printable, size_is}
+use Rattle.ipg_app.proofs.measuring.measure.Goals as goal
 
 pub returns-in-Tree : goal.returns-in-Tree
 returns-in-Tree c =

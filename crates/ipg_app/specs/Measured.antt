@@ -7,9 +7,9 @@ use Rattle.ipg_core.specs.Run.{Stop, NoTree, OutOfRange, Deep}
 use Rattle.ipg_core.specs.Meaning.{Means, den}
 use Rattle.ipg_mach_moves.specs.Moves.{Key}
 use Rattle.ipg_mach_count_laws.specs.Counts.{IsReach}
-use Rattle.ipg_app_answers.specs.declared.measuring.Size.{Size}
-use Rattle.ipg_app_answers.specs.declared.measuring.Measured.{Measured}
-use Rattle.ipg_app_answers.specs.declared.measuring.Measured.TheVariants as measured
+use Rattle.ipg_app.specs.declared.measuring.Size.{Size}
+use Rattle.ipg_app.specs.declared.measuring.Measured.{Measured}
+use Rattle.ipg_app.specs.declared.measuring.Measured.TheVariants as measured
 
 -- the lines of the tree, and a body for each global rule on a part that the parse comes to
 pub record IsSize (g : Grammar) (input : List ℕ) (one : Tree) (size : Size) : Type 0 where

@@ -21,11 +21,11 @@ use Rattle.ipg_tree_walk.specs.Parse.{Walked}
 use Rattle.ipg_tree_walk.specs.declared.parsed.Counts.{Counts}
 use Rattle.ipg_table.specs.Rows.{Rows, StandFor}
 use Rattle.ipg_tree.specs.Shares.{IsTree}
-use Rattle.ipg_app_answers.specs.Answered.{Answers, Fails, PutsTree}
-use Rattle.ipg_app_answers.specs.Measured.{IsSize}
-use Rattle.ipg_app_answers.specs.declared.answering.Given.{Given}
-use Rattle.ipg_app_answers.specs.declared.answering.AnswerFault.{AnswerFault}
-use Rattle.ipg_app_answers.specs.declared.measuring.Size.{Size}
+use Rattle.ipg_app.specs.Answered.{Answers, Fails, PutsTree}
+use Rattle.ipg_app.specs.Measured.{IsSize}
+use Rattle.ipg_app.specs.declared.answering.Given.{Given}
+use Rattle.ipg_app.specs.declared.answering.AnswerFault.{AnswerFault}
+use Rattle.ipg_app.specs.declared.measuring.Size.{Size}
 use Rattle.std.specs.Prelude.{IfErr}
 
 first_fits : (g : Grammar) (s : List ℕ) → Good g → IsInput s → Fits g 0 s []

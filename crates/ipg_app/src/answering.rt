@@ -8,7 +8,7 @@ ghost use Rattle.ipg_core.specs.Run.{Stop};
 ghost use Rattle.ipg_core.specs.Tree.{Tree};
 ghost use Rattle.ipg_mach_nodes.specs.Stored.{Source};
 ghost use Rattle.ipg_tree.specs.Shares.{IsTree};
-ghost use Rattle.ipg_app_answers.specs.Answered.{Answers, Fails, PutsTree};
+ghost use Rattle.ipg_app.specs.Answered.{Answers, Fails, PutsTree};
 
 use ipg_core::accepted::Checked;
 use ipg_mach::{Outcome, Parsed, Remember, parse};
@@ -48,7 +48,7 @@ pub enum AnswerFault {
 
 impl From<AllocError> for AnswerFault {
     ghost use Rattle.std.specs.Prelude.{◌≡◌};
-    ghost use Rattle.ipg_app_answers.specs.declared.answering.AnswerFault.TheVariants.{Memory};
+    ghost use Rattle.ipg_app.specs.declared.answering.AnswerFault.TheVariants.{Memory};
 
     ghost from_gives = { λ _ fault. fault ≡ Memory };
 

@@ -1,4 +1,0 @@
--- what is answered of an input
-pub mod Answered
--- how large its tree is
-pub mod Measured
