@@ -20,6 +20,7 @@ python3 .ci/vectors.py parses ./ipg parse || failed=1
 python3 .ci/vectors.py certificates ./ipg verify || failed=1
 built tool_counts data/row.ipg data/row.bin
 python3 .ci/vectors.py counts crates/tool_counts/out/tool_counts || failed=1
+bash .ci/shared_calls.sh crates/tool_counts/out/tool_counts || failed=1
 built tool_conditions data/list.ipg
 python3 .ci/vectors.py conditions crates/tool_conditions/out/tool_conditions || failed=1
 exit "$failed"

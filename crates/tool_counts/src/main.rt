@@ -1,4 +1,4 @@
-//! Prints what a parse counts, with the memo and without: `tool_counts GRAMMAR FILE`.
+//! Prints what a parse counts, with the memo and without: `tool_counts GRAMMAR FILE`; with it alone: `tool_counts GRAMMAR FILE on`.
 #![tactic(auto)]
 
 ghost use Rattle.std.specs.Prelude.{◌≤◌, ◌^◌, length};
@@ -59,22 +59,38 @@ fn text_of(alloc: Global, counts: Counts) -> Result<String> {
     )?)
 }
 
-fn counts(alloc: Global, grammar: &[u8], input: &[u8]) -> Result<String>
+/// What is counted of a parse.
+#[derive(Clone, Copy)]
+enum Wanted {
+    Memo,
+    Both,
+}
+
+fn counts(alloc: Global, grammar: &[u8], input: &[u8], wanted: Wanted) -> Result<String>
     requires { length input.now ≤ 2 ^ 30 }
 {
     let tables = compile(alloc, &checked_in(alloc, grammar)?)?;
     let (outcome, with_memo) = counted(alloc, &tables, input, Remember::Answers)?;
-    let (_, without) = counted(alloc, &tables, input, Remember::Nothing)?;
     let on = text_of(alloc, with_memo)?;
-    let off = text_of(alloc, without)?;
-    Ok(format!(in alloc; "{outcome} on {on} off {off}\n")?)
+    match wanted {
+        Wanted::Memo => Ok(format!(in alloc; "{outcome} on {on}\n")?),
+        Wanted::Both => {
+            let (_, without) = counted(alloc, &tables, input, Remember::Nothing)?;
+            let off = text_of(alloc, without)?;
+            Ok(format!(in alloc; "{outcome} on {on} off {off}\n")?)
+        }
+    }
 }
 
 fn main(rt: HostRuntime) -> Result<()> {
     let alloc = rt.alloc();
     let mut words = env::args(&rt)?.skip(1);
-    let grammar = words.next().context("tool_counts GRAMMAR FILE")?;
-    let file = words.next().context("tool_counts GRAMMAR FILE")?;
+    let grammar = words.next().context("tool_counts GRAMMAR FILE [on]")?;
+    let file = words.next().context("tool_counts GRAMMAR FILE [on]")?;
+    let wanted = match words.next() {
+        Some(_) => Wanted::Memo,
+        None => Wanted::Both,
+    };
     let mut files = DiskFiles::new(&rt);
     let text = match files.read_all(alloc, grammar.as_str(), 1 << 20) {
         Ok(text) => text,
@@ -84,6 +100,6 @@ fn main(rt: HostRuntime) -> Result<()> {
         Ok(input) => input,
         Err(_) => bail!("{file} can't be read"),
     };
-    io::writer(&rt).write_all(counts(alloc, &text, &input)?.as_bytes())?;
+    io::writer(&rt).write_all(counts(alloc, &text, &input, wanted)?.as_bytes())?;
     Ok(())
 }
