@@ -1,5 +1,5 @@
 """Random grammars over the whole language and inputs: the program's answer against a small evaluator, written from
-docs/MEANING.md. Repetitions aren't among them; the cases of vectors.py have them.
+docs/MEANING.md.
 
   random_grammars.py COMMAND [COUNT [CHECKED [SEED]]]
 
@@ -25,6 +25,7 @@ Slot = namedtuple("Slot", "sym place")
 Set = namedtuple("Set", "attr value")
 Test = namedtuple("Test", "cond")
 Array = namedtuple("Array", "var first last sym place")
+Many = namedtuple("Many", "sym place")
 Switch = namedtuple("Switch", "cases other")  # cases: (condition, slot)
 
 WIDTHS = {"U8": 1, "U16LE": 2, "U16BE": 2, "U32LE": 4, "U32BE": 4, "U64LE": 8, "U64BE": 8}
@@ -61,8 +62,8 @@ def calls(term, sym):
     return any(slot.sym == sym for slot in slots(term))
 
 
-def is_array(term, sym):
-    return isinstance(term, Array) and term.sym == sym
+def has_items(term, sym):
+    return isinstance(term, (Array, Many)) and term.sym == sym
 
 
 def nearest(terms, u, sym, fits):
@@ -79,7 +80,7 @@ def resolved(e, terms, u, array):
         return "seen", nearest(terms, u, e[1], calls), e[1], e[2]
     if kind == "item":
         own = array is not None and array.sym == e[1]
-        return "item", u if own else nearest(terms, u, e[1], is_array), resolved(e[2], terms, u, array), e[3]
+        return "item", u if own else nearest(terms, u, e[1], has_items), resolved(e[2], terms, u, array), e[3]
     if kind == "name":
         if any(isinstance(t, Set) and t.attr == e[1] for t in terms):
             return "own", e[1]
@@ -119,6 +120,9 @@ def completed(terms):
             place = tuple(mean(e, term) for e in term.place)
             made.append(Array(term.var, mean(term.first), mean(term.last), term.sym, place))
             left = "after", u, left
+        elif isinstance(term, Many):
+            made.append(Many(term.sym, ends(term.place, left, ("eoi",), mean)))
+            left = "after", u, left
         else:
             made.append(Set(term.attr, mean(term.value)) if isinstance(term, Set) else Test(mean(term.cond)))
     return made
@@ -134,6 +138,8 @@ def expressions(term):
         return [term.cond]
     if isinstance(term, Array):
         return [term.first, term.last, *term.place]
+    if isinstance(term, Many):
+        return list(term.place)
     return [e for slot in slots(term) for e in slot.place] + [c for c, _ in getattr(term, "cases", [])]
 
 
@@ -149,7 +155,7 @@ def term_mentions(term):
 
 
 def symbols(term):
-    return [term.sym] if isinstance(term, Array) else [slot.sym for slot in slots(term)]
+    return [term.sym] if isinstance(term, (Array, Many)) else [slot.sym for slot in slots(term)]
 
 
 class Grammar:
@@ -165,6 +171,33 @@ class Grammar:
         self.numbers = {rule.name: r for r, (rule, _) in enumerate(self.entries)}
         self.alts = [[completed(alt.terms) for alt in rule.alts] for rule, _ in self.entries]
         self.orders = [[self.order(r, a, terms) for a, terms in enumerate(alts)] for r, alts in enumerate(self.alts)]
+        self.refuse_loose()
+
+    def refuse_loose(self):
+        """Refuses the first repetition of raw bytes, or of a rule that may touch no byte."""
+        marks = self.must_touch()
+        for r, alts in enumerate(self.alts):
+            for a, terms in enumerate(alts):
+                for u, term in enumerate(terms):
+                    if isinstance(term, Many) and not self.touches(term.sym, marks):
+                        raise Refused("G14 NoTouch %s %d %d" % (self.entries[r][0].name, a, u))
+
+    def touches(self, sym, marks):
+        if isinstance(sym, bytes):
+            return len(sym) > 0
+        return sym in WIDTHS or (sym in self.numbers and self.numbers[sym] in marks)
+
+    def must_touch(self):
+        """The rules each of whose alternatives has a term that touches a byte, by rounds."""
+        marks, grows = set(), True
+        while grows:
+            more = {r for r, alts in enumerate(self.alts) if all(any(self.touches_term(t, marks) for t in terms) for terms in alts)}
+            grows = more != marks
+            marks = more
+        return marks
+
+    def touches_term(self, term, marks):
+        return bool(slots(term)) and all(self.touches(slot.sym, marks) for slot in slots(term))
 
     def callee(self, r, a, u, b):
         """The rule that a term's branch calls."""
@@ -314,6 +347,8 @@ class Run:
             self.done[u] = self.slot(at, term)
         elif isinstance(term, Switch):
             self.done[u] = self.slot(at, next((s for c, s in term.cases if self.value(c) != 0), term.other))
+        elif isinstance(term, Many):
+            self.done[u] = self.repeated(at, term)
         else:
             first, last = self.value(term.first), self.value(term.last)
             self.done[u] = []
@@ -321,6 +356,27 @@ class Run:
                 self.loop = i
                 self.done[u].append(self.slot(at, Slot(term.sym, term.place)))
             self.loop = None
+
+
+    def repeated(self, at, term):
+        """The items of a repetition, up to the first that has no tree or touches no byte."""
+        left = self.value(term.place[0])
+        right = self.value(term.place[1])
+        if not 0 <= left <= right <= len(self.part):
+            raise NoTree
+        items = []
+        while True:
+            end = left + WIDTHS[term.sym] if term.sym in WIDTHS else right
+            try:
+                if end > right:
+                    raise NoTree
+                what = self.parse.symbol(self, at, term.sym, self.part[left:end])
+            except NoTree:
+                return items
+            if what["start"] >= what["end"]:
+                return items
+            items.append(Done(term.sym, left, end, left + what["start"], left + what["end"], what))
+            left += what["end"]
 
 
 class Parse:
@@ -390,7 +446,8 @@ class Parse:
             yield "%d %s %d %d start=%d end=%d" % ((depth, name) + ends) + told(what["attrs"])
             for term, done in what["kids"]:
                 if isinstance(done, list):
-                    yield "%d for %s %d" % (depth + 1, term.sym, len(done))
+                    kind = "many" if isinstance(term, Many) else "for"
+                    yield "%d %s %s %d" % (depth + 1, kind, term.sym, len(done))
                     for one in done:
                         yield from self.lines(one.what, at + one.from_, one.to - one.from_, depth + 2)
                 else:
@@ -468,8 +525,10 @@ class Maker:
         kind = self.rng.random()
         if kind < 0.6:
             return Slot(self.sym(syms), None)
-        if kind < 0.75:
+        if kind < 0.72:
             return Array(self.pick("i", "j", "n"), None, None, self.rng.choice(syms), None)
+        if kind < 0.8:
+            return Many(self.rng.choice([sym for sym in syms if sym != "Bytes" or self.rng.random() < 0.05]), None)
         if kind < 0.9:
             return Switch([(None, Slot(self.sym(syms), None)) for _ in range(self.pick(1, 1, 2))], Slot(self.sym(syms), None))
         return Test(None)
@@ -479,9 +538,14 @@ class Maker:
         def e(depth=2, array=None):
             return self.expression(plan, u, outer, depth, array)
 
+        def place():
+            return self.pick((), (), (), (e(1),), (e(1), ("eoi",)), (e(1), e(1)))
+
         def slot(s):
-            return Slot(s.sym, self.pick((), (), (), (e(1),), (e(1), ("eoi",)), (e(1), e(1))))
+            return Slot(s.sym, place())
         term = plan[u]
+        if isinstance(term, Many):
+            return Many(term.sym, place())
         if isinstance(term, Slot):
             return slot(term)
         if isinstance(term, Switch):
@@ -503,7 +567,7 @@ class Maker:
                 for s in slots(t):
                     if not isinstance(s.sym, bytes):
                         found += [("part", s.sym, f) for f in ["start", "end"] + self.attrs[s.sym]]
-            if isinstance(t, Array) and (v != u or array is not None):
+            if isinstance(t, Many) and v != u or isinstance(t, Array) and (v != u or array is not None):
                 index = ("name", array.var) if array is not None and self.pick(0, 1) else ("num", self.rng.randrange(2))
                 index = ("-", index, ("num", 1)) if v == u else index
                 found += [("item", t.sym, index, f) for f in ["start", "end"] + self.attrs[t.sym]]
@@ -594,6 +658,8 @@ class Writer:
         if isinstance(term, Array):
             head = self.words("for", term.var, "=", self.grouped(term.first, 0), "to", self.grouped(term.last, 0), "do")
             return head + self.words(term.sym, self.place(term.place))
+        if isinstance(term, Many):
+            return self.words("many", term.sym, self.place(term.place))
         cases = [self.words("case", "(", self.grouped(c, 0), ")", self.slot(s)) for c, s in term.cases]
         return self.words("switch", "{", *cases, "else", self.slot(term.other), "}")
 

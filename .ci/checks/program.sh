@@ -130,6 +130,17 @@ if [ $? -ne 0 ] || [ "$(wc -l <"$folder/out")" -ne 15002 ]; then
   failed=1
 fi
 expect 0 $'0 S 0 4 start=0 end=4\n1 U32LE 0 4 val=2\n1 for Bytes 2\n2 Bytes 4 4 -\n2 Bytes 4 4 -\n' parse "$folder/items.ipg" "$folder/two" --arena 1
+# what a failed alternative stored is given back: two such trees don't fit one MiB, three that fail and one do
+items='C -> for i = 0 to EOI do B[i, i + 1] ; B -> U8 ;'
+echo "S -> C C[0, EOI] ; $items" >"$folder/both.ipg"
+echo "S -> C ?(0) \"\" / C ?(0) \"\" / C ?(0) \"\" / C ; $items" >"$folder/four.ipg"
+truncate -s 5000 "$folder/calls"
+expect 7 '' parse "$folder/both.ipg" "$folder/calls" --arena 1 --memo off
+./ipg parse "$folder/four.ipg" "$folder/calls" --arena 1 --memo off >"$folder/out"
+if [ $? -ne 0 ] || [ "$(wc -l <"$folder/out")" -ne 10003 ]; then
+  echo "program: three alternatives that fail before one that doesn't, in one MiB"
+  failed=1
+fi
 
 expect 0 $'kind=pcap n=10000 bytes=620024 nodes=320019 bodies=30003\n' trial pcap 10000
 expect 0 $'kind=elf n=2 bytes=194 nodes=90 bodies=4\n' trial elf 2
