@@ -1,9 +1,11 @@
 """Cases from outside, made by independent implementations: what a command says of each, and its status.
 
-  vectors.py parses|counts|certificates|conditions COMMAND..
+  vectors.py parses|counts|certificates|conditions|texts COMMAND..
 
 COMMAND is followed by the name of a grammar's file, and for a parse, its counts or a certificate by that of the input
-or the certificate. Ends with status 1 where a case differs.
+or the certificate. A case of `texts` has its files by name, and runs of words, which all say the same; `> NAME` at the
+end of a run keeps what it says as a file in place of comparing it. A text may be a list of pieces, some with how often
+they stand. Ends with status 1 where a case differs.
 """
 
 import json
@@ -43,17 +45,50 @@ def run(command, files):
     return done.returncode, done.stdout.decode("latin-1")
 
 
+def text_of(text):
+    """A text, of pieces where it is a list."""
+    pieces = text if isinstance(text, list) else [text]
+    return "".join(piece[0] * piece[1] if isinstance(piece, list) else piece for piece in pieces)
+
+
+def run_words(command, case):
+    """What each run of a case says that is compared."""
+    answers = []
+    with tempfile.TemporaryDirectory() as folder:
+        for name, text in case["files"].items():
+            with open(os.path.join(folder, name), "wb") as file:
+                file.write(text_of(text).encode("latin-1"))
+        for words in case["runs"]:
+            kept = words[-1] if ">" in words else None
+            done = subprocess.run(command + words[: -2 if kept else None], capture_output=True, timeout=120, cwd=folder)
+            if kept:
+                with open(os.path.join(folder, kept), "wb") as file:
+                    file.write(done.stdout)
+            else:
+                answers.append((words, (done.returncode, done.stdout.decode("latin-1"))))
+    return answers
+
+
+def differences(kind, command, case):
+    """The runs of a case that say something else than is due."""
+    if kind == "texts":
+        due = (case.get("status", 0), text_of(case["says"]))
+        answers = run_words([os.path.abspath(command[0])] + command[1:], case)
+    else:
+        due = due_of(kind, case)
+        answers = [(case["grammar"], run(command, files_of(kind, case)))]
+    return [f"{words}\n  got {got!r:.400}\n  due {due!r:.400}" for words, got in answers if got != due]
+
+
 def main():
     kind, command = sys.argv[1], sys.argv[2:]
     with open(os.path.join(HERE, "vectors", FILES.get(kind, kind) + ".json")) as file:
         cases = json.load(file)
     differing = 0
     for case in cases:
-        due = due_of(kind, case)
-        got = run(command, files_of(kind, case))
-        if got != due:
+        for difference in differences(kind, command, case):
             differing += 1
-            print(f"{kind}: {case['grammar']}\n  got {got!r:.400}\n  due {due!r:.400}")
+            print(f"{kind}: {difference}")
     print(f"{kind}: {len(cases)} cases from outside, {differing} differ")
     return 1 if differing else 0
 

@@ -1,6 +1,8 @@
 # shellcheck shell=bash disable=SC2154
 # For `ipg`, `prove` and the checks: what a program is built from, and how. They set `top`, the repository's folder.
 program="$top/crates/ipg/out/ipg"
+# its time is when dist/ipg was last found to be built from the sources at hand
+note="$top/dist/out/kept"
 
 # own_crates NAME: a program's own crates, itself and all that it stands on, by their lines of crates.txt
 own_crates() {
@@ -34,9 +36,21 @@ sources() {
   (cd "$top" && find "${folders[@]}" -type f -print0 | LC_ALL=C sort -z | xargs -0 sha256sum)
 }
 
-# whether dist/ipg was built from the sources at hand
+# whether dist/ipg was built from the sources at hand, by their sums; where it was, that is noted
 is_kept() {
-  [ -x "$top/dist/ipg" ] && [ -f "$top/dist/SOURCES" ] && [ "$(sources)" = "$(cat "$top/dist/SOURCES")" ]
+  # a file's time may be a tick old, so the note's is a second older than the sums
+  local began=$((EPOCHSECONDS - 1))
+  [ -x "$top/dist/ipg" ] && [ -f "$top/dist/SOURCES" ] && [ "$(sources)" = "$(cat "$top/dist/SOURCES")" ] || return 1
+  # what can't be noted is summed again
+  { mkdir -p "${note%/*}" && : >"$note.$$" && touch -d "@$began" "$note.$$" && mv -f "$note.$$" "$note"; } 2>/dev/null || true
+}
+
+# whether that was noted, and nothing that it rests on has changed since. A file's time of change is renewed by whatever is
+# done to it, also where its other time is set back; a folder's when a file comes into it or leaves.
+is_kept_still() {
+  [ -f "$note" ] && [ -x "$top/dist/ipg" ] && [ -f "$top/dist/SOURCES" ] || return 1
+  [ -z "$(cd "$top" && find -L crates.txt dist/ipg dist/SOURCES dist/sources.sh crates \
+    -path 'crates/*/*' ! -path 'crates/*/*/*' ! -name src ! -name specs ! -name proofs -prune -o -cnewer "$note" -print -quit 2>&1)" ]
 }
 
 # is_built [NAME]: whether a program, `ipg` if none is named, was built here, and no source is newer, nor a folder of

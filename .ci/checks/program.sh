@@ -77,6 +77,23 @@ for kind in elf pe gif pcap; do
   expect 0 $'verified\n' verify "@$kind" "$folder/cert"
 done
 
+# rules that each call all others, where no two calls of a cycle go together: the known counts of simple cycles
+while read -r rules known; do
+  for ((k = 0; k < rules; k++)); do
+    line="R$k ->"
+    for ((other = 0; other < rules; other++)); do
+      [ "$other" -eq "$k" ] || line+=" ?(EOI == $k) R$other /"
+    done
+    echo "$line \"\" ;"
+  done >"$folder/complete.ipg"
+  ./ipg cert "$folder/complete.ipg" >"$folder/cert"
+  if [ "$(grep '^cycles ' "$folder/cert")" != "cycles $known" ]; then
+    echo "program: the cycles of $rules rules that call one another aren't $known"
+    failed=1
+  fi
+  expect 0 $'verified\n' verify "$folder/complete.ipg" "$folder/cert"
+done <<<$'2 1\n3 5\n4 20\n5 84\n6 409\n7 2365'
+
 # a chain of as many rules as a text may have, each called by the one before it on its whole part
 for ((k = 0; k < 1023; k++)); do echo "Link$k -> Link$((k + 1)) ;"; done >"$folder/chain.ipg"
 echo 'Link1023 -> "x" / "" ;' >>"$folder/chain.ipg"

@@ -1,5 +1,6 @@
 #!/usr/bin/env bash
-# Cases from independent implementations: trees, what a parse counts, answers to certificates, conditions of calls.
+# Cases from independent implementations: trees, what a parse counts, answers to certificates, conditions of calls; and cases
+# worked by hand, of texts, names, operators and words.
 set -u
 cd "$(dirname "$0")/../.." || exit 1
 top=$PWD
@@ -18,6 +19,7 @@ built() {
 
 python3 .ci/vectors.py parses ./ipg parse || failed=1
 python3 .ci/vectors.py certificates ./ipg verify || failed=1
+python3 .ci/vectors.py texts ./ipg || failed=1
 built tool_counts data/row.ipg data/row.bin
 python3 .ci/vectors.py counts crates/tool_counts/out/tool_counts || failed=1
 bash .ci/shared_calls.sh crates/tool_counts/out/tool_counts || failed=1

@@ -4,8 +4,6 @@
 mod grammar;
 mod put;
 mod symbol;
-#[cfg(test)]
-mod tests;
 mod text;
 mod token;
 

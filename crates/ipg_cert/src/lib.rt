@@ -9,8 +9,6 @@ pub mod laws;
 mod pos;
 mod refutation;
 mod sum;
-#[cfg(test)]
-mod tests;
 mod text;
 mod weigh;
 mod words;

@@ -14,8 +14,6 @@ mod numbers;
 mod put;
 mod reading;
 mod scope;
-#[cfg(test)]
-mod tests;
 mod touching;
 
 pub use joining::joint;

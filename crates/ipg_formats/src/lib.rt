@@ -2,8 +2,6 @@
 #![tactic(auto)]
 
 mod samples;
-#[cfg(test)]
-mod tests;
 mod texts;
 
 ghost use Rattle.std.specs.Prelude.{◌≡◌, ◌≤◌, length, vec_len, IsTrue, IfOk};

@@ -7,8 +7,6 @@ mod edge;
 mod links;
 mod reach;
 mod search;
-#[cfg(test)]
-mod tests;
 
 pub use cycles::{Cycles, runs_are_whole};
 pub use edge::{Edge, are_inside};

@@ -13,13 +13,6 @@ use ipg_read_canonical_laws::laws::{keeps_tokens, reads_formed};
 use ipg_read_syntax::laws::{reads_exactly, refused_exactly};
 use std::alloc::Global;
 
-#[cfg(test)]
-mod forms;
-#[cfg(test)]
-mod sizes;
-#[cfg(test)]
-mod tests;
-
 /// What a text reads as, which meets the conditions of `resolve` and of `text_of`; or the first fault of the text, G1 to G5.
 pub fn grammar_in(alloc: Global, text: &[u8]) -> Result<Grammar, ReadFault>
     ensures read { MatchResult result (λ g. read_of text.now ≡ Ok g) (λ fault. (fault ≡ ReadFault.Memory) ⊎ (read_of text.now ≡ Err fault)) }

@@ -12,8 +12,6 @@ mod live;
 mod placing;
 mod reader;
 mod reading;
-#[cfg(test)]
-mod tests;
 mod text;
 mod verifying;
 

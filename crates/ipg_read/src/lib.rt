@@ -5,8 +5,6 @@ mod build;
 mod count;
 mod limits;
 mod reading;
-#[cfg(test)]
-mod tests;
 
 pub use ipg_ast::Grammar;
 pub use ipg_read_tokens::{ReadFault, Token, TokenKind, Which, tokens};

@@ -7,8 +7,6 @@ mod progress;
 mod row;
 mod scanning;
 mod stack;
-#[cfg(test)]
-mod tests;
 
 pub use lexeme::{Infix, Label};
 pub use row::{Extent, Member, Role, Row, Site};

@@ -10,8 +10,6 @@ mod room;
 mod scan;
 mod string;
 mod symbol;
-#[cfg(test)]
-mod tests;
 mod token;
 
 pub use fault::{ReadFault, Which};
