@@ -20,10 +20,10 @@ fi
 folder=$(mktemp -d) || exit 1
 trap 'rm -rf "$folder"' EXIT
 here="$folder/here"
-mkdir -p "$folder/bin" "$folder/aside" "$here/dist" "$here"/crates/{ipg_app,base}/{src,proofs} "$here/crates/other/src"
+mkdir -p "$folder/bin" "$folder/aside" "$here/dist" "$here"/crates/{ipg,base}/{src,proofs} "$here/crates/other/src"
 cp -- "$top/ipg" "$here/ipg" && cp -- "$top/dist/sources.sh" "$here/dist/sources.sh" || exit 1
-printf 'base:\nother:\nipg_app: base\n' >"$here/crates.txt"
-for name in base other ipg_app; do echo "fn $name() {}" >"$here/crates/$name/src/lib.rt"; done
+printf 'base:\nother:\nipg: base\n' >"$here/crates.txt"
+for name in base other ipg; do echo "fn $name() {}" >"$here/crates/$name/src/lib.rt"; done
 echo 'a proof' >"$here/crates/base/proofs/Lib.antt"
 
 # says NAME WORD: a program that says a word
