@@ -1,5 +1,5 @@
 -- The alternatives of a good grammar's rule, and their terms, are few.
-use Rattle.std.proofs.Common.{◌≡◌, ℕ, zero, suc, List, [], ◌∷◌, length, refl, Option, Some, ◌≤◌}
+use Rattle.std.proofs.Common.{◌≡◌, ℕ, zero, suc, List, [], ◌∷◌, length, refl, Some, ◌≤◌}
 use Rattle.std.specs.Prelude.{slice_get}
 use Rattle.std.specs.List.{AllByRecursion}
 use Rattle.ipg_core.specs.declared.grammar.CoreAlt.{CoreAlt}

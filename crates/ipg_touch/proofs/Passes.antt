@@ -1,11 +1,11 @@
 -- One rule more of a pass.
-use Rattle.std.proofs.Common.{◌≡◌, ℕ, zero, suc, ◌+◌, ◌<◌, ◌≤◌, refl, sym, ap, ◌∙◌, subst, arith, List, [], ◌∷◌, Option, Some, None, Bool, true}
-use Rattle.std.proofs.Common.{false, length, true≢false, replicate, ◌⊎◌, inl, inr}
-use Rattle.std.specs.Prelude.{slice_get, slice_set, not, ◌||◌}
+use Rattle.std.proofs.Common.{◌≡◌, ℕ, zero, suc, ◌+◌, ◌<◌, refl, sym, ap, ◌∙◌, subst, arith, List, [], ◌∷◌, Some, Bool, true}
+use Rattle.std.proofs.Common.{false, length, true≢false, ◌⊎◌, inl, inr}
+use Rattle.std.specs.Prelude.{slice_get, slice_set, ◌||◌}
 use Rattle.std.proofs.lemmas.Option.{slice_get_within}
 use Rattle.ipg_core.specs.declared.grammar.CoreRule.{CoreRule}
 use Rattle.ipg_core.specs.Grammar.{Grammar}
-use Rattle.ipg_core.specs.MustTouch.{Marks, or_false, is_marked, all_marked, round}
+use Rattle.ipg_core.specs.MustTouch.{Marks, is_marked, all_marked, round}
 use Rattle.ipg_touch.specs.Pass.{AreBelow, AreSound, AreClosed, Marking, unmarked}
 use Rattle.ipg_touch.proofs.Rounds.{rise, next_marks}
 

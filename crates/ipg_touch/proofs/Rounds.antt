@@ -1,8 +1,7 @@
 -- Rounds only mark more, and marks that a pass leaves alone are the limit.
-use Rattle.std.proofs.Common.{◌≡◌, ℕ, zero, suc, ◌+◌, ◌<◌, ◌≤◌, refl, sym, ap, ◌∙◌, subst, arith, List, [], ◌∷◌, Option, Some, None, Bool, true}
-use Rattle.std.proofs.Common.{false, length, map, true≢false, ◌⊎◌, inl, inr}
-use Rattle.std.specs.Prelude.{slice_get, slice_set, option_map, not, ◌&&◌, ◌||◌, ◌↔◌}
-use Rattle.std.specs.List.{count_by}
+use Rattle.std.proofs.Common.{◌≡◌, ℕ, zero, suc, refl, sym, ap, ◌∙◌, List, [], ◌∷◌, Option, Some, None, Bool, true}
+use Rattle.std.proofs.Common.{false, true≢false}
+use Rattle.std.specs.Prelude.{slice_get, option_map, ◌&&◌, ◌||◌}
 use Rattle.std.proofs.lemmas.Bool.{and_parts}
 use Rattle.std.proofs.lemmas.Option.{slice_get-map}
 use Rattle.ipg_core.specs.declared.grammar.Sym.{Sym}
@@ -15,8 +14,8 @@ use Rattle.ipg_core.specs.declared.grammar.CoreAlt.{CoreAlt}
 use Rattle.ipg_core.specs.declared.grammar.CoreRule.{CoreRule}
 use Rattle.ipg_core.specs.Grammar.{Grammar}
 use Rattle.ipg_core.specs.MustTouch.{Marks, or_false, is_marked, sym_marked, cases_marked, term_marked, some_marked, all_marked, next_round, round}
-use Rattle.ipg_core.specs.MustTouch.{MustTouch, AreLimit}
-use Rattle.ipg_touch.specs.Pass.{AreBelow, AreSound, AreClosed, Marking, unmarked}
+use Rattle.ipg_core.specs.MustTouch.{AreLimit}
+use Rattle.ipg_touch.specs.Pass.{AreBelow, AreSound, AreClosed}
 
 both : (a b : Bool) → a ≡ true → b ≡ true → (a && b) ≡ true
 both true b h k = k

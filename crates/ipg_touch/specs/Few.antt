@@ -1,5 +1,5 @@
 -- That the numbers of alternatives and terms fit 32 bits.
-use Rattle.std.specs.Prelude.{ℕ, ◌≤◌, List, length}
+use Rattle.std.specs.Prelude.{◌≤◌, List, length}
 use Rattle.std.specs.List.{AllByRecursion}
 use Rattle.ipg_core.specs.declared.grammar.CoreAlt.{CoreAlt}
 

@@ -1,7 +1,6 @@
-use Rattle.std.proofs.Common.{◌≡◌, refl, sym, ap, ◌∙◌, subst, arith, length, Some}
+use Rattle.std.proofs.Common.{◌≡◌, refl, sym, ap, ◌∙◌, subst, arith, length}
 use Rattle.std.specs.Prelude.{slice_get}
 use Rattle.std.proofs.lemmas.Option.{slice_get_read}
-use Rattle.ipg_core.specs.declared.grammar.CoreRule.{CoreRule}
 use Rattle.ipg_touch.specs.Pass.{Marking}
 use Rattle.ipg_touch.proofs.Passes.{Passing, sound_next, passing_next, passed_closed, passed_fewer, nothing_passed}
 use Rattle.ipg_touch.proofs.marks.mark_more.Goals as goal
