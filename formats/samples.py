@@ -106,7 +106,7 @@ def box(kind, data, wide=False):
 
 
 def mp4():
-    """Heads alone: one film of 2.5 seconds with one picture track; one size of 64 bits, and a last box up to the end."""
+    """Heads alone: one film of 2.5 seconds with one picture track; one size of 64 bits."""
     matrix = be("9I", 0x10000, 0, 0, 0, 0x10000, 0, 0, 0, 0x40000000)
     mvhd = box(b"mvhd", be("IIIIIIH10x", 0, 0, 0, 600, 1500, 0x10000, 0x100) + matrix + be("6I", 0, 0, 0, 0, 0, 0) + be("I", 2))
     tkhd = box(b"tkhd", be("IIIIIIQHHHH", 7, 0, 0, 1, 0, 1500, 0, 0, 0, 0, 0) + matrix + be("II", 320 << 16, 240 << 16))
@@ -114,7 +114,7 @@ def mp4():
     hdlr = box(b"hdlr", be("II", 0, 0) + b"vide" + b"\0" * 12 + b"film\0")
     mdia = box(b"mdia", mdhd + hdlr, wide=True)
     moov = box(b"moov", mvhd + box(b"trak", tkhd + mdia))
-    return box(b"ftyp", b"isom" + be("I", 512) + b"isomiso2") + moov + be("I", 0) + b"mdat" + b"\1\2\3\4\5"
+    return box(b"ftyp", b"isom" + be("I", 512) + b"isomiso2") + moov + box(b"mdat", b"\1\2\3\4\5")
 
 
 def midi():
@@ -366,7 +366,7 @@ def fat():
 
 def mbr():
     first = bytes([0x80, 32, 33, 0, 0x83, 0, 2, 64]) + le("II", 2048, 4096)
-    second = bytes([0, 0, 3, 64, 0x0b, 1, 4, 128]) + le("II", 6144, 8192)
+    second = bytes([0, 0, 3, 64, 0x0b, 1, 0x44, 128]) + le("II", 6144, 8192)
     return (b"\xfa\xf4".ljust(440, b"\0") + le("IH", 0x12345678, 0) + first + second + b"\0" * 32 + b"\x55\xaa")
 
 
