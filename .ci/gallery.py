@@ -206,7 +206,7 @@ TOOLS = [
     ("elf-notes", "readelf -nW {}", r"^  (GNU|other) +0x(\w+)", ["Note/Name", "Note.size:08x"], str),
     ("elf-notes", "readelf -nW {}", r"Build ID: (\w{40})", [lambda lines: seen(lines, "Note/Description:hex")[:1]], str),
     ("fat", "minfo -i {} ::", r"(?s)sector size: (\d+) .*cluster size: (\d+) .*slots: (\d+).*small size: (\d+)",
-     ["Boot.sector", "Boot.cluster", "Boot.entries", "Boot.few"], str),
+     ["Boot.sector", "Boot.cluster", "Boot.entries", "Boot.total16"], str),
     ("fat", "minfo -i {} ::", r"serial number: (\w+)", ["Small.serial:08x"], str),
     ("flac", "metaflac --list {}", r"(?s)sample_rate: (\d+) Hz\s+channels: (\d+)\s+bits-per-sample: (\d+)\s+total samples: (\d+)",
      ["Info.rate", "Info.channels", "Info.bits", "Info.samples"], str),
