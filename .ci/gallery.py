@@ -126,7 +126,7 @@ def gpt_says(data):
 
 def png_says(data):
     crcs = [zlib.crc32(kind + part) for kind, part in (
-        (b"gAMA", data[41:45]), (b"pHYs", data[57:66]), (b"tEXt", data[78:87]), (b"tIME", data[99:106]), (b"IDAT", data[118:134]))]
+        (b"gAMA", data[41:45]), (b"pHYs", data[57:66]), (b"tEXt", data[78:87]), (b"tIME", data[99:106]), (b"IDAT", data[118:149]))]
     return {"Chunk.crc": crcs, "Last.crc": [zlib.crc32(b"IEND")], "Ihdr.width": [3], "Ihdr.height": [2], "Phys.x": [2835],
             "Time.year": [2024], "Time.day": [29], "Text/Keyword": ["Title"], "Gama.gamma": [45455]}
 

@@ -33,11 +33,12 @@ def png_chunk(kind, data):
 
 
 def png():
-    """Three by two pixels of red, green and blue, with a text, a time and a resolution."""
+    """Three by two red pixels, stored without compression, with a text, a time and a resolution."""
     rows = (b"\0" + b"\xff\0\0" * 3) * 2
+    stored = b"\x78\x01\x01" + le("HH", len(rows), 65535 - len(rows)) + rows + be("I", zlib.adler32(rows))
     chunks = [(b"IHDR", be("IIBBBBB", 3, 2, 8, 2, 0, 0, 0)), (b"gAMA", be("I", 45455)), (b"pHYs", be("IIB", 2835, 2835, 1)),
               (b"tEXt", b"Title\0red"), (b"tIME", be("HBBBBB", 2024, 2, 29, 12, 30, 59)),
-              (b"IDAT", zlib.compress(rows, 9)), (b"IEND", b"")]
+              (b"IDAT", stored), (b"IEND", b"")]
     return b"\x89PNG\r\n\x1a\n" + b"".join(png_chunk(*chunk) for chunk in chunks)
 
 
