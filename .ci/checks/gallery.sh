@@ -9,7 +9,7 @@ command -v python3 >/dev/null || {
 }
 top=$PWD
 . dist/sources.sh
-./ipg fmt crates/ipg_app/data/row.ipg >/dev/null || exit 1
+./ipg check @gif >/dev/null || exit 1
 is_built || program=dist/ipg
 for tool in $(python3 .ci/gallery.py --missing); do
   skip "gallery-$tool" "$tool"

@@ -9,6 +9,6 @@ command -v python3 >/dev/null || {
 }
 top=$PWD
 . dist/sources.sh
-./ipg fmt crates/ipg_app/data/row.ipg >/dev/null || exit 1
+./ipg check @gif >/dev/null || exit 1
 is_built || program=dist/ipg
 exec python3 .ci/pages.py "$program" formats/README.md docs/PATTERNS.md docs/REFUSALS.md docs/TUTORIAL.md
