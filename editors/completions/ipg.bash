@@ -1,0 +1,23 @@
+# shellcheck shell=bash
+# Completion of `ipg` for bash: commands, built-in grammars, files, options.
+_ipg() {
+  local word=${COMP_WORDS[COMP_CWORD]} before=${COMP_WORDS[COMP_CWORD - 1]} choices=""
+  COMPREPLY=()
+  case $before in
+    --memo) choices="on off" ;;
+    --arena) choices="1 64 512 4096" ;;
+  esac
+  if [ -z "$choices" ]; then
+    case ${COMP_WORDS[1]}:$COMP_CWORD in
+      *:1) choices="parse check cert verify fmt trial" ;;
+      trial:2) choices="elf pe gif pcap" ;;
+      parse:2 | check:2 | cert:2 | verify:2 | fmt:2) choices="@elf @pe @gif @pcap" ;;
+      parse:*) case $word in -*) choices="--memo --arena" ;; esac ;;
+    esac
+  fi
+  mapfile -t COMPREPLY < <(compgen -W "$choices" -- "$word")
+  if [ "$COMP_CWORD" -gt 1 ] && [ "${COMP_WORDS[1]}" != trial ] && [ "${#COMPREPLY[@]}" -eq 0 ]; then
+    mapfile -t COMPREPLY < <(compgen -f -- "$word")
+  fi
+}
+complete -o filenames -F _ipg ipg

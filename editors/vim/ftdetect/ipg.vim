@@ -1,0 +1,1 @@
+autocmd BufNewFile,BufRead *.ipg setfiletype ipg
