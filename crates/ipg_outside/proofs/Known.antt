@@ -1,10 +1,10 @@
 -- Known bytes of readers and writers over several calls.
-use Rattle.std.proofs.Common.{◌≡◌, ℕ, ◌+◌, ◌≤◌, ◌⊎◌, inl, inr, List, [], ◌++◌, length, take, drop, Option, None, Some}
-use Rattle.std.proofs.Common.{refl, sym, ap, subst, ◌∙◌, arith, append_assoc, append-nil, take-append-drop}
+use Rattle.std.proofs.Common.{◌≡◌, ℕ, ◌+◌, ◌≤◌, ◌⊎◌, inl, inr, List, [], ◌∷◌, ◌++◌, length, take, drop, Option, None, Some}
+use Rattle.std.proofs.Common.{suc, ◌<◌, Result, Ok, Err, IfOk, IfErr, Vec, Global, get_or, length-take, refl, sym, ap, subst, ◌∙◌, arith, append_assoc, append-nil, take-append-drop, Fits as IsBelow, w8}
 use Rattle.std.proofs.lemmas.Grind.{common_steps}
 use Rattle.std.specs.Io.KnownBytes.{Keeps, Appends, Consumes, IsAtEnd}
 use Rattle.ipg_outside.specs.Sink.{AppendsPart}
-use Rattle.ipg_outside.specs.Files.{ReadWhole, ReadCut, IfTooLarge, Moves, told_by}
+use Rattle.ipg_outside.specs.Files.{Told, untold, AreBytes, ReadWhole, ReadCut, IfTooLarge, Moves, told_by}
 use Rattle.ipg_outside.specs.declared.files.FileFault.{FileFault}
 use Rattle.ipg_outside.specs.declared.files.FileFault.TheVariants.{Failed, TooLarge, Memory}
 
@@ -63,17 +63,26 @@ pub moves-more : (a b c : Option (List ℕ)) (old new : List ℕ) → Consumes a
 moves-more a b c old new p m =
     let P : List ℕ → Type 0 = λ t. Consumes a c t in subst P (sym m.2) (consumes-more a b c old m.0 p m.1)
 
+-- what the type of a list of bytes says of it
+abbrev pub Below : List ℕ → Type 0
+Below xs = (i : ℕ) → IsBelow w8 (get_or xs i 0)
+
+pub bytes_below : (xs : List ℕ) → Below xs → AreBytes xs
+bytes_below [] below = tt
+bytes_below (b ∷ xs) below = (let here = below 0 in omega arith, bytes_below xs (λ i. below (suc i)))
+
 -- a reader that gave all its bytes
-pub read-whole : (a b : Option (List ℕ)) (limit : ℕ) (xs : List ℕ) → Consumes a b xs → IsAtEnd b → length xs ≤ limit → ReadWhole (told_by a) limit xs
-read-whole None b limit xs p q h = record { contents = tt; within = h }
-read-whole (Some a) None limit xs p q h = absurd p
-read-whole (Some a) (Some b) limit xs p q h = record { contents = sym (p ∙ ap (λ t. xs ++ t) q ∙ append-nil _); within = h }
+pub read-whole : (a b : Option (List ℕ)) (limit : ℕ) (xs : List ℕ) → Consumes a b xs → IsAtEnd b → length xs ≤ limit → AreBytes xs
+    → ReadWhole (told_by a) limit xs
+read-whole None b limit xs p q h below = record { contents = below; within = h }
+read-whole (Some a) None limit xs p q h below = absurd p
+read-whole (Some a) (Some b) limit xs p q h below = record { contents = sym (p ∙ ap (λ t. xs ++ t) q ∙ append-nil _); within = h }
 
 -- a reader that gave more than the limit
-pub read-cut : (a b : Option (List ℕ)) (limit : ℕ) (xs : List ℕ) → Consumes a b xs → length xs ≡ limit + 1 → ReadCut (told_by a) limit xs
-read-cut None b limit xs p e = record { whole = xs; contents = tt; longer = omega arith; front_is = grind (arith, common_steps) }
-read-cut (Some a) None limit xs p e = absurd p
-read-cut (Some a) (Some b) limit xs p e = record { whole = a; contents = refl; longer = grind (arith, common_steps); front_is = grind (arith, common_steps) }
+pub read-cut : (a b : Option (List ℕ)) (limit : ℕ) (xs : List ℕ) → Consumes a b xs → length xs ≡ limit + 1 → AreBytes xs → ReadCut (told_by a) limit xs
+read-cut None b limit xs p e below = record { whole = xs; contents = below; longer = omega arith; front_is = grind (arith, common_steps) }
+read-cut (Some a) None limit xs p e below = absurd p
+read-cut (Some a) (Some b) limit xs p e below = record { whole = a; contents = refl; longer = grind (arith, common_steps); front_is = grind (arith, common_steps) }
 
 -- a fault of the system carries no bytes
 pub never-large : (fault : FileFault) (P : List ℕ → Type 0) → (fault ≡ Memory) ⊎ (fault ≡ Failed) → IfTooLarge fault P
@@ -81,3 +90,31 @@ never-large Failed P e = tt
 never-large (TooLarge front) P (inl e) = absurd (cc)
 never-large (TooLarge front) P (inr e) = absurd (cc)
 never-large Memory P e = tt
+
+-- of a file of which nothing is told its bytes are known to be bytes
+pub whole-untold : (told : Told) (limit : ℕ) (xs : List ℕ) → ReadWhole told limit xs → AreBytes xs → ReadWhole untold limit xs
+whole-untold told limit xs h bytes = record { contents = bytes; within = h.within }
+
+pub cut-untold : (told : Told) (limit : ℕ) (xs : List ℕ) → ReadCut told limit xs → AreBytes xs → ReadCut untold limit xs
+cut-untold told limit xs h bytes =
+    let longer : limit < length xs = let e = ap length h.front_is in omega (arith, e, h.longer, length-take {A = ℕ}) in
+    let size : length xs ≤ limit + 1 = let e = ap length h.front_is in omega (arith, e, length-take {A = ℕ}) in
+    record { whole = xs; contents = bytes; longer = longer; front_is = grind (arith, common_steps, size) }
+
+abbrev Reading : Type 0
+Reading = Result (Vec ℕ Global) FileFault
+
+pub if-whole : (told : Told) (limit : ℕ) (r : Reading) → IfOk r (λ bytes. ReadWhole told limit bytes.items) → IfOk r (λ bytes. AreBytes bytes.items)
+    → IfOk r (λ bytes. ReadWhole untold limit bytes.items)
+if-whole told limit (Ok bytes) h b = whole-untold told limit bytes.items h b
+if-whole told limit (Err fault) h b = tt
+
+fault-cut : (told : Told) (limit : ℕ) (fault : FileFault) → IfTooLarge fault (ReadCut told limit) → IfTooLarge fault AreBytes → IfTooLarge fault (ReadCut untold limit)
+fault-cut told limit Failed h b = tt
+fault-cut told limit (TooLarge front) h b = cut-untold told limit front.items h b
+fault-cut told limit Memory h b = tt
+
+pub if-cut : (told : Told) (limit : ℕ) (r : Reading) → IfErr r (λ fault. IfTooLarge fault (ReadCut told limit)) → IfErr r (λ fault. IfTooLarge fault AreBytes)
+    → IfErr r (λ fault. IfTooLarge fault (ReadCut untold limit))
+if-cut told limit (Ok bytes) h b = tt
+if-cut told limit (Err fault) h b = fault-cut told limit fault h b

@@ -1,6 +1,7 @@
 -- What is told of a file, and what a reading of it may give.
 use Rattle.std.specs.Prelude.{◌≡◌, ℕ, ◌+◌, ◌<◌, ◌≤◌, List, ◌++◌, length, take, Option, None, Some, ⊤}
 use Rattle.std.specs.Io.KnownBytes.{Consumes}
+use Rattle.std.specs.List.{AllByRecursion}
 use Rattle.ipg_outside.specs.declared.files.FileFault.{FileFault}
 use Rattle.ipg_outside.specs.declared.files.FileFault.TheVariants.{Failed, TooLarge, Memory}
 
@@ -10,9 +11,13 @@ pub data Told : Type 0 where
   absent : Told
   holds : List ℕ → Told
 
+-- bytes, as those of each file
+abbrev pub AreBytes : List ℕ → Type 0
+AreBytes bytes = AllByRecursion (λ b. b < 256) bytes
+
 -- these may be the bytes under a name of which this is told
 abbrev pub MayHold : Told → List ℕ → Type 0
-MayHold untold bytes = ⊤
+MayHold untold bytes = AreBytes bytes
 MayHold absent bytes = ⊥
 MayHold (holds known) bytes = bytes ≡ known
 

@@ -1,7 +1,7 @@
 //! Real files.
 ghost use Rattle.std.specs.Prelude.{◌≡◌, ◌⊎◌, ◌+◌, ◌^◌, ◌<◌, ◌≤◌, length, vec_len, IfOk, IfErr};
 ghost use Rattle.std.specs.Io.KnownBytes.{IsAtEnd};
-ghost use Rattle.ipg_outside.specs.Files.{ReadWhole, ReadCut, IfTooLarge, Moves, told_by, untold};
+ghost use Rattle.ipg_outside.specs.Files.{AreBytes, ReadWhole, ReadCut, IfTooLarge, Moves, told_by, untold};
 
 use crate::files::{FileFault, Files};
 use std::alloc::Global;
@@ -73,6 +73,8 @@ fn read_up_to<F: Read>(
     requires { limit < 2 ^ 62 }
     ensures whole { IfOk result (λ bytes. ReadWhole (told_by (F.remaining file.old)) limit bytes.items) }
     ensures cut { IfErr result (λ fault. IfTooLarge fault (ReadCut (told_by (F.remaining file.old)) limit)) }
+    ensures bytes { IfOk result (λ bytes. AreBytes bytes.items) }
+    ensures front { IfErr result (λ fault. IfTooLarge fault AreBytes) }
 {
     let wanted = limit as usize + 1;
     let mut bytes = Vec::with_capacity(alloc, expected)?;
@@ -80,11 +82,18 @@ fn read_up_to<F: Read>(
     while bytes.len() < wanted {
         let room = CHUNK.min(wanted - bytes.len());
         if read_more(file, &mut chunk[..room], &mut bytes)? == 0 {
+            are_bytes(&bytes);
             return Ok(bytes);
         }
     }
+    are_bytes(&bytes);
     Err(FileFault::TooLarge(bytes))
 }
+
+/// What the type of a list of bytes says of it.
+fn are_bytes(bytes: &[u8])
+    ensures { AreBytes bytes.now }
+{}
 
 /// Appends what one read gives, and tells its length.
 fn read_more<F: Read>(

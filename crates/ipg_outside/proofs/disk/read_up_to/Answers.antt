@@ -1,4 +1,5 @@
-use Rattle.std.proofs.Common.{ℕ, arith, length-take}
+use Rattle.std.proofs.Common.{ℕ, arith, length-take, subst}
+use Rattle.ipg_outside.specs.Files.{AreBytes}
 use Rattle.std.proofs.lemmas.Result.{err_from_is_err_and}
 use Rattle.std.proofs.lemmas.Grind.{common_steps}
 use Rattle.ipg_outside.proofs.Known.{consumes-none, moves-more, read-whole, read-cut, never-large}
@@ -12,7 +13,7 @@ loop-bytes-init g c = record {
 }
 
 pub returns-clause-cut : goal.returns-clause-cut
-returns-clause-cut g c = read-cut _ _ _ _ c.loop-bytes.invariant.so_far (let e = c.loop-bytes.bytes.ok.0 in omega arith)
+returns-clause-cut g c = read-cut _ _ _ _ c.loop-bytes.invariant.so_far (let e = c.loop-bytes.bytes.ok.0 in omega arith) (subst AreBytes c.deref-2.ensures.value c.are_bytes-2.ensures)
 
 pub returns-in_err-read_more-clause-cut : goal.returns-in_err-read_more-clause-cut
 returns-in_err-read_more-clause-cut g c =
@@ -24,7 +25,7 @@ returns-then-branch-eq0-clause-whole g c =
     let grown = c.in_ok-read_more.ensures.grown in
     let same = c.read_more.new.bytes.ok.0 in
     read-whole _ _ _ _ (moves-more _ _ _ _ _ c.loop-bytes.invariant.so_far c.in_ok-read_more.ensures.moved) (c.in_ok-read_more.ensures.end c.if-branch-eq0.true)
-    (omega arith)
+    (omega arith) (subst AreBytes c.deref.ensures.value c.are_bytes.ensures)
 
 pub loop-bytes-preserved : goal.loop-bytes-preserved
 loop-bytes-preserved g c =
@@ -35,3 +36,8 @@ loop-bytes-preserved g c =
       chunk = c.loop-bytes.invariant.chunk;
       so_far = moves-more _ _ _ _ _ c.loop-bytes.invariant.so_far c.in_ok-read_more.ensures.moved;
     }
+
+pub returns-in_err-read_more-clause-front : goal.returns-in_err-read_more-clause-front
+returns-in_err-read_more-clause-front g c =
+    let p = err_from_is_err_and c.from_residual-in_err-read_more.result c.from_residual-in_err-read_more.ensures.1 in
+    rw (p.1, p.2) (never-large _ _ c.in_err-read_more.ensures.refused)
