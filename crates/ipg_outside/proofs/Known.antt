@@ -1,6 +1,7 @@
 -- Known bytes of readers and writers over several calls.
 use Rattle.std.proofs.Common.{◌≡◌, ℕ, ◌+◌, ◌≤◌, ◌⊎◌, inl, inr, List, [], ◌∷◌, ◌++◌, length, take, drop, Option, None, Some}
-use Rattle.std.proofs.Common.{suc, ◌<◌, Result, Ok, Err, IfOk, IfErr, Vec, Global, get_or, length-take, refl, sym, ap, subst, ◌∙◌, arith, append_assoc, append-nil, take-append-drop, Fits as IsBelow, w8}
+use Rattle.std.proofs.Common.{suc, ◌<◌, Result, Ok, Err, IfOk, IfErr, Vec, Global, get_or, length-take, Fits as IsBelow, w8}
+use Rattle.std.proofs.Common.{refl, sym, ap, subst, ◌∙◌, arith, append_assoc, append-nil, take-append-drop}
 use Rattle.std.proofs.lemmas.Grind.{common_steps}
 use Rattle.std.specs.Io.KnownBytes.{Keeps, Appends, Consumes, IsAtEnd}
 use Rattle.ipg_outside.specs.Sink.{AppendsPart}
@@ -82,7 +83,12 @@ read-whole (Some a) (Some b) limit xs p q h below = record { contents = sym (p �
 pub read-cut : (a b : Option (List ℕ)) (limit : ℕ) (xs : List ℕ) → Consumes a b xs → length xs ≡ limit + 1 → AreBytes xs → ReadCut (told_by a) limit xs
 read-cut None b limit xs p e below = record { whole = xs; contents = below; longer = omega arith; front_is = grind (arith, common_steps) }
 read-cut (Some a) None limit xs p e below = absurd p
-read-cut (Some a) (Some b) limit xs p e below = record { whole = a; contents = refl; longer = grind (arith, common_steps); front_is = grind (arith, common_steps) }
+read-cut (Some a) (Some b) limit xs p e below = record {
+  whole = a;
+  contents = refl;
+  longer = grind (arith, common_steps);
+  front_is = grind (arith, common_steps);
+}
 
 -- a fault of the system carries no bytes
 pub never-large : (fault : FileFault) (P : List ℕ → Type 0) → (fault ≡ Memory) ⊎ (fault ≡ Failed) → IfTooLarge fault P
@@ -109,7 +115,8 @@ pub if-whole : (told : Told) (limit : ℕ) (r : Reading) → IfOk r (λ bytes. R
 if-whole told limit (Ok bytes) h b = whole-untold told limit bytes.items h b
 if-whole told limit (Err fault) h b = tt
 
-fault-cut : (told : Told) (limit : ℕ) (fault : FileFault) → IfTooLarge fault (ReadCut told limit) → IfTooLarge fault AreBytes → IfTooLarge fault (ReadCut untold limit)
+fault-cut : (told : Told) (limit : ℕ) (fault : FileFault) → IfTooLarge fault (ReadCut told limit) → IfTooLarge fault AreBytes
+    → IfTooLarge fault (ReadCut untold limit)
 fault-cut told limit Failed h b = tt
 fault-cut told limit (TooLarge front) h b = cut-untold told limit front.items h b
 fault-cut told limit Memory h b = tt

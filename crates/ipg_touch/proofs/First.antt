@@ -1,5 +1,6 @@
 -- The search for a loose repetition finds the first, exactly where there is one.
-use Rattle.std.proofs.Common.{◌≡◌, ℕ, ◌+◌, ◌<◌, ◌⊎◌, inl, inr, List, [], ◌∷◌, Bool, true, false, not, Option, Some, None, refl, sym, ap, ◌∙◌, subst, slice_get, length, nat_lt, if◌then◌else◌, arith}
+use Rattle.std.proofs.Common.{◌≡◌, ℕ, ◌+◌, ◌<◌, ◌⊎◌, inl, inr, List, [], ◌∷◌, Bool, true, false, not, Option, Some, None, if◌then◌else◌}
+use Rattle.std.proofs.Common.{refl, sym, ap, ◌∙◌, subst, slice_get, length, nat_lt, arith}
 use Rattle.std.proofs.lemmas.Bool.{cases_order}
 use Rattle.ipg_core.specs.declared.grammar.Primitive.TheVariants.{U8, U16LE, U16BE, U32LE, U32BE, U64LE, U64BE, Bytes}
 use Rattle.ipg_core.specs.declared.grammar.Sym.{Sym}
@@ -93,7 +94,8 @@ number_none : (o : Option (ℕ × Unit {0})) → number_of o ≡ None → o ≡ 
 number_none None e = refl
 number_none (Some at) e = absurd (cc)
 
-terms_tight : (marks : Marks) (terms : List CoreTerm) → loose_term marks 0 terms ≡ None → (k : ℕ) (t : CoreTerm) → slice_get terms k ≡ Some t → IsLoose marks t → ⊥
+terms_tight : (marks : Marks) (terms : List CoreTerm) → loose_term marks 0 terms ≡ None → (k : ℕ) (t : CoreTerm) → slice_get terms k ≡ Some t
+    → IsLoose marks t → ⊥
 terms_tight marks terms e k t is h =
     let none = finds_none (flagged marks) 0 terms (number_none _ (sym (term_search marks 0 terms) ∙ e)) k t is in
     tag_none (is_loose marks t) none (is_loose_of marks t h)
@@ -183,7 +185,9 @@ rule_found marks rules at e =
       there = record { rule = f.item; alt = a.alt; is_rule = is_rule; is_alt = a.there; is_term = a.inside.there };
       loose = a.inside.loose;
       before = λ to other earlier there h. elim earlier [
-        | inl less ↦ alts_tight marks there.rule.alts (f.before to.0 there.rule (omega (arith, less, same)) there.is_rule) to.1 there.alt to.2 other there.is_alt there.is_term h
+        | inl less ↦
+            let none = f.before to.0 there.rule (omega (arith, less, same)) there.is_rule in
+            alts_tight marks there.rule.alts none to.1 there.alt to.2 other there.is_alt there.is_term h
         | inr here ↦
             let rule : there.rule ≡ f.item = one_item rules to.0 at.0 here.0 there.rule f.item there.is_rule is_rule in
             let is_alt = subst (λ (r : CoreRule). slice_get r.alts to.1 ≡ Some there.alt) rule there.is_alt in

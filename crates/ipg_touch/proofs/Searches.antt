@@ -23,7 +23,8 @@ FindsNone {A} find xs = (k : ℕ) (x : A) → slice_get xs k ≡ Some x → find
 here : {A B : Type 0} (find : A → Option B) (n : ℕ) (x : A) (xs : List A) (b : B) → find x ≡ Some b → FoundAt find n (x ∷ xs) (n, b)
 here find n x xs b e = record { place = 0; item = x; number = omega arith; there = refl; found = e; before = λ j y less is. absurd (omega arith) }
 
-later : {A B : Type 0} (find : A → Option B) (n : ℕ) (x : A) (xs : List A) (at : ℕ × B) → find x ≡ None → FoundAt find (n + 1) xs at → FoundAt find n (x ∷ xs) at
+later : {A B : Type 0} (find : A → Option B) (n : ℕ) (x : A) (xs : List A) (at : ℕ × B) → find x ≡ None
+    → FoundAt find (n + 1) xs at → FoundAt find n (x ∷ xs) at
 later {A} find n x xs at e f = record {
   place = suc f.place;
   item = f.item;

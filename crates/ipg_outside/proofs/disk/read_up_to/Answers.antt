@@ -13,7 +13,9 @@ loop-bytes-init g c = record {
 }
 
 pub returns-clause-cut : goal.returns-clause-cut
-returns-clause-cut g c = read-cut _ _ _ _ c.loop-bytes.invariant.so_far (let e = c.loop-bytes.bytes.ok.0 in omega arith) (subst AreBytes c.deref-2.ensures.value c.are_bytes-2.ensures)
+returns-clause-cut g c =
+    read-cut _ _ _ _ c.loop-bytes.invariant.so_far (let e = c.loop-bytes.bytes.ok.0 in omega arith)
+    (subst AreBytes c.deref-2.ensures.value c.are_bytes-2.ensures)
 
 pub returns-in_err-read_more-clause-cut : goal.returns-in_err-read_more-clause-cut
 returns-in_err-read_more-clause-cut g c =
