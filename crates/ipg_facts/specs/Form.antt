@@ -1,5 +1,5 @@
 -- Linear forms over variables that carry their own facts, and the facts that such forms make.
-use Rattle.std.specs.Prelude.{◌^◌, List, [], ◌∷◌, ◌++◌, length, flat_map, map, Bool, false, not, ◌&&◌, ◌||◌}
+use Rattle.std.specs.Prelude.{◌^◌, List, [], ◌∷◌, ◌++◌, length, flat_map, map, Bool, false, not, ◌&&◌}
 use Rattle.std.specs.Prelude.{nat_le, nat_lt, bytes_eq, ℤ, pos, negsuc, ◌+ℤ◌, ◌*ℤ◌, if◌then◌else◌}
 use Rattle.std.specs.List.{list_all, filter}
 use Rattle.std.specs.Int.RustNames.{unsigned_abs}
@@ -88,15 +88,13 @@ leq a b = at_most_zero (minus a b)
 unfoldable pub less : Form → Form → List Fact
 less a b = at_most_zero (shifted (minus a b) (pos 1))
 
--- a form d, whose negation is n, is 0: two atoms, the facts of the variables once before them
+-- two forms of the same variables are at most 0: the facts of these stand once, before the first that says something
 unfoldable pub both_at_most_zero : Form → Form → List Fact
-both_at_most_zero d n = (if in_limits d || in_limits n then facts_of d else []) ++ (bare d ++ bare n)
+both_at_most_zero d n = if in_limits d then at_most_zero d ++ bare n else at_most_zero n
 
-unfoldable pub is_nothing : Form → List Fact
-is_nothing d = both_at_most_zero d (scaled (negsuc 0) d)
-
+-- a <= b, and then b <= a
 unfoldable pub equal : Form → Form → List Fact
-equal a b = is_nothing (minus a b)
+equal a b = both_at_most_zero (minus a b) (minus b a)
 
 unfoldable pub choice : List Fact → List Fact → List Fact
 choice a b = Any (All a ∷ All b ∷ []) ∷ []

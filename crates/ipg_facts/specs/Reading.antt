@@ -126,11 +126,11 @@ after_facts scope None v left = choice (inside scope v) (equal v left)
 after_facts scope (Some bounds) v left =
     choice (less bounds.first bounds.last ++ inside scope v) (leq bounds.last bounds.first ++ equal v left)
 
--- a product is linear where one side is a number
+-- a product is linear where one side is a number; variables that cancel in that side keep their places
 unfoldable pub product : Form → Form → Option Form
 product a b =
-    if is_constant a then Some (scaled a.constant b)
-    else if is_constant b then Some (scaled b.constant a)
+    if is_constant a then Some (plus (scaled (pos 0) a) (scaled a.constant b))
+    else if is_constant b then Some (plus (scaled b.constant a) (scaled (pos 0) b))
     else None
 
 unfoldable pub computed : Op2 → Form → Form → Option Form

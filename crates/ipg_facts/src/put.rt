@@ -6,7 +6,7 @@ ghost use Rattle.ipg_facts.specs.Form as spec;
 
 use crate::copying::{copy_key, put_copies};
 use crate::fact::{Draft, Fact, Form, Key, Part};
-use crate::form::{counts, in_limits, minus, scaled, shifted};
+use crate::form::{counts, in_limits, minus, shifted};
 use ipg_num::List;
 use std::alloc::{AllocError, Global};
 
@@ -85,35 +85,29 @@ pub fn put_less(alloc: Global, out: &mut Vec<Fact>, a: &Form, b: &Form) -> Resul
     put_at_most_zero(alloc, out, &shifted(alloc, &minus(alloc, a, b)?, 1)?)
 }
 
+/// Two forms of the same variables are at most 0.
 #[tactic(auto, using(crate::proofs::Puts::then, crate::proofs::Puts::then_last), unfolding(crate::specs::Form::both_at_most_zero))]
 fn put_both(
     alloc: Global,
     out: &mut Vec<Fact>,
-    form: &Form,
-    negated: &Form,
+    first: &Form,
+    second: &Form,
 ) -> Result<(), AllocError>
-    ensures { OnOk result (out.new.items ≡ out.old.items ++ spec.both_at_most_zero form.now negated.now) }
+    ensures { OnOk result (out.new.items ≡ out.old.items ++ spec.both_at_most_zero first.now second.now) }
 {
-    if in_limits(form) || in_limits(negated) {
-        put_facts(alloc, out, form)?;
+    if !in_limits(first) {
+        return put_at_most_zero(alloc, out, second);
     }
-    put_bare(alloc, out, form)?;
-    put_bare(alloc, out, negated)
+    put_at_most_zero(alloc, out, first)?;
+    put_bare(alloc, out, second)
 }
 
-#[tactic(auto, unfolding(crate::specs::Form::is_nothing))]
-fn put_is_nothing(alloc: Global, out: &mut Vec<Fact>, form: &Form) -> Result<(), AllocError>
-    ensures { OnOk result (out.new.items ≡ out.old.items ++ spec.is_nothing form.now) }
-{
-    put_both(alloc, out, form, &scaled(alloc, -1, form)?)
-}
-
-/// `a = b`: two atoms, the facts of the variables once before them.
+/// `a = b`: `a <= b` and then `b <= a`, the facts of the variables once before them.
 #[tactic(auto, unfolding(crate::specs::Form::equal))]
 pub fn put_equal(alloc: Global, out: &mut Vec<Fact>, a: &Form, b: &Form) -> Result<(), AllocError>
     ensures { OnOk result (out.new.items ≡ out.old.items ++ spec.equal a.now b.now) }
 {
-    put_is_nothing(alloc, out, &minus(alloc, a, b)?)
+    put_both(alloc, out, &minus(alloc, a, b)?, &minus(alloc, b, a)?)
 }
 
 /// One or the other.

@@ -165,15 +165,37 @@ fn limited(alloc: Global, scope: &Scope, e: &CoreExpr, form: Form) -> Result<For
     }
 }
 
+/// A number that is a form, times another form: its variables, which have cancelled, keep their places.
+fn times(alloc: Global, number: &Form, form: &Form) -> Result<Form, AllocError>
+    ensures { IfOk result (λ product. product ≡ forms.plus (forms.scaled (pos 0) number.now) (forms.scaled number.now.constant form.now)) }
+{
+    plus(
+        alloc,
+        &scaled(alloc, 0, number)?,
+        &scaled(alloc, number.constant, form)?,
+    )
+}
+
+/// A form times a number that is one.
+fn by(alloc: Global, form: &Form, number: &Form) -> Result<Form, AllocError>
+    ensures { IfOk result (λ product. product ≡ forms.plus (forms.scaled number.now.constant form.now) (forms.scaled (pos 0) number.now)) }
+{
+    plus(
+        alloc,
+        &scaled(alloc, number.constant, form)?,
+        &scaled(alloc, 0, number)?,
+    )
+}
+
 /// A product is linear where one side is a number.
 #[tactic(auto, unfolding(crate::specs::Reading::product))]
 fn product(alloc: Global, a: &Form, b: &Form) -> Result<Option<Form>, AllocError>
     ensures { IfOk result (λ product. product ≡ spec.product a.now b.now) }
 {
     if is_constant(a) {
-        Ok(Some(scaled(alloc, a.constant, b)?))
+        Ok(Some(times(alloc, a, b)?))
     } else if is_constant(b) {
-        Ok(Some(scaled(alloc, b.constant, a)?))
+        Ok(Some(by(alloc, a, b)?))
     } else {
         Ok(None)
     }

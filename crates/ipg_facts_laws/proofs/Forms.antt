@@ -15,7 +15,7 @@ use Rattle.ipg_facts.specs.declared.fact.Fact.TheVariants as facts
 use Rattle.ipg_facts.specs.declared.fact.Fact.TheOpen.{Fact-F}
 use Rattle.ipg_facts.specs.Key.{Key}
 use Rattle.ipg_facts.specs.Form.{variable, number, add_part, add_parts, plus, minus, scaled, scaled_part, shifted, is_zero, counts, is_constant}
-use Rattle.ipg_facts.specs.Form.{mentioned, in_limits, facts_of, bare, at_most_zero, leq, less, both_at_most_zero, is_nothing, equal, choice, differ}
+use Rattle.ipg_facts.specs.Form.{mentioned, in_limits, facts_of, bare, at_most_zero, leq, less, both_at_most_zero, equal, choice, differ}
 use Rattle.ipg_facts_laws.specs.Valued.{Valuation, sum_of, so_step, is_so, are_so}
 use Rattle.ipg_facts_laws.specs.Known.{AreSo, AreTrue, parts_sum, Stands}
 use Rattle.ipg_facts_laws.proofs.Whole.{times_plus, scale, zero_times, one_times, times_minus_one}
@@ -189,18 +189,23 @@ module _ (v : Valuation) where
       so_at_most_zero (shifted (minus a b) (pos 1)) ((x -ℤ y) +ℤ pos 1) (stands_shifted (minus a b) (pos 1) (x -ℤ y) (stands_minus a b x y s t))
       (omega (arith, ints))
 
+  one_or_other : (b : Bool) (xs ys : List Fact) → AreSo v xs → AreSo v ys → AreSo v (if b then xs else ys)
+  one_or_other true xs ys h k = h
+  one_or_other false xs ys h k = k
+
   so_both : (d n : Form) → Stands v d (pos 0) → Stands v n (pos 0) → AreSo v (both_at_most_zero d n)
   unfolding both_at_most_zero
   so_both d n s t =
-      so_append _ _ (chosen_so (in_limits d || in_limits n) (facts_of d) (so_facts_of d _ s))
-      (so_append (bare d) (bare n) (so_bare d _ s (omega (arith, ints))) (so_bare n _ t (omega (arith, ints))))
+      one_or_other (in_limits d) _ _
+      (so_append (at_most_zero d) (bare n) (so_at_most_zero d _ s (omega (arith, ints))) (so_bare n _ t (omega (arith, ints))))
+      (so_at_most_zero n _ t (omega (arith, ints)))
 
   pub so_equal : (a b : Form) (x y : ℤ) → Stands v a x → Stands v b y → x ≡ y → AreSo v (equal a b)
-  unfolding equal is_nothing
+  unfolding equal
   so_equal a b x y s t h =
-      let d : Stands v (minus a b) (pos 0) = stands_at _ _ _ (let e : x -ℤ y ≡ pos 0 = omega (arith, ints) in e) (stands_minus a b x y s t) in
-      so_both (minus a b) (scaled (negsuc 0) (minus a b)) d
-      (stands_at _ _ _ (let e : pos 0 -ℤ pos 0 ≡ pos 0 = refl in e) (stands_negated (minus a b) (pos 0) d))
+      so_both (minus a b) (minus b a)
+      (stands_at _ _ _ (let e : x -ℤ y ≡ pos 0 = omega (arith, ints) in e) (stands_minus a b x y s t))
+      (stands_at _ _ _ (let e : y -ℤ x ≡ pos 0 = omega (arith, ints) in e) (stands_minus b a y x t s))
 
   pub all_is : (fs : List Fact) → is_so v (facts.All fs) ≡ are_so v fs
   all_is fs = ap (is_so v) (sym (facts.rolls-All fs)) ∙ fold-roll-Fact Bool (so_step v) (Fact-F.All fs)

@@ -1,6 +1,7 @@
 -- What an expression is to the conditions holds of its value.
 use Rattle.std.proofs.Common.{◌≡◌, ℕ, Bool, true, false, not, List, [], ◌++◌, refl, sym, ap, subst, ◌∙◌, ℤ, pos, negsuc, neg_ℤ, ◌+ℤ◌, ◌*ℤ◌, ◌-ℤ◌}
-use Rattle.std.proofs.Common.{Option, Some, None, if◌then◌else◌, ◌⊎◌, inl, inr}
+use Rattle.std.proofs.lemmas.Int.{ints}
+use Rattle.std.proofs.Common.{arith, Option, Some, None, if◌then◌else◌, ◌⊎◌, inl, inr}
 use Rattle.std.specs.Prelude.{int_le, int_lt, ◌<ℤ◌}
 use Rattle.std.specs.Ordering.{int_eq}
 use Rattle.std.proofs.Math.IntN.{*ℤ_comm}
@@ -33,6 +34,7 @@ use Rattle.ipg_facts_laws.proofs.Words.{words_are_spelled}
 use Rattle.ipg_facts_laws.proofs.Forms.{stands_at, stands_number, stands_variable, stands_plus, stands_minus, stands_scaled, stands_negated}
 use Rattle.ipg_facts_laws.proofs.Forms.{stands_shifted, so_append, so_leq, so_less, so_equal, so_first, so_second, so_below, so_above, constant_value}
 use Rattle.ipg_facts_laws.proofs.Answers.{found_is, limited_is, Kept, kept, first_of, flag_is, not_true, not_false, eq_true, eq_false, lt_true, lt_false}
+use Rattle.ipg_facts_laws.proofs.Whole.{zero_times}
 use Rattle.ipg_facts_laws.proofs.Answers.{le_true, le_false, not_zero, zero_is, minus_is}
 
 differs : (b : Bool) → b ≡ true → b ≡ false → ⊥
@@ -77,12 +79,28 @@ module _ (v : Valuation) where
   constant_is : (a : Form) (x : ℤ) → is_constant a ≡ true → Stands v a x → a.constant ≡ x
   constant_is a x c s = constant_value v a x c s
 
+  -- a form taken no time
+  stands_none : (a : Form) (x : ℤ) → Stands v a x → Stands v (scaled (pos 0) a) (pos 0)
+  stands_none a x s = stands_at v (scaled (pos 0) a) (x *ℤ pos 0) (pos 0) (*ℤ_comm x (pos 0) ∙ zero_times x) (stands_scaled v (pos 0) a x s)
+
+  none_first : (z : ℤ) → pos 0 +ℤ z ≡ z
+  none_first z = omega (arith, ints)
+
+  none_last : (z : ℤ) → z +ℤ pos 0 ≡ z
+  none_last z = omega (arith, ints)
+
   product_chosen : (p q : Bool) (a b : Form) (x y z : ℤ) → is_constant a ≡ p → is_constant b ≡ q → Stands v a x → Stands v b y → x *ℤ y ≡ z
-      → StandsSome (if p then Some (scaled a.constant b) else if q then Some (scaled b.constant a) else None) z
+      → StandsSome (if p then Some (plus (scaled (pos 0) a) (scaled a.constant b))
+      else if q then Some (plus (scaled b.constant a) (scaled (pos 0) b)) else None) z
   product_chosen true q a b x y z e f s t h =
-      stands_at v (scaled a.constant b) (y *ℤ a.constant) z (ap (λ k. y *ℤ k) (constant_is a x e s) ∙ *ℤ_comm y x ∙ h) (stands_scaled v a.constant b y t)
+      stands_at v (plus (scaled (pos 0) a) (scaled a.constant b)) (pos 0 +ℤ z) z (none_first z)
+      (stands_plus v (scaled (pos 0) a) (scaled a.constant b) (pos 0) z (stands_none a x s)
+      (stands_at v (scaled a.constant b) (y *ℤ a.constant) z (ap (λ k. y *ℤ k) (constant_is a x e s) ∙ *ℤ_comm y x ∙ h) (stands_scaled v a.constant b y t)))
   product_chosen false true a b x y z e f s t h =
-      stands_at v (scaled b.constant a) (x *ℤ b.constant) z (ap (λ k. x *ℤ k) (constant_is b y f t) ∙ h) (stands_scaled v b.constant a x s)
+      stands_at v (plus (scaled b.constant a) (scaled (pos 0) b)) (z +ℤ pos 0) z (none_last z)
+      (stands_plus v (scaled b.constant a) (scaled (pos 0) b) z (pos 0)
+      (stands_at v (scaled b.constant a) (x *ℤ b.constant) z (ap (λ k. x *ℤ k) (constant_is b y f t) ∙ h) (stands_scaled v b.constant a x s))
+      (stands_none b y t))
   product_chosen false false a b x y z e f s t h = tt
 
   stands_product : (a b : Form) (x y z : ℤ) → Stands v a x → Stands v b y → x *ℤ y ≡ z → StandsSome (product a b) z

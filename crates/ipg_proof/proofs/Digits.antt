@@ -11,11 +11,11 @@ use Rattle.std.proofs.Math.Seq.{take-length}
 use Rattle.std.proofs.lemmas.Str.{digit_value_digit}
 use Rattle.std.proofs.lemmas.Fmt.{decimal_by_steps, decimal_is_IsNumeral, decimal_step, decimal_digit, decimal_nonempty, first_decimal, decimal_injective}
 use Rattle.std.proofs.lemmas.Int.Digits.{digits_value_is, number_after_append, number_after_ge}
-use Rattle.ipg_proof.specs.Texts.{number_text, IsShort}
+use Rattle.ipg_proof.specs.Texts.{number_text, IsShort, IsLong}
 use Rattle.ipg_proof.specs.declared.reader.Halt.{Halt}
 use Rattle.ipg_proof.specs.declared.reader.Halt.TheVariants.{Here, Memory}
 use Rattle.ipg_proof.specs.Numbers.{IsDigit, Begun, Goes, IsNoStart, IsDone, IsNumber, FirstAnswer, IsMore, NextAnswer, WithDigit}
-use Rattle.ipg_proof.specs.Reads.{IsFrom, AreAlone, Reads, Stops, any, always}
+use Rattle.ipg_proof.specs.Reads.{IsFrom, IsWithin, AreAlone, Reads, Stops, any, always}
 use Rattle.ipg_proof.proofs.Readers.{Front, fronts, heads, tails, no_cons, here_is_no_memory, made_of, read_memory}
 use Rattle.ipg_proof.proofs.Lists.{all_back, all_join}
 
@@ -123,7 +123,7 @@ pub first_digit_is : (least b d : ℕ) (left : List ℕ) → b ≡ 48 + d → d 
 first_digit_is least b d left is small h = record {
   splits = ap (λ x. x ∷ left) is ∙ ap (λ ds. ds ++ left) (one_digit d small);
   above = h;
-  small = (let s : d < 2 ^ 32 = omega (arith, small) in s);
+  small = small;
 }
 
 pub first_digit_low : (least b d : ℕ) (left : List ℕ) → least ≤ 1 → b ≡ 48 + d → d < least → FirstAnswer least (b ∷ left) (b ∷ left) None
@@ -137,13 +137,14 @@ first_digit_low least b d left one is low = (
 pub first_digit_none : (least b : ℕ) (left : List ℕ) → (IsDigit b → ⊥) → FirstAnswer least (b ∷ left) (b ∷ left) None
 first_digit_none least b left never = (refl, λ n above begun. never begun.digit)
 
-pub next_digit_is : (v b d next : ℕ) (left : List ℕ) → b ≡ 48 + d → d ≤ 9 → WithDigit v d (Some next) → NextAnswer v (b ∷ left) left (Some next)
-next_digit_is v b d next left is small h =
+pub next_digit_is : (most v b d next : ℕ) (left : List ℕ) → most < 2 ^ 64 → b ≡ 48 + d → d ≤ 9 → WithDigit most v d (Some next)
+    → NextAnswer most v (b ∷ left) left (Some next)
+next_digit_is most v b d next left wide is small h =
     let front : v ≡ (v * 10 + d) / 10 = omega (arith, small) in
     let end : b ≡ 48 + (v * 10 + d) % 10 = omega (arith, is, small) in
     let more : decimal v ++ b ∷ [] ≡ decimal (v * 10 + d) =
     ap (λ k. decimal k ++ b ∷ []) front ∙ ap (λ x. decimal ((v * 10 + d) / 10) ++ x ∷ []) end
-    ∙ sym (decimal_step (v * 10 + d) (omega (arith, h.0)) (omega (arith, h.1, h.2))) in
+    ∙ sym (decimal_step (v * 10 + d) (omega (arith, h.0)) (omega (arith, h.1, h.2, wide))) in
     record {
       splits = sym (append_assoc (decimal v) (b ∷ []) left) ∙ ap (λ ds. ds ++ left) (more ∙ ap decimal (sym h.1));
       above = (let s : v ≤ next = omega (arith, h.1) in s);
@@ -151,52 +152,63 @@ next_digit_is v b d next left is small h =
       less = (let s : length left < suc (length left) = omega arith in s);
     }
 
-pub next_digit_large : (v b d : ℕ) (left : List ℕ) → b ≡ 48 + d → WithDigit v d None → NextAnswer v (b ∷ left) (b ∷ left) None
-next_digit_large v b d left is h = (
+pub next_digit_large : (most v b d : ℕ) (left : List ℕ) → b ≡ 48 + d → WithDigit most v d None → NextAnswer most v (b ∷ left) (b ∷ left) None
+next_digit_large most v b d left is h = (
   refl,
   λ n small goes.
       let large = h goes.some in
       let s : ⊥ = omega (arith, large, goes.least, is, small) in s,
 )
 
-pub next_digit_none : (v b : ℕ) (left : List ℕ) → (IsDigit b → ⊥) → NextAnswer v (b ∷ left) (b ∷ left) None
-next_digit_none v b left never = (refl, λ n small goes. never goes.digit)
+pub next_digit_none : (most v b : ℕ) (left : List ℕ) → (IsDigit b → ⊥) → NextAnswer most v (b ∷ left) (b ∷ left) None
+next_digit_none most v b left never = (refl, λ n small goes. never goes.digit)
 
 ends_small : (n : ℕ) → n < 2 ^ 32 → n < 2 ^ 64
 ends_small n h = omega (arith, h)
 
+below : (n most : ℕ) → n ≤ most → most < 2 ^ 64 → n < 2 ^ 64
+below n most h wide = omega (arith, h, wide)
+
+-- the first digit of a number that may be larger
+pub number_begins : (least most v : ℕ) (bytes left : List ℕ) → 9 ≤ most → IsNumber least 9 bytes left v → IsNumber least most bytes left v
+number_begins least most v bytes left nine is = record {
+  splits = is.splits;
+  above = is.above;
+  small = (let s : v ≤ most = omega (arith, is.small, nine) in s);
+}
+
 -- no number begins here
-pub number_absent : (stop least : ℕ) (bytes left : List ℕ) → least ≤ 1 → stop < 48 → left ≡ bytes → IsNoStart least bytes
-    → Reads (IsFrom least) (number_text stop) bytes left (Err Here)
-number_absent stop least bytes left one low same none = record {
+pub number_absent : (stop least most : ℕ) (bytes left : List ℕ) → least ≤ 1 → 9 ≤ most → most < 2 ^ 64 → stop < 48 → left ≡ bytes → IsNoStart least bytes
+    → Reads (IsWithin least most) (number_text stop) bytes left (Err Here)
+number_absent stop least most bytes left one nine wide low same none = record {
   says = record {
     taken = [];
     splits = sym same;
-    begins = (least, ((let s : least ≤ least = omega arith in s), (let s : least < 2 ^ 32 = omega (arith, one) in s)), number_text stop least, refl);
+    begins = (least, ((let s : least ≤ least = omega arith in s), (let s : least ≤ most = omega (arith, one, nine) in s)), number_text stop least, refl);
     stops = stops bytes left (sym same) none;
   };
   back = λ n rest is e. absurd (begins bytes n rest is none e);
 }
   where
-    begins : (bs : List ℕ) (n : ℕ) (rest : List ℕ) → IsFrom least n → IsNoStart least bs → bs ≡ number_text stop n ++ rest → ⊥
+    begins : (bs : List ℕ) (n : ℕ) (rest : List ℕ) → IsWithin least most n → IsNoStart least bs → bs ≡ number_text stop n ++ rest → ⊥
     begins [] n rest is never e = let s : ⊥ = omega (arith, ap length e, length-append (number_text stop n) rest, length-append (decimal n) (stop ∷ [])) in s
-    begins (b ∷ bs) n rest is never e = never n is.0 (begun stop n b rest bs (ends_small n is.1) (sym (append_assoc (decimal n) (stop ∷ []) rest) ∙ sym e))
+    begins (b ∷ bs) n rest is never e = never n is.0 (begun stop n b rest bs (below n most is.1 wide) (sym (append_assoc (decimal n) (stop ∷ []) rest) ∙ sym e))
 
-    stops : (bs l : List ℕ) → bs ≡ l → IsNoStart least bs → Stops (IsFrom least) (number_text stop) [] l
+    stops : (bs l : List ℕ) → bs ≡ l → IsNoStart least bs → Stops (IsWithin least most) (number_text stop) [] l
     stops bs [] e never = tt
     stops [] (x ∷ l) e never = absurd (no_cons x l (sym e))
     stops (b ∷ bs) (x ∷ l) e never = λ on.
-        never on.0 on.1.0 (begun stop on.0 b [] on.2 (ends_small on.0 on.1.1) (on.3 ∙ ap (λ y. y ∷ on.2) (sym (heads b x bs l e))))
+        never on.0 on.1.0 (begun stop on.0 b [] on.2 (below on.0 most on.1.1 wide) (on.3 ∙ ap (λ y. y ∷ on.2) (sym (heads b x bs l e))))
 
 -- the number ends here
-pub number_there : (stop least v : ℕ) (bytes now left : List ℕ) → stop < 48 → IsNumber least bytes now v → now ≡ stop ∷ left
-    → Reads (IsFrom least) (number_text stop) bytes left (Ok v)
-number_there stop least v bytes now left low is ends = record {
+pub number_there : (stop least most v : ℕ) (bytes now left : List ℕ) → stop < 48 → most < 2 ^ 64 → IsNumber least most bytes now v → now ≡ stop ∷ left
+    → Reads (IsWithin least most) (number_text stop) bytes left (Ok v)
+number_there stop least most v bytes now left low wide is ends = record {
   says = record {
     is = (is.above, is.small);
     splits = is.splits ∙ ap (λ l. decimal v ++ l) ends ∙ sym (append_assoc (decimal v) (stop ∷ []) left);
   };
-  back = λ n rest few e. elim (behind stop v n stop rest left low (ends_small v is.small) (ends_small n few.1)
+  back = λ n rest few e. elim (behind stop v n stop rest left low (below v most is.small wide) (below n most few.1 wide)
       (sym (append_assoc (decimal n) (stop ∷ []) rest) ∙ sym e ∙ is.splits ∙ ap (λ l. decimal v ++ l) ends)) [
         | inl same ↦ (sym same.1, sym same.2)
         | inr goes ↦ absurd (no_digit stop low goes.digit)
@@ -204,10 +216,10 @@ number_there stop least v bytes now left low is ends = record {
 }
 
 -- the number has neither a digit more nor its end here
-pub number_stuck : (stop least v : ℕ) (bytes now left : List ℕ) → stop < 48 → IsNumber least bytes now v → IsDone v now → left ≡ now
-    → ((rest : List ℕ) → now ≡ stop ∷ rest → ⊥)
-    → Reads (IsFrom least) (number_text stop) bytes left (Err Here)
-number_stuck stop least v bytes now left low is done same never = record {
+pub number_stuck : (stop least most v : ℕ) (bytes now left : List ℕ) → stop < 48 → most < 2 ^ 64 → IsNumber least most bytes now v → IsDone most v now
+    → left ≡ now → ((rest : List ℕ) → now ≡ stop ∷ rest → ⊥)
+    → Reads (IsWithin least most) (number_text stop) bytes left (Err Here)
+number_stuck stop least most v bytes now left low wide is done same never = record {
   says = record {
     taken = decimal v;
     splits = is.splits ∙ ap (λ l. decimal v ++ l) (sym same);
@@ -217,24 +229,24 @@ number_stuck stop least v bytes now left low is done same never = record {
   back = λ n rest few e. absurd (at now n rest few done never (sym (append_assoc (decimal n) (stop ∷ []) rest) ∙ sym e ∙ is.splits));
 }
   where
-    at : (l : List ℕ) (n : ℕ) (rest : List ℕ) → IsFrom least n → IsDone v l → ((r : List ℕ) → l ≡ stop ∷ r → ⊥) → decimal n ++ stop ∷ rest ≡ decimal v ++ l → ⊥
+    at : (l : List ℕ) (n : ℕ) (rest : List ℕ) → IsWithin least most n → IsDone most v l → ((r : List ℕ) → l ≡ stop ∷ r → ⊥) → decimal n ++ stop ∷ rest ≡ decimal v ++ l → ⊥
     at [] n rest few h missing e = none (fronts (decimal n) (stop ∷ rest) (decimal v) [] e)
       where
         none : Front (decimal n) (stop ∷ rest) (decimal v) [] ⊎ Front (decimal v) [] (decimal n) (stop ∷ rest) → ⊥
         none (inl f) = let s : ⊥ = omega (arith, ap length f.rest, length-append f.more (stop ∷ rest)) in s
         none (inr f) = no_digit stop low
             (all_back IsDigit (decimal n) (stop ∷ rest)
-            (subst (AllByRecursion IsDigit) (f.longer ∙ ap (λ l. decimal n ++ l) (sym (f.rest ∙ append-nil f.more))) (all_digits v (ends_small v is.small)))).0
-    at (b ∷ l) n rest few h missing e = elim (behind stop v n b rest l low (ends_small v is.small) (ends_small n few.1) e) [
+            (subst (AllByRecursion IsDigit) (f.longer ∙ ap (λ l. decimal n ++ l) (sym (f.rest ∙ append-nil f.more))) (all_digits v (below v most is.small wide)))).0
+    at (b ∷ l) n rest few h missing e = elim (behind stop v n b rest l low (below v most is.small wide) (below n most few.1 wide) e) [
       | inl s ↦ missing l (ap (λ y. y ∷ l) s.0)
       | inr goes ↦ h n few.1 goes
     ]
 
-    stops : (l m : List ℕ) → l ≡ m → IsDone v l → ((r : List ℕ) → l ≡ stop ∷ r → ⊥) → Stops (IsFrom least) (number_text stop) (decimal v) m
+    stops : (l m : List ℕ) → l ≡ m → IsDone most v l → ((r : List ℕ) → l ≡ stop ∷ r → ⊥) → Stops (IsWithin least most) (number_text stop) (decimal v) m
     stops l [] e h missing = tt
     stops [] (x ∷ m) e h missing = absurd (no_cons x m (sym e))
     stops (b ∷ l) (x ∷ m) e h missing = λ on.
-        elim (behind stop v on.0 b [] on.2 low (ends_small v is.small) (ends_small on.0 on.1.1)
+        elim (behind stop v on.0 b [] on.2 low (below v most is.small wide) (below on.0 most on.1.1 wide)
         (on.3 ∙ append_assoc (decimal v) (x ∷ []) on.2 ∙ ap (λ y. decimal v ++ y ∷ on.2) (sym (heads b x l m e)))) [
           | inl s ↦ missing l (ap (λ y. y ∷ l) s.0)
           | inr goes ↦ h on.0 on.1.1 goes
@@ -250,16 +262,18 @@ stuck_same b now left r = at r.says.taken r.says.splits r.says.begins.2 r.says.b
     at (x ∷ y ∷ taken) splits rest e = absurd (let s : ⊥ = omega (arith, ap length e) in s)
 
 -- and then the byte behind it
-pub number_ends : (stop least v : ℕ) (bytes now left : List ℕ) (r : Result (Unit {0}) Halt) → stop < 48 → IsNumber least bytes now v → IsDone v now
+pub number_ends : (stop least most v : ℕ) (bytes now left : List ℕ) (r : Result (Unit {0}) Halt) → stop < 48 → most < 2 ^ 64
+    → IsNumber least most bytes now v → IsDone most v now
     → Reads any (always (stop ∷ [])) now left r
-    → Reads (IsFrom least) (number_text stop) bytes left (made_of (λ it. v) r)
-number_ends stop least v bytes now left (Ok it) low is done r = number_there stop least v bytes now left low is r.says.splits
-number_ends stop least v bytes now left (Err Here) low is done r =
-    number_stuck stop least v bytes now left low is done (stuck_same stop now left r) (λ rest e. here_is_no_memory (r.back tt rest tt e))
-number_ends stop least v bytes now left (Err Memory) low is done r = read_memory (IsFrom least) (number_text stop) bytes left
+    → Reads (IsWithin least most) (number_text stop) bytes left (made_of (λ it. v) r)
+number_ends stop least most v bytes now left (Ok it) low wide is done r = number_there stop least most v bytes now left low wide is r.says.splits
+number_ends stop least most v bytes now left (Err Here) low wide is done r =
+    number_stuck stop least most v bytes now left low wide is done (stuck_same stop now left r) (λ rest e. here_is_no_memory (r.back tt rest tt e))
+number_ends stop least most v bytes now left (Err Memory) low wide is done r = read_memory (IsWithin least most) (number_text stop) bytes left
 
-pub number_more : (least v next : ℕ) (bytes now left : List ℕ) → IsNumber least bytes now v → IsMore v now left next → IsNumber least bytes left next
-number_more least v next bytes now left is more = record {
+pub number_more : (least most v next : ℕ) (bytes now left : List ℕ) → IsNumber least most bytes now v → IsMore most v now left next
+    → IsNumber least most bytes left next
+number_more least most v next bytes now left is more = record {
   splits = is.splits ∙ more.splits;
   above = (let s : least ≤ next = omega (arith, is.above, more.above) in s);
   small = more.small;
@@ -275,11 +289,30 @@ first_found least d [] some is small h = absurd (let s : ⊥ = omega (arith, som
 first_found least d (b ∷ left) some is small h = subst (λ l. FirstAnswer least (b ∷ left) l (Some d)) (sym (rest_is b left))
     (first_digit_is least b d left is small h)
 
-pub next_found : (v d next : ℕ) (bytes : List ℕ) → 1 ≤ length bytes → get_or bytes 0 0 ≡ 48 + d → d ≤ 9 → WithDigit v d (Some next)
-    → NextAnswer v bytes (take (length bytes - 1) (drop 1 bytes)) (Some next)
-next_found v d next [] some is small h = absurd (let s : ⊥ = omega (arith, some) in s)
-next_found v d next (b ∷ left) some is small h = subst (λ l. NextAnswer v (b ∷ left) l (Some next)) (sym (rest_is b left))
-    (next_digit_is v b d next left is small h)
+pub next_found : (most v d next : ℕ) (bytes : List ℕ) → most < 2 ^ 64 → 1 ≤ length bytes → get_or bytes 0 0 ≡ 48 + d → d ≤ 9 → WithDigit most v d (Some next)
+    → NextAnswer most v bytes (take (length bytes - 1) (drop 1 bytes)) (Some next)
+next_found most v d next [] wide some is small h = absurd (let s : ⊥ = omega (arith, some) in s)
+next_found most v d next (b ∷ left) wide some is small h = subst (λ l. NextAnswer most v (b ∷ left) l (Some next)) (sym (rest_is b left))
+    (next_digit_is most v b d next left wide is small h)
+
+pub from_is : (least n : ℕ) → IsWithin least 4294967295 n → IsFrom least n
+from_is least n is = (is.0, (let s : n < 2 ^ 32 = omega (arith, is.1) in s))
+
+pub from_within : (least n : ℕ) → IsFrom least n → IsWithin least 4294967295 n
+from_within least n is = (is.0, (let s : n ≤ 4294967295 = omega (arith, is.1) in s))
+
+pub long_is : (n : ℕ) → IsWithin 0 18446744073709551615 n → IsLong n
+long_is n is = omega (arith, is.1)
+
+pub long_within : (n : ℕ) → IsLong n → IsWithin 0 18446744073709551615 n
+long_within n is = ((let s : 0 ≤ n = omega arith in s), (let s : n ≤ 18446744073709551615 = omega (arith, is) in s))
+
+pub alone_long : (stop : ℕ) → stop < 48 → AreAlone IsLong (number_text stop)
+alone_long stop low a b more is also e = alone_number stop 0 (2 ^ 64) low (let s : 2 ^ 64 ≤ 2 ^ 64 = omega arith in s) a b more
+    ((let s : 0 ≤ a = omega arith in s), is) ((let s : 0 ≤ b = omega arith in s), also) e
+
+pub long_same : (stop : ℕ) → stop < 48 → (a b : ℕ) → IsLong a → IsLong b → number_text stop a ≡ number_text stop b → a ≡ b
+long_same stop low a b is also e = number_same stop a b low is also e
 
 pub short_is : (n : ℕ) → IsShort n → IsFrom 0 n
 short_is n small = ((let s : 0 ≤ n = omega arith in s), small)

@@ -7,7 +7,8 @@ use Rattle.std.specs.List.{flat_map}
 use Rattle.std.proofs.lemmas.List.{append_cancel_left}
 use Rattle.ipg_proof.specs.declared.reader.Halt.{Halt}
 use Rattle.ipg_proof.specs.declared.reader.Halt.TheVariants.{Here, Memory}
-use Rattle.ipg_proof.specs.Reads.{Continues, Taken, Stops, IsStuck, Halts, Reads, AreAlone, AreSo, AreCounted, any, always}
+use Rattle.ipg_proof.specs.Texts.{AreCounted}
+use Rattle.ipg_proof.specs.Reads.{Continues, Taken, Stops, IsStuck, Halts, Reads, AreAlone, AreSo, any, always}
 
 pub here_is_no_memory : ◌≡◌ {A = Halt} Here Memory → ⊥
 here_is_no_memory e = cc

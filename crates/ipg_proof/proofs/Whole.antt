@@ -3,11 +3,11 @@ use Rattle.std.proofs.Common.{◌≡◌, ℕ, ◌^◌, ◌≤◌, ◌<◌, List,
 use Rattle.std.specs.List.{flat_map}
 use Rattle.ipg_cert.specs.declared.refutation.Refutation.{Refutation}
 use Rattle.ipg_proof.specs.declared.reader.Halt.{Halt}
-use Rattle.ipg_proof.specs.Texts.{heading, between, number_text, refutation_line, edge_line, cycle_line, counted_text, text_of, IsShort, IsTree}
-use Rattle.ipg_proof.specs.Texts.{IsEdgeEntry, AreFew, IsCycleEntry, IsSpeakable}
-use Rattle.ipg_proof.specs.Reads.{Reads, AreAlone, AreSo, AreCounted, IsFrom, any, always}
+use Rattle.ipg_proof.specs.Texts.{heading, between, number_text, refutation_line, edge_line, cycle_line, counted_text, text_of, IsShort, IsLong, IsTree}
+use Rattle.ipg_proof.specs.Texts.{IsEdgeEntry, AreFew, AreCounted, IsCycleEntry, IsSpeakable}
+use Rattle.ipg_proof.specs.Reads.{Reads, AreAlone, AreSo, IsFrom, any, always}
 use Rattle.ipg_proof.proofs.Readers.{Joins, made_of, read_first, read_second, alone_both, pair_joins, word_joins, alone_word, counted_joins, alone_list}
-use Rattle.ipg_proof.proofs.Digits.{alone_short, short_same, one_short, alone_number, number_same}
+use Rattle.ipg_proof.proofs.Digits.{alone_short, short_same, alone_long, long_same, one_short, alone_number, number_same}
 use Rattle.ipg_proof.proofs.Lines.{leaf, leaf_tree, alone_edge_line}
 
 pub low : 32 < 48
@@ -103,47 +103,60 @@ one_cycle_is = ((let s : 1 ≤ 1 = omega arith in s), ((let s : 1 < 2 ^ 32 = ome
 
 -- ---- a word, a count and as many lines
 
-module _ {A : Type 0} (word : List ℕ) (Is : A → Type 0) (spell : A → List ℕ) (alone : AreAlone Is spell) (one : A) (one_is : Is one) where
+-- numbers that tell a count
+pub record Counts (IsCount : ℕ → Type 0) : Type 0 where
+  pub none : IsCount 0
+  pub alone : AreAlone IsCount (number_text 10)
+  pub same : (a b : ℕ) → IsCount a → IsCount b → number_text 10 a ≡ number_text 10 b → a ≡ b
+
+pub short_counts : Counts IsShort
+short_counts = record { none = (let s : 0 < 2 ^ 32 = omega arith in s); alone = alone_short 10 low_feed; same = short_same 10 low_feed }
+
+pub long_counts : Counts IsLong
+long_counts = record { none = (let s : 0 < 2 ^ 64 = omega arith in s); alone = alone_long 10 low_feed; same = long_same 10 low_feed }
+
+module _ {A : Type 0} (word : List ℕ) (IsCount : ℕ → Type 0) (count : Counts IsCount) (Is : A → Type 0) (spell : A → List ℕ) (alone : AreAlone Is spell)
+    (one : A) (one_is : Is one) where
   abbrev pub section_text : List A → List ℕ
   section_text entries = word ++ counted_text 10 spell entries
 
-  none_are : AreFew Is []
-  none_are = ((let s : 0 < 2 ^ 32 = omega arith in s), tt)
+  none_are : AreCounted IsCount Is []
+  none_are = (count.none, tt)
 
-  number_joins : Joins IsShort (number_text 10) (AreSo Is) (λ n. flat_map spell) (AreFew Is) (counted_text 10 spell) (λ n xs. xs)
-  number_joins = counted_joins Is spell alone one one_is IsShort (number_text 10)
+  number_joins : Joins IsCount (number_text 10) (AreSo Is) (λ n. flat_map spell) (AreCounted IsCount Is) (counted_text 10 spell) (λ n xs. xs)
+  number_joins = counted_joins Is spell alone one one_is IsCount (number_text 10)
 
-  heading_joins : Joins any (always word) (λ it. AreFew Is) (λ it. counted_text 10 spell) (AreFew Is) section_text (λ it xs. xs)
-  heading_joins = word_joins word (AreFew Is) (counted_text 10 spell) [] none_are
+  heading_joins : Joins any (always word) (λ it. AreCounted IsCount Is) (λ it. counted_text 10 spell) (AreCounted IsCount Is) section_text (λ it xs. xs)
+  heading_joins = word_joins word (AreCounted IsCount Is) (counted_text 10 spell) [] none_are
 
   behind_word : (bytes mid left : List ℕ) (r : Result (List A) Halt) → Reads any (always word) bytes mid (Ok tt)
-      → Reads (AreFew Is) (counted_text 10 spell) mid left r → Reads (AreFew Is) section_text bytes left r
-  behind_word bytes mid left r h k = subst (Reads (AreFew Is) section_text bytes left) (made_itself r)
-      (read_second any (always word) (λ it. AreFew Is) (λ it. counted_text 10 spell) (AreFew Is) section_text (λ it xs. xs) heading_joins
+      → Reads (AreCounted IsCount Is) (counted_text 10 spell) mid left r → Reads (AreCounted IsCount Is) section_text bytes left r
+  behind_word bytes mid left r h k = subst (Reads (AreCounted IsCount Is) section_text bytes left) (made_itself r)
+      (read_second any (always word) (λ it. AreCounted IsCount Is) (λ it. counted_text 10 spell) (AreCounted IsCount Is) section_text (λ it xs. xs) heading_joins
       (alone_word word) bytes mid left tt r h k)
 
-  pub section_word : (bytes left : List ℕ) (why : Halt) → Reads any (always word) bytes left (Err why) → Reads (AreFew Is) section_text bytes left (Err why)
+  pub section_word : (bytes left : List ℕ) (why : Halt) → Reads any (always word) bytes left (Err why) → Reads (AreCounted IsCount Is) section_text bytes left (Err why)
   section_word bytes left why r =
-      read_first any (always word) (λ it. AreFew Is) (λ it. counted_text 10 spell) (AreFew Is) section_text (λ it xs. xs) heading_joins bytes left why r
+      read_first any (always word) (λ it. AreCounted IsCount Is) (λ it. counted_text 10 spell) (AreCounted IsCount Is) section_text (λ it xs. xs) heading_joins bytes left why r
 
   pub section_count : (bytes mid left : List ℕ) (why : Halt) → Reads any (always word) bytes mid (Ok tt)
-      → Reads IsShort (number_text 10) mid left (Err why) → Reads (AreFew Is) section_text bytes left (Err why)
+      → Reads IsCount (number_text 10) mid left (Err why) → Reads (AreCounted IsCount Is) section_text bytes left (Err why)
   section_count bytes mid left why h k = behind_word bytes mid left (Err why) h
-      (read_first IsShort (number_text 10) (AreSo Is) (λ n. flat_map spell) (AreFew Is) (counted_text 10 spell) (λ n xs. xs) number_joins mid left why k)
+      (read_first IsCount (number_text 10) (AreSo Is) (λ n. flat_map spell) (AreCounted IsCount Is) (counted_text 10 spell) (λ n xs. xs) number_joins mid left why k)
 
   pub section_lines : (bytes mid behind left : List ℕ) (n : ℕ) (r : Result (List A) Halt) → Reads any (always word) bytes mid (Ok tt)
-      → Reads IsShort (number_text 10) mid behind (Ok n)
-      → Reads (AreSo Is n) (flat_map spell) behind left r → Reads (AreFew Is) section_text bytes left r
-  section_lines bytes mid behind left n r h k l = behind_word bytes mid left r h (subst (Reads (AreFew Is) (counted_text 10 spell) mid left) (made_itself r)
-      (read_second IsShort (number_text 10) (AreSo Is) (λ m. flat_map spell) (AreFew Is) (counted_text 10 spell) (λ m xs. xs) number_joins
-      (alone_short 10 low_feed) mid behind left n r k l))
+      → Reads IsCount (number_text 10) mid behind (Ok n)
+      → Reads (AreSo Is n) (flat_map spell) behind left r → Reads (AreCounted IsCount Is) section_text bytes left r
+  section_lines bytes mid behind left n r h k l = behind_word bytes mid left r h (subst (Reads (AreCounted IsCount Is) (counted_text 10 spell) mid left) (made_itself r)
+      (read_second IsCount (number_text 10) (AreSo Is) (λ m. flat_map spell) (AreCounted IsCount Is) (counted_text 10 spell) (λ m xs. xs) number_joins
+      count.alone mid behind left n r k l))
 
-  alone_counted : AreAlone (AreFew Is) (counted_text 10 spell)
-  alone_counted = alone_both IsShort (number_text 10) (AreSo Is) (λ n. flat_map spell) (AreFew Is) (counted_text 10 spell) (λ n xs. xs) number_joins
-      (alone_short 10 low_feed) (short_same 10 low_feed) (λ n is. alone_list Is spell alone one one_is n)
+  alone_counted : AreAlone (AreCounted IsCount Is) (counted_text 10 spell)
+  alone_counted = alone_both IsCount (number_text 10) (AreSo Is) (λ n. flat_map spell) (AreCounted IsCount Is) (counted_text 10 spell) (λ n xs. xs) number_joins
+      count.alone count.same (λ n is. alone_list Is spell alone one one_is n)
 
-  pub alone_section : AreAlone (AreFew Is) section_text
-  alone_section = alone_both any (always word) (λ it. AreFew Is) (λ it. counted_text 10 spell) (AreFew Is) section_text (λ it xs. xs) heading_joins
+  pub alone_section : AreAlone (AreCounted IsCount Is) section_text
+  alone_section = alone_both any (always word) (λ it. AreCounted IsCount Is) (λ it. counted_text 10 spell) (AreCounted IsCount Is) section_text (λ it xs. xs) heading_joins
       (alone_word word) (λ it other is also e. refl) (λ it is. alone_counted)
 
 -- ---- both
@@ -154,25 +167,25 @@ dead_text dead = heading ++ counted_text 10 edge_line dead
 abbrev pub cycles_text : List (List ℕ × Refutation) → List ℕ
 cycles_text cycles = between ++ counted_text 10 cycle_line cycles
 
-no_cycles : AreFew IsCycleEntry []
-no_cycles = ((let s : 0 < 2 ^ 32 = omega arith in s), tt)
+no_cycles : AreCounted IsLong IsCycleEntry []
+no_cycles = (long_counts.none, tt)
 
-both_joins : Joins (AreFew IsEdgeEntry) dead_text (λ d. AreFew IsCycleEntry) (λ d. cycles_text) IsSpeakable text_of (λ d c. record { dead = d; cycles = c })
-both_joins = pair_joins (AreFew IsEdgeEntry) dead_text (AreFew IsCycleEntry) cycles_text IsSpeakable text_of (λ d c. record { dead = d; cycles = c })
+both_joins : Joins (AreFew IsEdgeEntry) dead_text (λ d. AreCounted IsLong IsCycleEntry) (λ d. cycles_text) IsSpeakable text_of (λ d c. record { dead = d; cycles = c })
+both_joins = pair_joins (AreFew IsEdgeEntry) dead_text (AreCounted IsLong IsCycleEntry) cycles_text IsSpeakable text_of (λ d c. record { dead = d; cycles = c })
     (λ c. c.dead) (λ c. c.cycles)
     (λ c. refl) (λ d c. refl) (λ d c h k. (h, k)) (λ c is. is) [] no_cycles
 
 alone_dead : AreAlone (AreFew IsEdgeEntry) dead_text
-alone_dead = alone_section heading IsEdgeEntry edge_line alone_edge_line one_edge one_edge_is
+alone_dead = alone_section heading IsShort short_counts IsEdgeEntry edge_line alone_edge_line one_edge one_edge_is
 
 pub both_first : (bytes left : List ℕ) (why : Halt) → Reads (AreFew IsEdgeEntry) dead_text bytes left (Err why) → Reads IsSpeakable text_of bytes left (Err why)
 both_first bytes left why r =
-    read_first (AreFew IsEdgeEntry) dead_text (λ d. AreFew IsCycleEntry) (λ d. cycles_text) IsSpeakable text_of
+    read_first (AreFew IsEdgeEntry) dead_text (λ d. AreCounted IsLong IsCycleEntry) (λ d. cycles_text) IsSpeakable text_of
     (λ d c. record { dead = d; cycles = c }) both_joins bytes left why r
 
 pub both_second : (bytes mid left : List ℕ) (dead : List (ℕ × Refutation)) (r : Result (List (List ℕ × Refutation)) Halt)
     → Reads (AreFew IsEdgeEntry) dead_text bytes mid (Ok dead)
-    → Reads (AreFew IsCycleEntry) cycles_text mid left r → Reads IsSpeakable text_of bytes left (made_of (λ c. record { dead = dead; cycles = c }) r)
+    → Reads (AreCounted IsLong IsCycleEntry) cycles_text mid left r → Reads IsSpeakable text_of bytes left (made_of (λ c. record { dead = dead; cycles = c }) r)
 both_second bytes mid left dead r one two =
-    read_second (AreFew IsEdgeEntry) dead_text (λ d. AreFew IsCycleEntry) (λ d. cycles_text) IsSpeakable text_of
+    read_second (AreFew IsEdgeEntry) dead_text (λ d. AreCounted IsLong IsCycleEntry) (λ d. cycles_text) IsSpeakable text_of
     (λ d c. record { dead = d; cycles = c }) both_joins alone_dead bytes mid left dead r one two

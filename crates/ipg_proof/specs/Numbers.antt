@@ -1,5 +1,5 @@
 -- Numbers in the making: their digits, one by one.
-use Rattle.std.specs.Prelude.{◌≡◌, ℕ, ◌+◌, ◌-◌, ◌*◌, ◌^◌, ◌≤◌, ◌<◌, List, [], ◌∷◌, ◌++◌, length, decimal, Option, Some, None}
+use Rattle.std.specs.Prelude.{◌≡◌, ℕ, ◌+◌, ◌-◌, ◌*◌, ◌≤◌, ◌<◌, List, [], ◌∷◌, ◌++◌, length, decimal, Option, Some, None}
 
 abbrev pub IsDigit : ℕ → Type 0
 IsDigit b = (48 ≤ b) × (b ≤ 57)
@@ -20,33 +20,33 @@ abbrev pub IsNoStart : ℕ → List ℕ → Type 0
 IsNoStart least [] = Unit {0}
 IsNoStart least (b ∷ left) = (n : ℕ) → least ≤ n → ¬ Begun n b
 
--- no number goes on here
-abbrev pub IsDone : ℕ → List ℕ → Type 0
-IsDone v [] = Unit {0}
-IsDone v (b ∷ left) = (n : ℕ) → n < 2 ^ 32 → ¬ Goes v n b
+-- no number up to `most` goes on here
+abbrev pub IsDone : ℕ → ℕ → List ℕ → Type 0
+IsDone most v [] = Unit {0}
+IsDone most v (b ∷ left) = (n : ℕ) → n ≤ most → ¬ Goes v n b
 
 -- the bytes read are the digits of a number
-pub record IsNumber (least : ℕ) (bytes left : List ℕ) (v : ℕ) : Type 0 where
+pub record IsNumber (least most : ℕ) (bytes left : List ℕ) (v : ℕ) : Type 0 where
   pub splits : bytes ≡ decimal v ++ left
   pub above : least ≤ v
-  pub small : v < 2 ^ 32
+  pub small : v ≤ most
 
 abbrev pub FirstAnswer : ℕ → List ℕ → List ℕ → Option ℕ → Type 0
 FirstAnswer least bytes left None = (left ≡ bytes) × IsNoStart least bytes
-FirstAnswer least bytes left (Some v) = IsNumber least bytes left v
+FirstAnswer least bytes left (Some v) = IsNumber least 9 bytes left v
 
 -- a digit more
-pub record IsMore (v : ℕ) (bytes left : List ℕ) (next : ℕ) : Type 0 where
+pub record IsMore (most v : ℕ) (bytes left : List ℕ) (next : ℕ) : Type 0 where
   pub splits : decimal v ++ bytes ≡ decimal next ++ left
   pub above : v ≤ next
-  pub small : next < 2 ^ 32
+  pub small : next ≤ most
   pub less : length left < length bytes
 
-abbrev pub NextAnswer : ℕ → List ℕ → List ℕ → Option ℕ → Type 0
-NextAnswer v bytes left None = (left ≡ bytes) × IsDone v bytes
-NextAnswer v bytes left (Some next) = IsMore v bytes left next
+abbrev pub NextAnswer : ℕ → ℕ → List ℕ → List ℕ → Option ℕ → Type 0
+NextAnswer most v bytes left None = (left ≡ bytes) × IsDone most v bytes
+NextAnswer most v bytes left (Some next) = IsMore most v bytes left next
 
--- the number with one digit more, if it stays below 2^32 and has a digit to stand behind
-abbrev pub WithDigit : ℕ → ℕ → Option ℕ → Type 0
-WithDigit v d None = 1 ≤ v → 2 ^ 32 ≤ v * 10 + d
-WithDigit v d (Some next) = (1 ≤ v) × (next ≡ v * 10 + d) × (next < 2 ^ 32)
+-- the number with one digit more, if it stays within `most` and has a digit to stand behind
+abbrev pub WithDigit : ℕ → ℕ → ℕ → Option ℕ → Type 0
+WithDigit most v d None = 1 ≤ v → most < v * 10 + d
+WithDigit most v d (Some next) = (1 ≤ v) × (next ≡ v * 10 + d) × (next ≤ most)

@@ -46,10 +46,10 @@ any it = Unit {0}
 abbrev pub always : List ℕ → Unit {0} → List ℕ
 always word it = word
 
+-- a number from `least` to `most`
+abbrev pub IsWithin : ℕ → ℕ → ℕ → Type 0
+IsWithin least most n = (least ≤ n) × (n ≤ most)
+
 -- a number of 32 bits that is at least `least`
 abbrev pub IsFrom : ℕ → ℕ → Type 0
 IsFrom least n = (least ≤ n) × (n < 2 ^ 32)
-
--- a count and as many values
-abbrev pub AreCounted : {A : Type 0} → (ℕ → Type 0) → (A → Type 0) → List A → Type 0
-AreCounted IsCount Is values = IsCount (length values) × AllByRecursion Is values

@@ -43,6 +43,10 @@ text_of c = (heading ++ counted_text 10 edge_line c.dead) ++ (between ++ counted
 abbrev pub IsShort : ℕ → Type 0
 IsShort n = n < 2 ^ 32
 
+-- a number of 64 bits
+abbrev pub IsLong : ℕ → Type 0
+IsLong n = n < 2 ^ 64
+
 -- one whole tree, its numbers within their ranges
 pub record IsTree (r : Refutation) : Type 0 where
   pub tree : AreTrees 1 r.steps
@@ -51,16 +55,19 @@ pub record IsTree (r : Refutation) : Type 0 where
 abbrev pub IsEdgeEntry : ℕ × Refutation → Type 0
 IsEdgeEntry entry = IsShort entry.0 × IsTree entry.1
 
--- so few values that a count tells them, each such a one
+-- so many values as a count of such numbers tells, each such a one
+abbrev pub AreCounted : {A : Type 0} → (ℕ → Type 0) → (A → Type 0) → List A → Type 0
+AreCounted IsCount Is values = IsCount (length values) × AllByRecursion Is values
+
 abbrev pub AreFew : {A : Type 0} → (A → Type 0) → List A → Type 0
-AreFew Is values = IsShort (length values) × AllByRecursion Is values
+AreFew Is values = AreCounted IsShort Is values
 
 abbrev pub IsCycleEntry : List ℕ × Refutation → Type 0
 IsCycleEntry entry = (1 ≤ length entry.0) × AreFew IsShort entry.0 × IsTree entry.1
 
 -- what texts can say
 abbrev pub IsSpeakable : Certificate → Type 0
-IsSpeakable c = AreFew IsEdgeEntry c.dead × AreFew IsCycleEntry c.cycles
+IsSpeakable c = AreFew IsEdgeEntry c.dead × AreCounted IsLong IsCycleEntry c.cycles
 
 abbrev pub IsTextOf : Certificate → List ℕ → Type 0
 IsTextOf c text = IsSpeakable c × (text ≡ text_of c)

@@ -1,10 +1,10 @@
 //! Reads words, numbers and refutations.
 ghost use Rattle.std.specs.Prelude.{◌≡◌, ◌∷◌, ◌++◌, [], ◌≤◌, ◌<◌, ◌+◌, ◌^◌, length, drop, MatchOption};
 ghost use Rattle.std.specs.List.{flat_map};
-ghost use Rattle.ipg_proof.specs.Texts.{number_text, refutation_line, edge_line, cycle_line, counted_text, IsShort, IsTree, IsEdgeEntry, AreFew};
+ghost use Rattle.ipg_proof.specs.Texts.{number_text, refutation_line, edge_line, cycle_line, counted_text, IsShort, IsLong, IsTree, IsEdgeEntry, AreFew, AreCounted};
 ghost use Rattle.ipg_proof.specs.Texts.{IsCycleEntry, IsSpeakable, heading, between, text_of};
 ghost use Rattle.ipg_proof.specs.Numbers.{IsDigit, FirstAnswer, NextAnswer, WithDigit};
-ghost use Rattle.ipg_proof.specs.Reads.{Reads, AreSo, AreCounted, IsFrom, any, always};
+ghost use Rattle.ipg_proof.specs.Reads.{Reads, AreSo, IsFrom, IsWithin, any, always};
 
 use crate::certificate::Certificate;
 use ipg_cert::{Refutation, WordFault, refutation_read};
@@ -68,7 +68,7 @@ impl<'a> Reader<'a> {
     }
 
     /// The first digit of a number that is at least `least`.
-    fn first_digit(&mut self, least: u32) -> Option<u32>
+    fn first_digit(&mut self, least: u64) -> Option<u64>
         requires { least ≤ 1 }
         ensures { FirstAnswer least self.old.left.now self.new.left.now result }
     {
@@ -85,9 +85,9 @@ impl<'a> Reader<'a> {
         Some(digit)
     }
 
-    /// The number with the next digit behind those of `value`.
-    fn next_digit(&mut self, value: u32) -> Option<u32>
-        ensures { NextAnswer value self.old.left.now self.new.left.now result }
+    /// The number with the next digit behind those of `value`, if it is at most `most`.
+    fn next_digit(&mut self, most: u64, value: u64) -> Option<u64>
+        ensures { NextAnswer most value self.old.left.now self.new.left.now result }
     {
         let [first, rest @ ..] = self.left else {
             return None;
@@ -95,35 +95,60 @@ impl<'a> Reader<'a> {
         let Some(digit) = digit_of(*first) else {
             return None;
         };
-        let Some(next) = with_digit(value, digit) else {
+        let Some(next) = with_digit(most, value, digit) else {
             return None;
         };
         self.left = rest;
         Some(next)
     }
 
-    /// A number of 32 bits that is at least `least`, and the byte behind it.
-    fn number_from(&mut self, least: u32, stop: u8) -> Result<u32, Halt>
+    /// A number from `least` to `most`, and the byte behind it.
+    fn number_within(&mut self, least: u64, most: u64, stop: u8) -> Result<u64, Halt>
         requires least { least ≤ 1 }
+        requires most { 9 ≤ most }
         requires stop { stop < 48 }
-        ensures { Reads (IsFrom least) (number_text stop) self.old.left.now self.new.left.now result }
+        ensures { Reads (IsWithin least most) (number_text stop) self.old.left.now self.new.left.now result }
     {
         let Some(mut value) = self.first_digit(least) else {
             return Err(Halt::Here);
         };
-        while let Some(next) = self.next_digit(value) {
+        while let Some(next) = self.next_digit(most, value) {
             value = next;
         }
         self.byte(stop)?;
         Ok(value)
     }
 
+    /// A number of 32 bits that is at least `least`, and the byte behind it.
+    fn number_from(&mut self, least: u64, stop: u8) -> Result<u64, Halt>
+        requires least { least ≤ 1 }
+        requires stop { stop < 48 }
+        ensures { Reads (IsFrom least) (number_text stop) self.old.left.now self.new.left.now result }
+    {
+        self.number_within(least, u64::from(u32::MAX), stop)
+    }
+
     /// A number of 32 bits, and the byte behind it.
-    fn number(&mut self, stop: u8) -> Result<u32, Halt>
+    fn short(&mut self, stop: u8) -> Result<u64, Halt>
         requires { stop < 48 }
         ensures { Reads IsShort (number_text stop) self.old.left.now self.new.left.now result }
     {
         self.number_from(0, stop)
+    }
+
+    /// A number of 64 bits, and the byte behind it.
+    fn long(&mut self, stop: u8) -> Result<u64, Halt>
+        requires { stop < 48 }
+        ensures { Reads IsLong (number_text stop) self.old.left.now self.new.left.now result }
+    {
+        self.number_within(0, u64::MAX, stop)
+    }
+
+    fn edge(&mut self) -> Result<u32, Halt>
+        ensures { Reads IsShort (number_text 32) self.old.left.now self.new.left.now result }
+    {
+        let edge = self.short(b' ')?;
+        Ok(edge as u32)
     }
 
     /// A refutation's words and a line feed.
@@ -144,12 +169,12 @@ impl<'a> Reader<'a> {
     }
 
     /// So many numbers, each with a space behind it.
-    fn numbers(&mut self, alloc: Global, count: u32) -> Result<List<u32>, Halt>
+    fn numbers(&mut self, alloc: Global, count: u64) -> Result<List<u32>, Halt>
         ensures { Reads (AreSo IsShort count) (flat_map (number_text 32)) self.old.left.now self.new.left.now result }
     {
         let mut numbers = Vec::new(alloc);
         for _at in 0..count {
-            let number = self.number(b' ')?;
+            let number = self.edge()?;
             numbers.push(number)?;
         }
         Ok(List::from_vec(numbers))
@@ -166,7 +191,7 @@ impl<'a> Reader<'a> {
     fn edge_line(&mut self, alloc: Global) -> Result<(u32, Refutation), Halt>
         ensures { Reads IsEdgeEntry edge_line self.old.left.now self.new.left.now result }
     {
-        let edge = self.number(b' ')?;
+        let edge = self.edge()?;
         let refutation = self.refutation(alloc)?;
         Ok((edge, refutation))
     }
@@ -179,7 +204,7 @@ impl<'a> Reader<'a> {
         Ok((cycle, refutation))
     }
 
-    fn edge_lines(&mut self, alloc: Global, count: u32) -> Result<List<(u32, Refutation)>, Halt>
+    fn edge_lines(&mut self, alloc: Global, count: u64) -> Result<List<(u32, Refutation)>, Halt>
         ensures { Reads (AreSo IsEdgeEntry count) (flat_map edge_line) self.old.left.now self.new.left.now result }
     {
         let mut entries = Vec::new(alloc);
@@ -193,7 +218,7 @@ impl<'a> Reader<'a> {
     fn cycle_lines(
         &mut self,
         alloc: Global,
-        count: u32,
+        count: u64,
     ) -> Result<List<(List<u32>, Refutation)>, Halt>
         ensures { Reads (AreSo IsCycleEntry count) (flat_map cycle_line) self.old.left.now self.new.left.now result }
     {
@@ -209,15 +234,15 @@ impl<'a> Reader<'a> {
         ensures { Reads (AreFew IsEdgeEntry) (λ dead. heading ++ counted_text 10 edge_line dead) self.old.left.now self.new.left.now result }
     {
         self.word(b"ipgcert 2\ndead ")?;
-        let count = self.number(b'\n')?;
+        let count = self.short(b'\n')?;
         self.edge_lines(alloc, count)
     }
 
     fn cycles(&mut self, alloc: Global) -> Result<List<(List<u32>, Refutation)>, Halt>
-        ensures { Reads (AreFew IsCycleEntry) (λ cycles. between ++ counted_text 10 cycle_line cycles) self.old.left.now self.new.left.now result }
+        ensures { Reads (AreCounted IsLong IsCycleEntry) (λ cycles. between ++ counted_text 10 cycle_line cycles) self.old.left.now self.new.left.now result }
     {
         self.word(b"cycles ")?;
-        let count = self.number(b'\n')?;
+        let count = self.long(b'\n')?;
         self.cycle_lines(alloc, count)
     }
 
@@ -238,26 +263,26 @@ fn after(bytes: &[u8], n: usize) -> &[u8]
     &bytes[n..]
 }
 
-fn digit_of(b: u8) -> Option<u32>
+fn digit_of(b: u8) -> Option<u64>
     ensures { MatchOption result (IsDigit b → ⊥) (λ d. (b ≡ 48 + d) × (d ≤ 9)) }
 {
     if b < b'0' || b'9' < b {
         return None;
     }
-    Some(u32::from(b - b'0'))
+    Some(u64::from(b - b'0'))
 }
 
-/// The number with one digit more, if it is of 32 bits; 0 has none behind it.
-fn with_digit(value: u32, digit: u32) -> Option<u32>
+/// The number with one digit more, if it is at most `most`; 0 has none behind it.
+fn with_digit(most: u64, value: u64, digit: u64) -> Option<u64>
     requires { digit ≤ 9 }
-    ensures { WithDigit value digit result }
+    ensures { WithDigit most value digit result }
 {
     if value == 0 {
         return None;
     }
-    let next = u64::from(value) * 10 + u64::from(digit);
-    if next <= u64::from(u32::MAX) {
-        Some(next as u32)
+    let next = u128::from(value) * 10 + u128::from(digit);
+    if next <= u128::from(most) {
+        Some(next as u64)
     } else {
         None
     }

@@ -1,30 +1,10 @@
-use Rattle.std.proofs.Common.{subst, [], ◌∷◌, Ok, Err}
 use Rattle.ipg_proof.specs.Texts.{number_text}
-use Rattle.ipg_proof.specs.Reads.{Reads, IsFrom, any, always}
-use Rattle.ipg_proof.proofs.Readers.{exits}
-use Rattle.ipg_proof.proofs.Digits.{number_ends, number_absent}
+use Rattle.ipg_proof.specs.Reads.{IsFrom, IsWithin}
+use Rattle.ipg_proof.proofs.Readers.{read_same}
+use Rattle.ipg_proof.proofs.Digits.{from_is, from_within}
 use Rattle.ipg_proof.proofs.reader.Reader.number_from.Goals as goal
-
-pub returns-in_default : goal.returns-in_default
-returns-in_default c =
-    number_absent c.args.stop c.args.least c.args.self.now.left.now c.first_digit.new.self.left.now c.requires.least c.requires.stop
-    c.in_default.ensures.0 c.in_default.ensures.1
-
-pub returns-in_err-byte : goal.returns-in_err-byte
-returns-in_err-byte c =
-    let stop = c.args.stop in
-    let first = c.args.self.now.left.now in
-    let left = c.byte.new.self.left.now in
-    let why = c.in_err-byte.field-0.0 in
-    let there = subst (λ l. Reads any (always (stop ∷ [])) l left (Err why)) c.in_default-next_digit.ensures.0 c.in_err-byte.ensures in
-    exits (IsFrom c.args.least) (number_text stop) first left c.from_residual.result why c.from_residual.ensures.1
-    (number_ends stop c.args.least c.loop-next.value first c.loop-next.self.left.now left (Err why) c.requires.stop c.loop-next.invariant
-    c.in_default-next_digit.ensures.1 there)
 
 pub returns : goal.returns
 returns c =
-    let stop = c.args.stop in
-    let left = c.byte.new.self.left.now in
-    let there = subst (λ l. Reads any (always (stop ∷ [])) l left (Ok tt)) c.in_default-next_digit.ensures.0 c.in_ok-byte.ensures in
-    number_ends stop c.args.least c.loop-next.value c.args.self.now.left.now c.loop-next.self.left.now left (Ok tt) c.requires.stop
-    c.loop-next.invariant c.in_default-next_digit.ensures.1 there
+    read_same (IsWithin c.args.least 4294967295) (IsFrom c.args.least) (number_text c.args.stop) c.args.self.now.left.now c.number_within.new.self.left.now
+    c.number_within.result (from_is c.args.least) (from_within c.args.least) c.number_within.ensures

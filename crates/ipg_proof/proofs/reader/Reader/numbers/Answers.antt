@@ -12,7 +12,7 @@ returns-in_err-number c =
     let count = c.args.count in
     let first = c.args.self.now.left.now in
     let at = c.loop-at._at in
-    let left = c.number.new.self.left.now in
+    let left = c.edge.new.self.left.now in
     let why = c.in_err-number.field-0.0 in
     let size : count - at ≡ suc (count - (at + 1)) = omega (arith, c.loop-at-test.true) in
     exits (AreSo IsShort count) (flat_map (number_text 32)) first left c.from_residual.result why c.from_residual.ensures.1
@@ -37,7 +37,7 @@ loop-at-preserved c =
     let count = c.args.count in
     let first = c.args.self.now.left.now in
     let at = c.loop-at._at in
-    let left = c.number.new.self.left.now in
+    let left = c.edge.new.self.left.now in
     let size : count - at ≡ suc (count - (at + 1)) = omega (arith, c.loop-at-test.true) in
     subst (λ xs. ListGoes IsShort (number_text 32) (alone_short 32 low) 1 one_short count first xs (count - (at + 1)) left) (sym c.in_ok-push.ensures.items)
     (list_more IsShort (number_text 32) (alone_short 32 low) 1 one_short count first c.loop-at.numbers.items (count - at) (count - (at + 1))

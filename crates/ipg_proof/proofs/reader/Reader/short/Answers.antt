@@ -2,7 +2,7 @@ use Rattle.ipg_proof.specs.Texts.{number_text, IsShort}
 use Rattle.ipg_proof.specs.Reads.{IsFrom}
 use Rattle.ipg_proof.proofs.Readers.{read_same}
 use Rattle.ipg_proof.proofs.Digits.{short_is}
-use Rattle.ipg_proof.proofs.reader.Reader.number.Goals as goal
+use Rattle.ipg_proof.proofs.reader.Reader.short.Goals as goal
 
 pub returns : goal.returns
 returns c =
