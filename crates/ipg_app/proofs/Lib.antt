@@ -7,3 +7,4 @@ pub mod OneCheck
 pub mod OneVerdict
 pub mod OneParse
 pub mod Meant
+pub mod Verified

@@ -5,13 +5,14 @@ use Rattle.ipg_proof.specs.declared.certificate.Certificate.{Certificate}
 use Rattle.ipg_proof.specs.declared.fault.ProofWhy.{ProofWhy}
 use Rattle.ipg_proof.specs.declared.fault.ProofWhy.TheVariants.{Mismatch, Unsound, Memory}
 use Rattle.ipg_proof.specs.Proves.{Proves, IsFault}
-use Rattle.ipg_proof.specs.Texts.{text_of, IsTextOf, IsTextFault}
+use Rattle.ipg_proof.specs.Texts.{text_of, IsSpeakable, IsTextOf, IsTextFault}
 use Rattle.ipg_app.specs.Said.{Said, done, done_line, bad_proof}
 
--- the text of some certificate that proves the grammar
+-- the text of some certificate that proves the grammar, and that texts can say
 pub record Certifies (g : Grammar) (said : Said) : Type 0 where
   pub certificate : Certificate
   pub proves : Proves g certificate
+  pub speakable : IsSpeakable certificate
   pub is : said ≡ done (text_of certificate)
 
 -- ---- C1: the text is a certificate's
@@ -24,8 +25,13 @@ pub record IsNoText (text : List ℕ) (said : Said) : Type 0 where
   pub fault : IsTextFault text at
   pub is : said ≡ cert_text at
 
+-- the text of this certificate, and of no other
+pub record IsOnlyOf (text : List ℕ) (c : Certificate) : Type 0 where
+  pub is : IsTextOf c text
+  pub only : (other : Certificate) → IsTextOf other text → c ≡ other
+
 abbrev pub Reads : List ℕ → Result Certificate Said → Type 0
-Reads text (Ok c) = IsTextOf c text
+Reads text (Ok c) = IsOnlyOf text c
 Reads text (Err said) = IsNoText text said
 
 -- ---- C2 and C3: its entries are those that are due, and its refutations check

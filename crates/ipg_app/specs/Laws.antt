@@ -1,11 +1,12 @@
 -- What holds of core grammars and refusals.
-use Rattle.std.specs.Prelude.{◌≡◌, ◌≢◌, ℕ, List}
-use Rattle.ipg_outside.specs.Files.{Told, untold}
+use Rattle.std.specs.Prelude.{◌≡◌, ◌≢◌, ◌≤◌, ℕ, List, length}
+use Rattle.ipg_outside.specs.Files.{Told, untold, holds}
 use Rattle.ipg_core.specs.Grammar.{Grammar}
 use Rattle.ipg_app_words.specs.Request.{Check}
-use Rattle.ipg_app.specs.Said.{Said}
+use Rattle.ipg_app.specs.Said.{Said, done}
 use Rattle.ipg_app.specs.Order.{Answers}
-use Rattle.ipg_app.specs.Reply.{use_order, Parses}
+use Rattle.ipg_app.specs.Reply.{use_order, verify, max_input, Parses}
+use Rattle.ipg_app.specs.Certificate.{Certifies, verified}
 use Rattle.ipg_app.specs.CoreOf.{Answer, CoreOf}
 use Rattle.ipg_app.specs.Checks.{Checks}
 
@@ -25,3 +26,8 @@ OneParse = (g : Grammar) (input : List ℕ) (one other : Said) → Parses g inpu
 abbrev pub OneVerdict : Type 0
 OneVerdict = (told : List ℕ → Told) (name : List ℕ) (one other : Said) → told name ≢ untold → Answers told (use_order name Check) one
     → Answers told (use_order name Check) other → one ≡ other
+
+-- of a file that holds what `cert` writes of a grammar, `verify` says `verified`, if it has at most 2^30 bytes
+abbrev pub CertIsVerified : Type 0
+CertIsVerified = (g : Grammar) (text : List ℕ) → Certifies g (done text) → length text ≤ max_input
+    → (told : List ℕ → Told) (name : List ℕ) (said : Said) → told name ≡ holds text → Answers told (verify name g) said → said ≡ verified

@@ -1,7 +1,7 @@
 //! Checks that parsing by a core grammar ends.
 ghost use Rattle.std.specs.Prelude.{◌≡◌, Ok, Err, IfOk, MatchResult};
 ghost use Rattle.ipg_proof.specs.Proves.{Proves};
-ghost use Rattle.ipg_proof.specs.Texts.{text_of};
+ghost use Rattle.ipg_proof.specs.Texts.{text_of, IsSpeakable};
 ghost use Rattle.ipg_term.specs.Loops.{IsReason};
 ghost use Rattle.ipg_app.specs.Said.{done};
 ghost use Rattle.ipg_app.specs.Checks.{Checks, IsLoop};
@@ -13,7 +13,8 @@ use crate::looping::may_loop;
 use crate::said::{Settled, line};
 use crate::status::Status;
 use ipg_core::accepted::{Checked, Core};
-use ipg_proof::{Certificate, cert_text};
+use ipg_proof::laws::proves_is_speakable;
+use ipg_proof::{Certificate, cert_text, is_typed};
 use ipg_term::{TermFault, TermWhy, check};
 use std::alloc::{AllocError, Global};
 
@@ -58,9 +59,22 @@ pub fn say_cert(alloc: Global, core: Core) -> Result<Settled, AllocError>
     ensures { IfOk result (λ settled. Says (cert core) (said_of settled)) }
 {
     match accepted(alloc, core)? {
-        Ok((_, certificate)) => written(alloc, &certificate),
+        Ok((grammar, certificate)) => {
+            is_speakable(&grammar, &certificate);
+            written(alloc, &certificate)
+        }
         Err(settled) => Ok(settled),
     }
+}
+
+/// Texts can say a certificate that proves a grammar.
+fn is_speakable(grammar: &Checked, certificate: &Certificate)
+    requires { Proves grammar.now certificate.now }
+    ensures { IsSpeakable certificate.now }
+{
+    let _rules = grammar.core().rules();
+    is_typed(certificate);
+    proves_is_speakable();
 }
 
 fn written(alloc: Global, certificate: &Certificate) -> Result<Settled, AllocError>

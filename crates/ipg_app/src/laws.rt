@@ -1,6 +1,6 @@
 //! What holds of core grammars, the contract of a function that does nothing.
 
-ghost use Rattle.ipg_app.specs.Laws.{OneCore, OneCheck, OneParse, OneVerdict};
+ghost use Rattle.ipg_app.specs.Laws.{CertIsVerified, OneCore, OneCheck, OneParse, OneVerdict};
 
 use ipg_core::laws::heights_agree;
 use ipg_order::laws::{good_is_not_stuck, orders_once, stuck_once};
@@ -38,4 +38,11 @@ pub fn one_verdict()
 {
     one_core();
     one_check();
+}
+
+/// Of a file that holds what `cert` writes `verify` says one thing, that it proves the grammar.
+pub fn cert_is_verified()
+    ensures { CertIsVerified }
+{
+    one_limit();
 }

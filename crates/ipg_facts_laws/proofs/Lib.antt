@@ -41,3 +41,4 @@ pub mod Live
 pub mod Totals
 pub mod Nesting
 pub mod Solving
+pub mod Offers

@@ -22,3 +22,5 @@ pub mod Conditions
 pub mod Nest
 -- what the laws of ending say
 pub mod Ends
+-- conditions leave no empty choice
+pub mod Offers

@@ -1,6 +1,7 @@
 //! Laws of the conditions, each the contract of a function that does nothing.
 
 ghost use Rattle.ipg_facts_laws.specs.Bounded.{JointIsPart};
+ghost use Rattle.ipg_facts_laws.specs.Offers.{ConditionsOffer, JointsOffer};
 ghost use Rattle.ipg_facts_laws.specs.Laws.{ConditionsAreParts, EdgesAreFew, EdgesAreInside, EdgesCall, FactsSolve, JointSolvesParts, MembersAreKnown};
 ghost use Rattle.ipg_facts_laws.specs.Laws.{OwnMembersAreKnown, PartsSolveJoint, ReachedCyclesSolve, ReachedEdgesSolve, SpellingsDiffer, TermsAreKnown};
 ghost use Rattle.ipg_facts_laws.specs.Laws.{ValuesAreKnown, ValuesStay};
@@ -97,3 +98,13 @@ pub fn reached_cycles_solve()
     lies_within();
     touching_touches();
 }
+
+/// Each Any of an edge's conditions has a member.
+pub fn conditions_offer()
+    ensures { ConditionsOffer }
+{}
+
+/// Each Any of a joint has one, where that is so of its parts.
+pub fn joints_offer()
+    ensures { JointsOffer }
+{}

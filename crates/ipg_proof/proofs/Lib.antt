@@ -10,3 +10,5 @@ pub mod Worth
 pub mod Parts
 pub mod Graphs
 pub mod Alive
+pub mod Shapes
+pub mod Speaks

@@ -8,6 +8,8 @@ pub mod Proves
 pub mod Worth
 -- texts
 pub mod Texts
+-- that texts can say what proves
+pub mod Speaks
 -- what the parts inside promise each other
 pub mod Seen
 pub mod Reads

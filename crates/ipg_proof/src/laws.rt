@@ -1,11 +1,14 @@
 //! What a certificate is worth, and which cycles it needn't speak of: laws, each the contract of a function that calls only the laws it stands on.
 
 ghost use Rattle.ipg_proof.specs.Cycles.{LiveCyclesAreCycles, LoopsAreLive};
+ghost use Rattle.ipg_proof.specs.Speaks.{ProvesIsSpeakable};
 ghost use Rattle.ipg_proof.specs.Worth.{AcceptsIsTotal, ProvesIsAccepted, ProvesIsTotal};
 
 use ipg_cert::laws::checks_refute;
 use ipg_facts_laws::ending::ends_where_none_solve;
-use ipg_facts_laws::laws::{conditions_are_parts, joint_solves_parts};
+use ipg_facts_laws::laws::{
+    conditions_are_parts, conditions_offer, edges_are_few, joint_solves_parts, joints_offer,
+};
 use ipg_graph::runs_are_whole;
 
 /// A grammar that a certificate proves is accepted: none of its cycles can be walked on one length of the part.
@@ -30,6 +33,15 @@ pub fn accepts_is_total()
     ensures { AcceptsIsTotal }
 {
     ends_where_none_solve();
+}
+
+/// A certificate in memory that proves a good grammar is one that texts can say.
+pub fn proves_is_speakable()
+    ensures { ProvesIsSpeakable }
+{
+    edges_are_few();
+    conditions_offer();
+    joints_offer();
 }
 
 /// The cycles of the edges that aren't dead are cycles of all edges.

@@ -12,6 +12,7 @@ mod live;
 mod placing;
 mod reader;
 mod reading;
+mod speaking;
 mod text;
 mod verifying;
 
@@ -22,5 +23,6 @@ pub use fault::{CertFault, ProofFault, ProofWhy};
 pub use judging::judged;
 pub use live::live_cycles;
 pub use reading::cert_read;
+pub use speaking::is_typed;
 pub use text::cert_text;
 pub use verifying::verify;

@@ -12,12 +12,12 @@ use Rattle.ipg_app.proofs.checks.say_cert.Goals as goal
 pub returns-in-Ok : goal.returns-in-Ok
 returns-in-Ok c =
     let core = c.args.core in
-    let same = c.in-Ok.field-0-0 in
+    let same = c.in-Ok.grammar in
     let certificate = c.in-Ok.certificate in
     let checks : Checks core (Ok same) = rw c.in-Ok.is at c.in_ok-certificate.ensures.checks in
     let proves : Proves same certificate = rw c.in-Ok.is at c.in_ok-certificate.ensures.proved in
     IfOk-weaker c.written.result (λ s. said_of s ≡ done (text_of certificate)) (λ s. Says (cert core) (said_of s))
-    (λ s e told. (Ok same, checks, record { certificate = certificate; proves = proves; is = e })) c.written.ensures
+    (λ s e told. (Ok same, checks, record { certificate = certificate; proves = proves; speakable = c.is_speakable.ensures; is = e })) c.written.ensures
 
 pub returns : goal.returns
 returns c =

@@ -1,0 +1,27 @@
+-- Conditions leave no empty choice: each Any of theirs has a member.
+use Rattle.std.specs.Prelude.{◌≡◌, List, Bool, true, ◌&&◌, nat_lt, length}
+use Rattle.std.specs.List.{AllByRecursion}
+use Rattle.ipg_core.specs.Grammar.{Grammar}
+use Rattle.ipg_core.specs.MustTouch.{Marks}
+use Rattle.ipg_graph.specs.declared.edge.Edge.{Edge}
+use Rattle.ipg_lin.specs.Formula.{every}
+use Rattle.ipg_lin.specs.declared.formula.Formula.{Formula, fold-Formula}
+use Rattle.ipg_lin.specs.declared.formula.Formula.TheOpen.{Formula-F}
+use Rattle.ipg_lin.specs.declared.formula.Boxed.{Boxed}
+use Rattle.ipg_facts.specs.Numbers.{keep}
+use Rattle.ipg_facts.specs.Joint.{joint}
+
+abbrev pub offers_step : Formula-F Bool → Bool
+offers_step (Formula-F.Atom form) = true
+offers_step (Formula-F.All members) = every members
+offers_step (Formula-F.Any members) = nat_lt 0 (length members) && every members
+
+-- each Any of a formula has a member
+abbrev pub offers : Formula → Bool
+offers = fold-Formula Bool offers_step
+
+abbrev pub ConditionsOffer : Type 0
+ConditionsOffer = (g : Grammar) (marks : Marks) (e : Edge) → offers (keep g marks e).0 ≡ true
+
+abbrev pub JointsOffer : Type 0
+JointsOffer = (parts : List (Formula × Boxed)) → AllByRecursion (λ part. offers part.0 ≡ true) parts → offers (joint parts).0 ≡ true
