@@ -1,6 +1,6 @@
 -- Conditions leave no empty choice.
 use Rattle.std.proofs.Common.{◌≡◌, ℕ, zero, suc, ◌+◌, Bool, true, false, ◌&&◌, List, [], ◌∷◌, ◌++◌, map, length, refl, sym, ap, subst, ◌∙◌, ℤ, pos, negsuc}
-use Rattle.std.proofs.Common.{Option, Some, None, if◌then◌else◌, replicate}
+use Rattle.std.proofs.Common.{Option, Some, None, if◌then◌else◌, replicate, arith}
 use Rattle.std.specs.Prelude.{slice_get, slice_set, flat_map, bytes_eq, nat_eq, nat_lt, codes, ◌+ℤ◌}
 use Rattle.std.specs.List.{AllByRecursion, filter}
 use Rattle.ipg_num.specs.declared.op.Op2.{Op2}
@@ -34,7 +34,8 @@ use Rattle.ipg_facts.specs.Form.{variable, number, add_part, add_parts, plus, mi
 use Rattle.ipg_facts.specs.Form.{mentioned, facts_of, bare, at_most_zero, leq, less, both_at_most_zero, equal, choice, differ}
 use Rattle.ipg_facts.specs.Reading.{Scope, Reading, length_of, opaque, nought, plain, ranges, greatest, greatest_of, least_width, item_at, item_facts, inside}
 use Rattle.ipg_facts.specs.Reading.{if_there, touching, after_facts, product, computed, limited, asserted, denied, reading, read, form}
-use Rattle.ipg_facts.specs.Members as spec
+use Rattle.ipg_facts.specs.Members.{arrays_with, attr_ranges, branches, end_of, is_valid, is_whole, members, number_ranges, number_touches, on_interval, own_at, own_members, passed, passed_all}
+use Rattle.ipg_facts.specs.Members.{primitive_touches, rule_touches, runs, slot_members, start_of, takes, terms_members, text_touches, touches, touches_all, touches_first, touches_none, touches_some}
 use Rattle.ipg_facts.specs.Keep.{opening, before, mentions_holder, alt_at, held_facts, held, holder_facts, caller_facts, rule_facts, edge_facts}
 use Rattle.ipg_facts.specs.Holder.{kept}
 use Rattle.ipg_facts.specs.Numbers.{keys_of, formula_of, formula_step, keep}
@@ -45,13 +46,13 @@ use Rattle.ipg_lin.specs.Members.{by_members, folds-Atom, folds-All, folds-Any}
 use Rattle.ipg_lin.specs.declared.formula.Formula.{Formula}
 use Rattle.ipg_lin.specs.declared.formula.Formula.TheVariants as formula
 use Rattle.ipg_lin.specs.declared.formula.Boxed.{Boxed}
-use Rattle.ipg_facts_laws.specs.Offers.{offers, offers_step, ConditionsOffer, JointsOffer}
+use Rattle.ipg_facts_laws.specs.Offers.{offers, offers_step, some_and_every, ConditionsOffer, JointsOffer}
 use Rattle.ipg_facts_laws.proofs.Induct.{Sure, bare as bare_expr, induct}
 
 abbrev offers_fact_step : Fact-F Bool → Bool
 offers_fact_step (Fact-F.Atom draft) = true
 offers_fact_step (Fact-F.All members) = every members
-offers_fact_step (Fact-F.Any members) = nat_lt 0 (length members) && every members
+offers_fact_step (Fact-F.Any members) = some_and_every members
 
 -- each Any of a fact has a member
 abbrev pub offers_fact : Fact → Bool
@@ -277,7 +278,8 @@ abbrev pub ScopeOffers : Scope → Type 0
 ScopeOffers scope = AllByRecursion BoundsOffer scope.arrays
 
 bounds_at : (arrays : List (Option Bounds)) (n : ℕ) → AllByRecursion BoundsOffer arrays → BoundsOffer (if_there (slice_get arrays n))
-bounds_at [] n h = tt
+bounds_at [] zero h = tt
+bounds_at [] (suc n) h = tt
 bounds_at (b ∷ arrays) zero h = h.0
 bounds_at (b ∷ arrays) (suc n) h = bounds_at arrays n h.1
 
@@ -324,6 +326,53 @@ module _ (scope : Scope) (known : ScopeOffers scope) where
   of_touching term =
       bounds_or_none (nat_lt 0 (least_width scope.marks (item_at scope term))) (if_there (slice_get scope.arrays term)) (bounds_at scope.arrays term known)
 
+  of_not : (a : Reading) (words : List ℕ) → Offers a
+      → Offers (record { words = words; form = opaque scope words; holds = a.fails; fails = a.holds })
+  of_not a words h = record { form = of_opaque words; holds = h.fails; fails = h.holds }
+
+  of_two : (op : Op2) (a b : Reading) (words : List ℕ) → Offers a → Offers b
+      → (let form = limited scope words (computed op a.form b.form) in
+      Offers (record { words = words; form = form; holds = asserted op a.form b.form form; fails = denied op a.form b.form form }))
+  of_two op a b words h k =
+      let form : Form = limited scope words (computed op a.form b.form) in
+      let made : FormOffers form = of_limited words (computed op a.form b.form) (of_computed op a.form b.form h.form k.form) in
+      record { form = made; holds = of_asserted op a.form b.form form h.form k.form made; fails = of_denied op a.form b.form form h.form k.form made }
+
+  of_and : (a b : Reading) (words : List ℕ) → Offers a → Offers b
+      → Offers (record { words = words; form = opaque scope words; holds = a.holds ++ b.holds; fails = choice a.fails (a.holds ++ b.fails) })
+  of_and a b words h k = record {
+    form = of_opaque words;
+    holds = join a.holds b.holds h.holds k.holds;
+    fails = either a.fails (a.holds ++ b.fails) h.fails (join a.holds b.fails h.holds k.fails);
+  }
+
+  of_or : (a b : Reading) (words : List ℕ) → Offers a → Offers b
+      → Offers (record { words = words; form = opaque scope words; holds = choice a.holds (a.fails ++ b.holds); fails = a.fails ++ b.fails })
+  of_or a b words h k = record {
+    form = of_opaque words;
+    holds = either a.holds (a.fails ++ b.holds) h.holds (join a.fails b.holds h.fails k.holds);
+    fails = join a.fails b.fails h.fails k.fails;
+  }
+
+  abbrev conditional : List ℕ → Reading → Reading → Reading → Reading
+  conditional words c a b = record {
+    words = words;
+    form = variable (value scope.side words) (choice (c.holds ++ equal (opaque scope words) a.form) (c.fails ++ equal (opaque scope words) b.form));
+    holds = choice (c.holds ++ a.holds) (c.fails ++ b.holds);
+    fails = choice (c.holds ++ a.fails) (c.fails ++ b.fails);
+  }
+
+  of_cond : (c a b : Reading) (words : List ℕ) → Offers c → Offers a → Offers b → Offers (conditional words c a b)
+  of_cond c a b words h k l =
+      let v : Form = opaque scope words in
+      record {
+        form = of_variable (value scope.side words) _ (either (c.holds ++ equal v a.form) (c.fails ++ equal v b.form)
+            (join c.holds (equal v a.form) h.holds (of_equal v a.form (of_opaque words) k.form))
+            (join c.fails (equal v b.form) h.fails (of_equal v b.form (of_opaque words) l.form)));
+        holds = either (c.holds ++ a.holds) (c.fails ++ b.holds) (join c.holds a.holds h.holds k.holds) (join c.fails b.holds h.fails l.holds);
+        fails = either (c.holds ++ a.fails) (c.fails ++ b.fails) (join c.holds a.fails h.holds k.fails) (join c.fails b.fails h.fails l.fails);
+      }
+
   abbrev IsOffering : CoreExpr → Type 0
   IsOffering e = Offers (read scope e)
 
@@ -343,39 +392,11 @@ module _ (scope : Scope) (known : ScopeOffers scope) where
       of_plain _ _ (of_variable _ _ (of_after (touching scope term) _ (read scope left.0).form (of_touching term) (of_opaque _) left.1.form))
   layer (CoreExpr-F.Neg a) =
       of_plain _ _ (of_limited _ (Some (scaled (negsuc 0) (read scope a.0).form)) (of_scaled (negsuc 0) (read scope a.0).form a.1.form))
-  layer (CoreExpr-F.Not a) = record { form = of_opaque _; holds = a.1.fails; fails = a.1.holds }
-  layer (CoreExpr-F.Two op a b) =
-      let x : Form = (read scope a.0).form in
-      let y : Form = (read scope b.0).form in
-      let made = of_limited _ (computed op x y) (of_computed op x y a.1.form b.1.form) in
-      record { form = made; holds = of_asserted op x y _ a.1.form b.1.form made; fails = of_denied op x y _ a.1.form b.1.form made }
-  layer (CoreExpr-F.Both a b) =
-      let x : Reading = read scope a.0 in
-      let y : Reading = read scope b.0 in
-      record {
-        form = of_opaque _;
-        holds = join x.holds y.holds a.1.holds b.1.holds;
-        fails = either x.fails (x.holds ++ y.fails) a.1.fails (join x.holds y.fails a.1.holds b.1.fails);
-      }
-  layer (CoreExpr-F.Either a b) =
-      let x : Reading = read scope a.0 in
-      let y : Reading = read scope b.0 in
-      record {
-        form = of_opaque _;
-        holds = either x.holds (x.fails ++ y.holds) a.1.holds (join x.fails y.holds a.1.fails b.1.holds);
-        fails = join x.fails y.fails a.1.fails b.1.fails;
-      }
-  layer (CoreExpr-F.Cond c a b) =
-      let r : Reading = read scope c.0 in
-      let x : Reading = read scope a.0 in
-      let y : Reading = read scope b.0 in
-      record {
-        form = of_variable _ _ (either _ _
-            (join r.holds _ c.1.holds (of_equal _ x.form (of_opaque _) a.1.form))
-            (join r.fails _ c.1.fails (of_equal _ y.form (of_opaque _) b.1.form)));
-        holds = either (r.holds ++ x.holds) (r.fails ++ y.holds) (join r.holds x.holds c.1.holds a.1.holds) (join r.fails y.holds c.1.fails b.1.holds);
-        fails = either (r.holds ++ x.fails) (r.fails ++ y.fails) (join r.holds x.fails c.1.holds a.1.fails) (join r.fails y.fails c.1.fails b.1.fails);
-      }
+  layer (CoreExpr-F.Not a) = of_not (read scope a.0) _ a.1
+  layer (CoreExpr-F.Two op a b) = of_two op (read scope a.0) (read scope b.0) _ a.1 b.1
+  layer (CoreExpr-F.Both a b) = of_and (read scope a.0) (read scope b.0) _ a.1 b.1
+  layer (CoreExpr-F.Either a b) = of_or (read scope a.0) (read scope b.0) _ a.1 b.1
+  layer (CoreExpr-F.Cond c a b) = of_cond (read scope c.0) (read scope a.0) (read scope b.0) _ c.1 a.1 b.1
 
   rolled : (y : CoreExpr-F (Sure IsOffering)) → IsOffering (roll-CoreExpr (bare_expr y))
   unfolding read
@@ -389,53 +410,53 @@ module _ (scope : Scope) (known : ScopeOffers scope) where
 
   -- ---- what a term puts
 
-  of_valid : (l r : Form) → FormOffers l → FormOffers r → Offer (spec.is_valid scope l r)
-  unfolding spec.is_valid
+  of_valid : (l r : Form) → FormOffers l → FormOffers r → Offer (is_valid scope l r)
+  unfolding is_valid
   of_valid l r h k =
       join (leq nought l) (leq l r ++ leq r (length_of scope)) (of_leq nought l tt h)
       (join (leq l r) (leq r (length_of scope)) (of_leq l r h k) (of_leq r (length_of scope) k (tt, tt)))
 
-  of_none : (term : ℕ) (l r : Form) → FormOffers l → FormOffers r → Offer (spec.touches_none scope term l r)
-  unfolding spec.touches_none
+  of_none : (term : ℕ) (l r : Form) → FormOffers l → FormOffers r → Offer (touches_none scope term l r)
+  unfolding touches_none
   of_none term l r h k =
-      join (equal (spec.start_of scope term) r) (equal (spec.end_of scope term) l) (of_equal (spec.start_of scope term) r (tt, tt) k)
-      (of_equal (spec.end_of scope term) l (tt, tt) h)
+      join (equal (start_of scope term) r) (equal (end_of scope term) l) (of_equal (start_of scope term) r (tt, tt) k)
+      (of_equal (end_of scope term) l (tt, tt) h)
 
-  of_some : (term : ℕ) (l r : Form) → FormOffers l → FormOffers r → Offer (spec.touches_some scope term l r)
-  unfolding spec.touches_some
+  of_some : (term : ℕ) (l r : Form) → FormOffers l → FormOffers r → Offer (touches_some scope term l r)
+  unfolding touches_some
   of_some term l r h k =
-      let s : Form = spec.start_of scope term in
-      let e : Form = spec.end_of scope term in
+      let s : Form = start_of scope term in
+      let e : Form = end_of scope term in
       join (leq l s) (less s e ++ leq e r) (of_leq l s h (tt, tt)) (join (less s e) (leq e r) (of_less s e (tt, tt) (tt, tt)) (of_leq e r (tt, tt) k))
 
-  of_first : (term : ℕ) (l r : Form) (w : ℕ) → FormOffers l → FormOffers r → Offer (spec.touches_first scope term l r w)
-  unfolding spec.touches_first
+  of_first : (term : ℕ) (l r : Form) (w : ℕ) → FormOffers l → FormOffers r → Offer (touches_first scope term l r w)
+  unfolding touches_first
   of_first term l r w h k =
-      let s : Form = spec.start_of scope term in
-      let e : Form = spec.end_of scope term in
+      let s : Form = start_of scope term in
+      let e : Form = end_of scope term in
       join (equal s l) (equal e (shifted l (pos w)) ++ leq e r) (of_equal s l (tt, tt) h)
       (join (equal e (shifted l (pos w))) (leq e r) (of_equal e (shifted l (pos w)) (tt, tt) (of_shifted l (pos w) h)) (of_leq e r (tt, tt) k))
 
-  of_all : (term : ℕ) (l r : Form) → FormOffers l → FormOffers r → Offer (spec.touches_all scope term l r)
-  unfolding spec.touches_all
+  of_all : (term : ℕ) (l r : Form) → FormOffers l → FormOffers r → Offer (touches_all scope term l r)
+  unfolding touches_all
   of_all term l r h k =
-      join (equal (spec.start_of scope term) l) (equal (spec.end_of scope term) r) (of_equal (spec.start_of scope term) l (tt, tt) h)
-      (of_equal (spec.end_of scope term) r (tt, tt) k)
+      join (equal (start_of scope term) l) (equal (end_of scope term) r) (of_equal (start_of scope term) l (tt, tt) h)
+      (of_equal (end_of scope term) r (tt, tt) k)
 
-  of_attr : (term : ℕ) (prim : Primitive) (name : List ℕ) → Offer (spec.attr_ranges scope term prim name)
-  unfolding spec.attr_ranges
+  of_attr : (term : ℕ) (prim : Primitive) (name : List ℕ) → Offer (attr_ranges scope term prim name)
+  unfolding attr_ranges
   of_attr term prim name = of_ranges (variable (named scope.side term name) []) (greatest prim name) (tt, tt)
 
-  of_number : (term : ℕ) (l r : Form) (prim : Primitive) → FormOffers l → FormOffers r → Offer (spec.number_touches scope term l r prim)
-  unfolding spec.number_touches spec.number_ranges
+  of_number : (term : ℕ) (l r : Form) (prim : Primitive) → FormOffers l → FormOffers r → Offer (number_touches scope term l r prim)
+  unfolding number_touches number_ranges
   of_number term l r prim h k =
-      join (spec.touches_first scope term l r (width prim)) _ (of_first term l r (width prim) h k)
-      (join (spec.attr_ranges scope term prim (codes "hi")) _ (of_attr term prim (codes "hi"))
-      (join (spec.attr_ranges scope term prim (codes "lo")) (spec.attr_ranges scope term prim (codes "val")) (of_attr term prim (codes "lo"))
+      join (touches_first scope term l r (width prim)) _ (of_first term l r (width prim) h k)
+      (join (attr_ranges scope term prim (codes "hi")) _ (of_attr term prim (codes "hi"))
+      (join (attr_ranges scope term prim (codes "lo")) (attr_ranges scope term prim (codes "val")) (of_attr term prim (codes "lo"))
       (of_attr term prim (codes "val"))))
 
-  of_primitive : (term : ℕ) (l r : Form) (prim : Primitive) → FormOffers l → FormOffers r → Offer (spec.primitive_touches scope term l r prim)
-  unfolding spec.primitive_touches
+  of_primitive : (term : ℕ) (l r : Form) (prim : Primitive) → FormOffers l → FormOffers r → Offer (primitive_touches scope term l r prim)
+  unfolding primitive_touches
   of_primitive term l r Bytes h k = of_all term l r h k
   of_primitive term l r U8 h k = of_number term l r U8 h k
   of_primitive term l r U16LE h k = of_number term l r U16LE h k
@@ -445,54 +466,54 @@ module _ (scope : Scope) (known : ScopeOffers scope) where
   of_primitive term l r U64LE h k = of_number term l r U64LE h k
   of_primitive term l r U64BE h k = of_number term l r U64BE h k
 
-  of_text : (term : ℕ) (l r : Form) (w : ℕ) → FormOffers l → FormOffers r → Offer (spec.text_touches scope term l r w)
-  unfolding spec.text_touches
+  of_text : (term : ℕ) (l r : Form) (w : ℕ) → FormOffers l → FormOffers r → Offer (text_touches scope term l r w)
+  unfolding text_touches
   of_text term l r zero h k = of_none term l r h k
   of_text term l r (suc w) h k = of_first term l r (suc w) h k
 
-  of_rule : (term : ℕ) (l r : Form) (must : Bool) → FormOffers l → FormOffers r → Offer (spec.rule_touches scope term l r must)
-  unfolding spec.rule_touches
+  of_rule : (term : ℕ) (l r : Form) (must : Bool) → FormOffers l → FormOffers r → Offer (rule_touches scope term l r must)
+  unfolding rule_touches
   of_rule term l r must h k =
       one_or must _ _ (of_some term l r h k)
-      (either (spec.touches_some scope term l r) (spec.touches_none scope term l r) (of_some term l r h k) (of_none term l r h k))
+      (either (touches_some scope term l r) (touches_none scope term l r) (of_some term l r h k) (of_none term l r h k))
 
-  of_touches : (term : ℕ) (sym : Sym) (l r : Form) → FormOffers l → FormOffers r → Offer (spec.touches scope term sym l r)
-  unfolding spec.touches
+  of_touches : (term : ℕ) (sym : Sym) (l r : Form) → FormOffers l → FormOffers r → Offer (touches scope term sym l r)
+  unfolding touches
   of_touches term (Text bytes) l r h k = of_text term l r (length bytes) h k
   of_touches term (Prim prim) l r h k = of_primitive term l r prim h k
   of_touches term (Rule callee) l r h k = of_rule term l r (is_marked scope.marks callee) h k
 
-  of_slot : (term : ℕ) (slot : CoreSlot) → Offer (spec.slot_members scope term slot)
-  unfolding spec.on_interval
+  of_slot : (term : ℕ) (slot : CoreSlot) → Offer (slot_members scope term slot)
+  unfolding on_interval
   of_slot term slot =
       let l : Form = form scope slot.from in
       let r : Form = form scope slot.to in
-      join (spec.is_valid scope l r) (spec.touches scope term slot.sym l r) (of_valid l r (of_form slot.from) (of_form slot.to))
+      join (is_valid scope l r) (touches scope term slot.sym l r) (of_valid l r (of_form slot.from) (of_form slot.to))
       (of_touches term slot.sym l r (of_form slot.from) (of_form slot.to))
 
   of_branches : (term : ℕ) (earlier : List Fact) (cases : List (CoreExpr × CoreSlot)) (other : CoreSlot) → Offer earlier
-      → Offer (spec.branches scope term earlier cases other)
-  unfolding spec.branches
-  of_branches term earlier [] other h = (offers_all _ (join earlier (spec.slot_members scope term other) h (of_slot term other)), tt)
+      → Offer (branches scope term earlier cases other)
+  unfolding branches
+  of_branches term earlier [] other h = (offers_all _ (join earlier (slot_members scope term other) h (of_slot term other)), tt)
   of_branches term earlier (c ∷ cases) other h =
       let r : Reading = read scope c.0 in (
-        offers_all _ (join earlier (r.holds ++ spec.slot_members scope term c.1) h
-            (join r.holds (spec.slot_members scope term c.1) (of_read c.0).holds (of_slot term c.1))),
+        offers_all _ (join earlier (r.holds ++ slot_members scope term c.1) h
+            (join r.holds (slot_members scope term c.1) (of_read c.0).holds (of_slot term c.1))),
         of_branches term (earlier ++ r.fails) cases other (join earlier r.fails h (of_read c.0).fails),
       )
 
   of_any : (fs : List Fact) (n : ℕ) → length fs ≡ suc n → Offer fs → offers_fact (facts.Any fs) ≡ true
-  of_any [] n e h = absurd (cc)
+  of_any [] n e h = absurd (omega (arith, e))
   of_any (f ∷ fs) n e h = offers_any f fs h
 
   some_branch : (term : ℕ) (earlier : List Fact) (cases : List (CoreExpr × CoreSlot)) (other : CoreSlot)
-      → (n : ℕ) × (length (spec.branches scope term earlier cases other) ≡ suc n)
-  unfolding spec.branches
+      → (n : ℕ) × (length (branches scope term earlier cases other) ≡ suc n)
+  unfolding branches
   some_branch term earlier [] other = (0, refl)
-  some_branch term earlier (c ∷ cases) other = (length (spec.branches scope term (earlier ++ (read scope c.0).fails) cases other), refl)
+  some_branch term earlier (c ∷ cases) other = (length (branches scope term (earlier ++ (read scope c.0).fails) cases other), refl)
 
-  pub of_members : (term : ℕ) (at : Option CoreTerm) → Offer (spec.members scope term at)
-  unfolding spec.members
+  pub of_members : (term : ℕ) (at : Option CoreTerm) → Offer (members scope term at)
+  unfolding members
   of_members term None = tt
   of_members term (Some (Slot slot)) = of_slot term slot
   of_members term (Some (Set attr e)) = of_equal (variable (attribute scope.side attr) []) (form scope e) (tt, tt) (of_form e)
@@ -501,44 +522,45 @@ module _ (scope : Scope) (known : ScopeOffers scope) where
   of_members term (Some (Many item from to)) = of_valid (form scope from) (form scope to) (of_form from) (of_form to)
   of_members term (Some (Pick cases other)) =
       let some = some_branch term [] cases other in
-      (of_any (spec.branches scope term [] cases other) some.0 some.1 (of_branches term [] cases other tt), tt)
+      (of_any (branches scope term [] cases other) some.0 some.1 (of_branches term [] cases other tt), tt)
 
-  of_whole : (from to : CoreExpr) → Offer (spec.is_whole scope from to)
-  unfolding spec.is_whole
+  of_whole : (from to : CoreExpr) → Offer (is_whole scope from to)
+  unfolding is_whole
   of_whole from to =
       join (equal (form scope from) nought) (equal (form scope to) (length_of scope)) (of_equal (form scope from) nought (of_form from) tt)
       (of_equal (form scope to) (length_of scope) (of_form to) (tt, tt))
 
-  of_takes : (cases : List (CoreExpr × CoreSlot)) (other : CoreSlot) (b : ℕ) → Offer (spec.takes scope cases other b)
-  unfolding spec.takes
+  of_takes : (cases : List (CoreExpr × CoreSlot)) (other : CoreSlot) (b : ℕ) → Offer (takes scope cases other b)
+  unfolding takes
   of_takes [] other b = of_whole other.from other.to
-  of_takes (c ∷ cases) other zero = join (read scope c.0).holds (spec.is_whole scope c.1.from c.1.to) (of_read c.0).holds (of_whole c.1.from c.1.to)
-  of_takes (c ∷ cases) other (suc b) = join (read scope c.0).fails (spec.takes scope cases other b) (of_read c.0).fails (of_takes cases other b)
+  of_takes (c ∷ cases) other zero = join (read scope c.0).holds (is_whole scope c.1.from c.1.to) (of_read c.0).holds (of_whole c.1.from c.1.to)
+  of_takes (c ∷ cases) other (suc b) = join (read scope c.0).fails (takes scope cases other b) (of_read c.0).fails (of_takes cases other b)
 
-  of_runs : (first last : CoreExpr) → Offer (spec.runs scope first last)
-  unfolding spec.runs
+  of_runs : (first last : CoreExpr) → Offer (runs scope first last)
+  unfolding runs
   of_runs first last =
       let i : Form = variable (loop scope.side) [] in
       join (leq (form scope first) i) (less i (form scope last)) (of_leq (form scope first) i (of_form first) (tt, tt))
       (of_less i (form scope last) (tt, tt) (of_form last))
 
-  pub of_own : (branch : ℕ) (at : Option CoreTerm) → Offer (spec.own_members scope branch at)
-  unfolding spec.own_members
+  pub of_own : (branch : ℕ) (at : Option CoreTerm) → Offer (own_members scope branch at)
+  unfolding own_members
   of_own branch None = tt
   of_own branch (Some (Slot slot)) = of_whole slot.from slot.to
   of_own branch (Some (Set attr e)) = tt
   of_own branch (Some (Test e)) = tt
-  of_own branch (Some (Repeat first last item from to)) = join (spec.runs scope first last) (spec.is_whole scope from to) (of_runs first last) (of_whole from to)
+  of_own branch (Some (Repeat first last item from to)) = join (runs scope first last) (is_whole scope from to) (of_runs first last) (of_whole from to)
   of_own branch (Some (Many item from to)) = of_whole from to
   of_own branch (Some (Pick cases other)) = of_takes cases other branch
 
   set_bounds : (arrays : List (Option Bounds)) (n : ℕ) (b : Option Bounds) → AllByRecursion BoundsOffer arrays → BoundsOffer b
       → AllByRecursion BoundsOffer (slice_set arrays n b)
-  set_bounds [] n b h k = tt
+  set_bounds [] zero b h k = tt
+  set_bounds [] (suc n) b h k = tt
   set_bounds (a ∷ arrays) zero b h k = (k, h.1)
   set_bounds (a ∷ arrays) (suc n) b h k = (h.0, set_bounds arrays n b h.1 k)
 
-  of_arrays : (term : ℕ) (at : Option CoreTerm) → AllByRecursion BoundsOffer (spec.arrays_with scope term at)
+  of_arrays : (term : ℕ) (at : Option CoreTerm) → AllByRecursion BoundsOffer (arrays_with scope term at)
   of_arrays term None = known
   of_arrays term (Some (Slot slot)) = known
   of_arrays term (Some (Set attr e)) = known
@@ -547,21 +569,21 @@ module _ (scope : Scope) (known : ScopeOffers scope) where
   of_arrays term (Some (Many item from to)) = known
   of_arrays term (Some (Pick cases other)) = known
 
-  pub of_passed : (term : ℕ) → ScopeOffers (spec.passed scope term)
-  unfolding spec.passed
+  pub of_passed : (term : ℕ) → ScopeOffers (passed scope term)
+  unfolding passed
   of_passed term = of_arrays term (slice_get scope.terms term)
 
-pub of_passed_all : (scope : Scope) → ScopeOffers scope → (order : List ℕ) → ScopeOffers (spec.passed_all scope order)
-unfolding spec.passed_all
+pub of_passed_all : (scope : Scope) → ScopeOffers scope → (order : List ℕ) → ScopeOffers (passed_all scope order)
+unfolding passed_all
 of_passed_all scope known [] = known
-of_passed_all scope known (term ∷ order) = of_passed_all (spec.passed scope term) (of_passed scope known term) order
+of_passed_all scope known (term ∷ order) = of_passed_all (passed scope term) (of_passed scope known term) order
 
-pub of_terms : (scope : Scope) → ScopeOffers scope → (order : List ℕ) → Offer (spec.terms_members scope order)
-unfolding spec.terms_members
+pub of_terms : (scope : Scope) → ScopeOffers scope → (order : List ℕ) → Offer (terms_members scope order)
+unfolding terms_members
 of_terms scope known [] = tt
 of_terms scope known (term ∷ order) =
-    join (spec.members scope term (slice_get scope.terms term)) (spec.terms_members (spec.passed scope term) order)
-    (of_members scope known term (slice_get scope.terms term)) (of_terms (spec.passed scope term) (of_passed scope known term) order)
+    join (members scope term (slice_get scope.terms term)) (terms_members (passed scope term) order)
+    (of_members scope known term (slice_get scope.terms term)) (of_terms (passed scope term) (of_passed scope known term) order)
 
 -- ---- the members of an edge's conditions
 
@@ -577,7 +599,7 @@ of_held_facts : (g : Grammar) (marks : List Bool) (holder caller : CoreAlt) (ter
 unfolding held_facts
 of_held_facts g marks holder caller terms =
     join (leq (length_of (opening g marks caller_side caller)) (length_of (opening g marks holder_side holder)))
-    (spec.terms_members (opening g marks holder_side holder) terms)
+    (terms_members (opening g marks holder_side holder) terms)
     (of_leq (length_of (opening g marks caller_side caller)) (length_of (opening g marks holder_side holder)) (tt, tt) (tt, tt))
     (of_terms (opening g marks holder_side holder) (of_opening g marks holder_side holder) terms)
 
@@ -597,8 +619,8 @@ of_caller g marks e caller =
     let scope : Scope = opening g marks caller_side caller in
     let known : ScopeOffers scope = of_opening g marks caller_side caller in
     let order : List ℕ = before e.term caller.order in
-    let all : Scope = spec.passed_all scope order in
-    join (spec.terms_members scope order) (spec.own_at all e.term e.branch) (of_terms scope known order)
+    let all : Scope = passed_all scope order in
+    join (terms_members scope order) (own_at all e.term e.branch) (of_terms scope known order)
     (of_own all (of_passed_all scope known order) e.branch (slice_get all.terms e.term))
 
 of_rule_facts : (g : Grammar) (marks : List Bool) (e : Edge) (rule : Option CoreRule) (alt : Option CoreAlt) → Offer (rule_facts g marks e rule alt)
@@ -641,7 +663,7 @@ module _ (keys : List Key) where
   unfolding formula_of
   on_any ms =
       ap offers (fold-roll-Fact Formula (formula_step keys) (Fact-F.Any (facts_in ms))) ∙ folds-Any Bool offers_step _
-      ∙ ap (λ bs. nat_lt 0 (length bs) && every bs) (members_keep ms) ∙ sym (fold-roll-Fact Bool offers_fact_step (Fact-F.Any (facts_in ms)))
+      ∙ ap some_and_every (members_keep ms) ∙ sym (fold-roll-Fact Bool offers_fact_step (Fact-F.Any (facts_in ms)))
 
   on_layer : (y : Fact-F ((f : Fact) × Keeps f)) (x : Fact-F Fact) → map-Fact ((f : Fact) × Keeps f) Fact (λ m. m.0) y ≡ x → Keeps (roll-Fact x)
   on_layer (Fact-F.Atom draft) x is = subst (λ z. Keeps (roll-Fact z)) is (on_atom draft)
@@ -684,7 +706,7 @@ apart_any : (fs : List Formula) → AllByRecursion StaysOffering fs → StaysOff
 unfolding apart
 apart_any fs each n =
     ap offers (folds-Any Formula (apart_step n) fs) ∙ folds-Any Bool offers_step _
-    ∙ ap (λ bs. nat_lt 0 (length bs) && every bs) (apart_members n fs each) ∙ sym (folds-Any Bool offers_step fs)
+    ∙ ap some_and_every (apart_members n fs each) ∙ sym (folds-Any Bool offers_step fs)
 
 stays : (f : Formula) → StaysOffering f
 stays = by_members StaysOffering apart_atom apart_all apart_any

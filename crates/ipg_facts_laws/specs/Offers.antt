@@ -1,5 +1,5 @@
 -- Conditions leave no empty choice: each Any of theirs has a member.
-use Rattle.std.specs.Prelude.{◌≡◌, List, Bool, true, ◌&&◌, nat_lt, length}
+use Rattle.std.specs.Prelude.{◌≡◌, List, [], ◌∷◌, Bool, true, false}
 use Rattle.std.specs.List.{AllByRecursion}
 use Rattle.ipg_core.specs.Grammar.{Grammar}
 use Rattle.ipg_core.specs.MustTouch.{Marks}
@@ -11,10 +11,15 @@ use Rattle.ipg_lin.specs.declared.formula.Boxed.{Boxed}
 use Rattle.ipg_facts.specs.Numbers.{keep}
 use Rattle.ipg_facts.specs.Joint.{joint}
 
+-- there are some, and all are so
+abbrev pub some_and_every : List Bool → Bool
+some_and_every [] = false
+some_and_every (b ∷ bs) = every (b ∷ bs)
+
 abbrev pub offers_step : Formula-F Bool → Bool
 offers_step (Formula-F.Atom form) = true
 offers_step (Formula-F.All members) = every members
-offers_step (Formula-F.Any members) = nat_lt 0 (length members) && every members
+offers_step (Formula-F.Any members) = some_and_every members
 
 -- each Any of a formula has a member
 abbrev pub offers : Formula → Bool

@@ -1,6 +1,7 @@
 -- A refutation that checks is one whole tree, whose counts are within their ranges.
 use Rattle.std.proofs.Common.{◌≡◌, ℕ, zero, suc, ◌+◌, ◌≤◌, ◌<◌, ◌^◌, Bool, true, false, ◌&&◌, List, [], ◌∷◌, ◌++◌, map, length, refl, sym, ap, subst, ◌∙◌, arith}
-use Rattle.std.proofs.Common.{ℤ, pos, ◌+ℤ◌, Option, Some, None, length-append, length-map, nat_le, nat_lt}
+use Rattle.std.proofs.Common.{ℤ, pos, ◌+ℤ◌, Option, Some, None, length-append, nat_le}
+use Rattle.std.proofs.lemmas.List.{length-map}
 use Rattle.std.specs.Prelude.{slice_get, nat_eq, flat_map}
 use Rattle.std.specs.List.{AllByRecursion}
 use Rattle.std.proofs.lemmas.Bool.{and_parts}
@@ -17,7 +18,7 @@ use Rattle.ipg_cert.specs.declared.refutation.Step.{Step}
 use Rattle.ipg_cert.specs.declared.refutation.Step.TheVariants.{Combine, Split, Either}
 use Rattle.ipg_cert.specs.declared.refutation.Refutation.{Refutation}
 use Rattle.ipg_cert.specs.Texts.{AreTrees, IsInRange}
-use Rattle.ipg_facts_laws.specs.Offers.{offers, offers_step}
+use Rattle.ipg_facts_laws.specs.Offers.{offers, offers_step, some_and_every}
 use Rattle.ipg_proof.specs.Texts.{IsTree}
 use Rattle.ipg_proof.specs.Speaks.{HasWords, HaveWords}
 use Rattle.ipg_proof.proofs.Lists.{all_join}
@@ -32,12 +33,13 @@ Offer facts = AllByRecursion FactOffers facts
 
 -- ---- the facts of a formula
 
-some : (n : ℕ) → nat_lt 0 n ≡ true → 1 ≤ n
-some n e = grind (arith, nat_tests)
-
 each_offers : (fs : List Formula) → every (map offers fs) ≡ true → AllByRecursion (λ m. offers m ≡ true) fs
 each_offers [] e = tt
 each_offers (f ∷ fs) e = let parts = and_parts _ _ e in (parts.0, each_offers fs parts.1)
+
+choice_offers : (fs : List Formula) → some_and_every (map offers fs) ≡ true → FactOffers (Choice fs)
+choice_offers [] e = cc
+choice_offers (f ∷ fs) e = (omega arith, each_offers (f ∷ fs) e)
 
 abbrev told : Formula → Told
 told f = fold-Formula Told told_step f
@@ -73,9 +75,7 @@ tells_any fs all =
     record {
       whole = ap (λ (t : Told). t.whole) is ∙ ap formula.Any (wholes fs all);
       facts = λ e.
-          let parts = and_parts _ _ (sym (folds-Any Bool offers_step fs) ∙ e) in
-          let size : length (map offers fs) ≡ length fs = length-map offers fs in
-          let choice : FactOffers (Choice fs) = (some (length fs) (ap (nat_lt 0) (sym size) ∙ parts.0), each_offers fs parts.1) in
+          let choice : FactOffers (Choice fs) = choice_offers fs (sym (folds-Any Bool offers_step fs) ∙ e) in
           subst Offer (sym (ap (λ (t : Told). t.facts) is)) (subst (λ ms. FactOffers (Choice ms)) (sym (wholes fs all)) choice, tt);
     }
 
@@ -164,7 +164,7 @@ shaped vars (Either fact count ∷ steps) (facts ∷ goals) h e =
     let choice = chosen facts count fact (slice_get facts fact) h.0 refl parts.0 in
     let cases : List (List Fact) = cases_of facts (members_in (slice_get facts fact)) in
     let rest = shaped vars steps (cases ++ goals) (goals_join cases goals choice.goals h.1) parts.1 in
-    let made : length cases ≡ length (members_in (slice_get facts fact)) = length-map _ (members_in (slice_get facts fact)) in
+    let made : length cases ≡ length (members_in (slice_get facts fact)) = length-map (members_in (slice_get facts fact)) _ in
     let size : length (cases ++ goals) ≡ length goals + count = omega (arith, length-append cases goals, made, choice.size) in
     record { trees = subst (λ n. AreTrees n steps) size rest.trees; counts = (choice.some, rest.counts) }
 

@@ -1,6 +1,7 @@
 -- A certificate that proves a grammar is one that texts can say.
 use Rattle.std.proofs.Common.{◌≡◌, ℕ, zero, suc, ◌+◌, ◌-◌, ◌≤◌, ◌<◌, ◌^◌, Bool, true, false, List, [], ◌∷◌, ◌++◌, map, length, refl, sym, ap, subst, ◌∙◌, arith}
-use Rattle.std.proofs.Common.{inl, inr, eqb, ◌||◌, ◌≢◌, Option, Some, None, length-map}
+use Rattle.std.proofs.Common.{inl, inr, eqb, ◌||◌, ◌≢◌, Option, Some, None}
+use Rattle.std.proofs.lemmas.List.{length-map}
 use Rattle.std.specs.Prelude.{IsTrue, slice_get, slice_index_or, flat_map, option_map, option_to_list, All}
 use Rattle.std.specs.List.{AllByRecursion, IsDistinct, list_any}
 use Rattle.std.proofs.lemmas.Bool.{ne_eqb, true≢false}
@@ -93,7 +94,7 @@ module _ (g : Grammar) (marks : Marks) (dead : List ℕ) (edges_few : length (ed
 
   short_cycle : (cycle : List ℕ) → IsSimpleCycle graph cycle → IsShort (length cycle)
   short_cycle cycle simple =
-      let size : length (map (caller graph) cycle) ≡ length cycle = length-map (caller graph) cycle in
+      let size : length (map (caller graph) cycle) ≡ length cycle = length-map cycle (caller graph) in
       let bound = few (length g.rules) (map (caller graph) cycle) simple.once
       (callers_below cycle (recursion_from_All (IsLive graph) cycle simple.live)) in
       omega (arith, size, bound, rules_few)
@@ -150,7 +151,7 @@ proves_is_speakable edges conditions joints g c good proves typed =
     let few : length (edges_of g) < 2 ^ 32 = edges g good in
     let rules : length g.rules ≤ 1024 = good.well_formed.limit in
     let rise = proves.0.dead in
-    let size : length (dead_edges c) ≡ length c.dead = length-map _ c.dead in
+    let size : length (dead_edges c) ≡ length c.dead = length-map c.dead _ in
     let fewer = rise_few (length (edges_of g)) 0 (dead_edges c) rise in (
       (
         (let s : length c.dead < 2 ^ 32 = omega (arith, size, fewer, few) in s),
