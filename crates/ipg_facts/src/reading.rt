@@ -166,7 +166,7 @@ fn limited(alloc: Global, scope: &Scope, e: &CoreExpr, form: Form) -> Result<For
 }
 
 /// A number that is a form, times another form: its variables, which have cancelled, keep their places.
-fn times(alloc: Global, number: &Form, form: &Form) -> Result<Form, AllocError>
+fn number_times(alloc: Global, number: &Form, form: &Form) -> Result<Form, AllocError>
     ensures { IfOk result (λ product. product ≡ forms.plus (forms.scaled (pos 0) number.now) (forms.scaled number.now.constant form.now)) }
 {
     plus(
@@ -177,7 +177,7 @@ fn times(alloc: Global, number: &Form, form: &Form) -> Result<Form, AllocError>
 }
 
 /// A form times a number that is one.
-fn by(alloc: Global, form: &Form, number: &Form) -> Result<Form, AllocError>
+fn times_number(alloc: Global, form: &Form, number: &Form) -> Result<Form, AllocError>
     ensures { IfOk result (λ product. product ≡ forms.plus (forms.scaled number.now.constant form.now) (forms.scaled (pos 0) number.now)) }
 {
     plus(
@@ -193,9 +193,9 @@ fn product(alloc: Global, a: &Form, b: &Form) -> Result<Option<Form>, AllocError
     ensures { IfOk result (λ product. product ≡ spec.product a.now b.now) }
 {
     if is_constant(a) {
-        Ok(Some(times(alloc, a, b)?))
+        Ok(Some(number_times(alloc, a, b)?))
     } else if is_constant(b) {
-        Ok(Some(by(alloc, a, b)?))
+        Ok(Some(times_number(alloc, a, b)?))
     } else {
         Ok(None)
     }
