@@ -326,6 +326,20 @@ module _ (scope : Scope) (known : ScopeOffers scope) where
   of_touching term =
       bounds_or_none (nat_lt 0 (least_width scope.marks (item_at scope term))) (if_there (slice_get scope.arrays term)) (bounds_at scope.arrays term known)
 
+  of_seen : (words : List ℕ) (term : ℕ) (f : CoreField)
+      → Offers (plain words (variable (value scope.side words) (item_facts scope (item_at scope term) f (opaque scope words))))
+  of_seen words term f =
+      let facts : List Fact = item_facts scope (item_at scope term) f (opaque scope words) in
+      of_plain words (variable (value scope.side words) facts)
+      (of_variable (value scope.side words) facts (of_item (item_at scope term) f (opaque scope words) (of_opaque words)))
+
+  of_behind : (words : List ℕ) (term : ℕ) (left : Form) → FormOffers left
+      → Offers (plain words (variable (value scope.side words) (after_facts scope (touching scope term) (opaque scope words) left)))
+  of_behind words term left h =
+      let facts : List Fact = after_facts scope (touching scope term) (opaque scope words) left in
+      of_plain words (variable (value scope.side words) facts)
+      (of_variable (value scope.side words) facts (of_after (touching scope term) (opaque scope words) left (of_touching term) (of_opaque words) h))
+
   of_not : (a : Reading) (words : List ℕ) → Offers a
       → Offers (record { words = words; form = opaque scope words; holds = a.fails; fails = a.holds })
   of_not a words h = record { form = of_opaque words; holds = h.fails; fails = h.holds }
@@ -387,9 +401,8 @@ module _ (scope : Scope) (known : ScopeOffers scope) where
   layer (CoreExpr-F.Outer a) = of_plain _ (variable (attribute holder_side a) []) (tt, tt)
   layer CoreExpr-F.Loop = of_plain _ (variable (loop scope.side) []) (tt, tt)
   layer (CoreExpr-F.Seen term sym f) = of_plain _ (variable (field scope.names scope.side term f) []) (tt, tt)
-  layer (CoreExpr-F.Item term index f) = of_plain _ _ (of_variable _ _ (of_item (item_at scope term) f _ (of_opaque _)))
-  layer (CoreExpr-F.After term left) =
-      of_plain _ _ (of_variable _ _ (of_after (touching scope term) _ (read scope left.0).form (of_touching term) (of_opaque _) left.1.form))
+  layer (CoreExpr-F.Item term index f) = of_seen _ term f
+  layer (CoreExpr-F.After term left) = of_behind _ term (read scope left.0).form left.1.form
   layer (CoreExpr-F.Neg a) =
       of_plain _ _ (of_limited _ (Some (scaled (negsuc 0) (read scope a.0).form)) (of_scaled (negsuc 0) (read scope a.0).form a.1.form))
   layer (CoreExpr-F.Not a) = of_not (read scope a.0) _ a.1
@@ -561,6 +574,7 @@ module _ (scope : Scope) (known : ScopeOffers scope) where
   set_bounds (a ∷ arrays) (suc n) b h k = (h.0, set_bounds arrays n b h.1 k)
 
   of_arrays : (term : ℕ) (at : Option CoreTerm) → AllByRecursion BoundsOffer (arrays_with scope term at)
+  unfolding arrays_with
   of_arrays term None = known
   of_arrays term (Some (Slot slot)) = known
   of_arrays term (Some (Set attr e)) = known
