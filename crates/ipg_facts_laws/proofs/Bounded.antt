@@ -10,7 +10,7 @@ use Rattle.ipg_lin.specs.declared.formula.Formula.{Formula}
 use Rattle.ipg_lin.specs.declared.formula.Formula.TheVariants as formula
 use Rattle.ipg_lin.specs.declared.formula.Boxed.{Boxed}
 use Rattle.ipg_facts.specs.Joint.{moved, moved_term, apart, apart_step, parts_apart, own_variables, joint}
-use Rattle.ipg_facts_laws.specs.Laws.{IsPart, ArePartsWith}
+use Rattle.ipg_facts_laws.specs.Laws.{ArePartsWith}
 use Rattle.ipg_facts_laws.specs.Bounded.{JointIsPart}
 
 at_most : (m n k : ℕ) → m ≡ n → n ≤ k → m ≤ k

@@ -1,7 +1,7 @@
 -- Conditions leave no empty choice.
 use Rattle.std.proofs.Common.{◌≡◌, ℕ, zero, suc, ◌+◌, Bool, true, false, ◌&&◌, List, [], ◌∷◌, ◌++◌, map, length, refl, sym, ap, subst, ◌∙◌, ℤ, pos, negsuc}
 use Rattle.std.proofs.Common.{Option, Some, None, if◌then◌else◌, replicate, arith}
-use Rattle.std.specs.Prelude.{slice_get, slice_set, flat_map, bytes_eq, nat_eq, nat_lt, codes, ◌+ℤ◌}
+use Rattle.std.specs.Prelude.{slice_get, slice_set, flat_map, bytes_eq, nat_lt, codes, ◌+ℤ◌}
 use Rattle.std.specs.List.{AllByRecursion, filter}
 use Rattle.ipg_num.specs.declared.op.Op2.{Op2}
 use Rattle.ipg_num.specs.declared.op.Op2.TheVariants as ops
@@ -29,7 +29,7 @@ use Rattle.ipg_facts.specs.declared.fact.Fact.{Fact, roll-Fact, map-Fact, fold-F
 use Rattle.ipg_facts.specs.declared.fact.Fact.TheVariants as facts
 use Rattle.ipg_facts.specs.declared.fact.Fact.TheOpen.{Fact-F}
 use Rattle.ipg_facts.specs.declared.fact.Draft.{Draft}
-use Rattle.ipg_facts.specs.Key.{Key, whole, attribute, loop, field, named, value, start, end, caller_side, holder_side}
+use Rattle.ipg_facts.specs.Key.{Key, attribute, loop, field, named, value, caller_side, holder_side}
 use Rattle.ipg_facts.specs.Form.{variable, number, add_part, add_parts, plus, minus, scaled, scaled_part, shifted, counts, is_constant, in_limits}
 use Rattle.ipg_facts.specs.Form.{mentioned, facts_of, bare, at_most_zero, leq, less, both_at_most_zero, equal, choice, differ}
 use Rattle.ipg_facts.specs.Reading.{Scope, Reading, length_of, opaque, nought, plain, ranges, greatest, greatest_of, least_width, item_at, item_facts, inside}

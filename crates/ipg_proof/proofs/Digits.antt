@@ -169,14 +169,6 @@ ends_small n h = omega (arith, h)
 below : (n most : ℕ) → n ≤ most → most < 2 ^ 64 → n < 2 ^ 64
 below n most h wide = omega (arith, h, wide)
 
--- the first digit of a number that may be larger
-pub number_begins : (least most v : ℕ) (bytes left : List ℕ) → 9 ≤ most → IsNumber least 9 bytes left v → IsNumber least most bytes left v
-number_begins least most v bytes left nine is = record {
-  splits = is.splits;
-  above = is.above;
-  small = (let s : v ≤ most = omega (arith, is.small, nine) in s);
-}
-
 -- no number begins here
 pub number_absent : (stop least most : ℕ) (bytes left : List ℕ) → least ≤ 1 → 9 ≤ most → most < 2 ^ 64 → stop < 48 → left ≡ bytes → IsNoStart least bytes
     → Reads (IsWithin least most) (number_text stop) bytes left (Err Here)

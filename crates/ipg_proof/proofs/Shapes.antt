@@ -1,5 +1,5 @@
 -- A refutation that checks is one whole tree, whose counts are within their ranges.
-use Rattle.std.proofs.Common.{◌≡◌, ℕ, zero, suc, ◌+◌, ◌≤◌, ◌<◌, ◌^◌, Bool, true, false, ◌&&◌, List, [], ◌∷◌, ◌++◌, map, length, refl, sym, ap, subst, ◌∙◌, arith}
+use Rattle.std.proofs.Common.{◌≡◌, ℕ, zero, suc, ◌+◌, ◌≤◌, ◌<◌, ◌^◌, Bool, true, List, [], ◌∷◌, ◌++◌, map, length, refl, sym, ap, subst, ◌∙◌, arith}
 use Rattle.std.proofs.Common.{ℤ, pos, ◌+ℤ◌, Option, Some, None, length-append, nat_le}
 use Rattle.std.proofs.lemmas.List.{length-map}
 use Rattle.std.specs.Prelude.{slice_get, nat_eq, flat_map}
@@ -13,7 +13,7 @@ use Rattle.ipg_lin.specs.declared.formula.Formula.{Formula, fold-Formula}
 use Rattle.ipg_lin.specs.declared.formula.Formula.TheVariants as formula
 use Rattle.ipg_lin.specs.declared.formula.Boxed.{Boxed}
 use Rattle.ipg_cert.specs.Facts.{Fact, AtMost, Choice, Told, told_step, facts_of, at_least, at_most, bound_facts}
-use Rattle.ipg_cert.specs.Checks.{refutes, checks, combines, is_choice, members_in, cases_of, root_facts, weighted_sum, is_absurd}
+use Rattle.ipg_cert.specs.Checks.{refutes, checks, combines, is_choice, members_in, cases_of, root_facts}
 use Rattle.ipg_cert.specs.declared.refutation.Step.{Step}
 use Rattle.ipg_cert.specs.declared.refutation.Step.TheVariants.{Combine, Split, Either}
 use Rattle.ipg_cert.specs.declared.refutation.Refutation.{Refutation}

@@ -1,15 +1,14 @@
 -- A certificate that proves a grammar is one that texts can say.
-use Rattle.std.proofs.Common.{◌≡◌, ℕ, zero, suc, ◌+◌, ◌-◌, ◌≤◌, ◌<◌, ◌^◌, Bool, true, false, List, [], ◌∷◌, ◌++◌, map, length, refl, sym, ap, subst, ◌∙◌, arith}
+use Rattle.std.proofs.Common.{◌≡◌, ℕ, zero, suc, ◌+◌, ◌-◌, ◌≤◌, ◌<◌, ◌^◌, Bool, true, false, List, [], ◌∷◌, map, length, refl, sym, ap, subst, ◌∙◌, arith}
 use Rattle.std.proofs.Common.{inl, inr, eqb, ◌||◌, ◌≢◌, Option, Some, None}
 use Rattle.std.proofs.lemmas.List.{length-map}
-use Rattle.std.specs.Prelude.{IsTrue, slice_get, slice_index_or, flat_map, option_map, option_to_list, All}
+use Rattle.std.specs.Prelude.{IsTrue, slice_get, slice_index_or, option_map, option_to_list}
 use Rattle.std.specs.List.{AllByRecursion, IsDistinct, list_any}
 use Rattle.std.proofs.lemmas.Bool.{ne_eqb, true≢false}
 use Rattle.std.proofs.lemmas.Bool.Decides.{eqb_tells}
 use Rattle.std.proofs.lemmas.List.Elements.{recursion_from_All}
 use Rattle.std.proofs.lemmas.Map.Steps.{length-le_from_distinct_below}
 use Rattle.ipg_core.specs.Grammar.{Grammar}
-use Rattle.ipg_core.specs.Good.{Good}
 use Rattle.ipg_core.specs.MustTouch.{Marks, or_false}
 use Rattle.ipg_graph.specs.declared.edge.Edge.{Edge}
 use Rattle.ipg_graph.specs.Graph.{Graph, caller, IsLive, ends}
@@ -22,12 +21,10 @@ use Rattle.ipg_facts.specs.Numbers.{keep}
 use Rattle.ipg_cert.specs.declared.refutation.Refutation.{Refutation}
 use Rattle.ipg_facts_laws.specs.Laws.{EdgesAreFew}
 use Rattle.ipg_facts_laws.specs.Offers.{offers, ConditionsOffer, JointsOffer}
-use Rattle.ipg_proof.specs.declared.certificate.Certificate.{Certificate}
-use Rattle.ipg_proof.specs.Calls.{Calls, calls_of, keep_of, keeps, joint_of, is_checked, edge_checks, cycle_checks, dead_edges, cycles_of, live_graph, with_set}
-use Rattle.ipg_proof.specs.Places.{IsDue, Rise}
-use Rattle.ipg_proof.specs.Proves.{Proves}
-use Rattle.ipg_proof.specs.Texts.{IsShort, IsLong, IsTree, IsEdgeEntry, IsCycleEntry, IsSpeakable}
-use Rattle.ipg_proof.specs.Speaks.{HaveWords, IsTyped, ProvesIsSpeakable}
+use Rattle.ipg_proof.specs.Calls.{Calls, calls_of, keep_of, keeps, joint_of, is_checked, edge_checks, cycle_checks, dead_edges, live_graph}
+use Rattle.ipg_proof.specs.Places.{Rise}
+use Rattle.ipg_proof.specs.Texts.{IsShort, IsTree, IsEdgeEntry, IsCycleEntry}
+use Rattle.ipg_proof.specs.Speaks.{HaveWords, ProvesIsSpeakable}
 use Rattle.ipg_proof.proofs.Lists.{all_front, all_back, all_weaker, all_join}
 use Rattle.ipg_proof.proofs.Shapes.{checked_shape, tree_of}
 

@@ -1,5 +1,5 @@
 -- A certificate that proves a grammar, and whose numbers are those of their types, is one that texts can say.
-use Rattle.std.specs.Prelude.{ℕ, List, [], ◌∷◌, length}
+use Rattle.std.specs.Prelude.{length}
 use Rattle.std.specs.List.{AllByRecursion}
 use Rattle.ipg_core.specs.Grammar.{Grammar}
 use Rattle.ipg_core.specs.Good.{Good}
