@@ -1,0 +1,170 @@
+-- What is put behind spots of a row, and what lies below a result.
+use Rattle.std.proofs.Common.{◌≡◌, ℕ, ◌+◌, true, false, List, [], ◌∷◌, ◌++◌, map, flat_map, reverse, refl, ap, ◌∙◌, sym, subst}
+use Rattle.std.proofs.Common.{subst₂, append_assoc, append-nil, true≢false, if◌then◌else◌}
+use Rattle.std.proofs.lemmas.Grind.{flat_map-append}
+use Rattle.std.proofs.lemmas.List.{reverse-append, reverse-reverse}
+use Rattle.ipg_core.specs.Tree as tree
+use Rattle.ipg_core.specs.Tree.{Tree, Node, Sub, Token, Number, Raw, Array, Many, Kids, no_kids, kid}
+use Rattle.ipg_mach_nodes.specs.declared.kid.Kid.{Kid}
+use Rattle.ipg_mach_nodes.specs.Stored.{Stored, Source, StandsKid, StandKids}
+use Rattle.ipg_mach_results.specs.Flat.{has_items}
+use Rattle.ipg_table.specs.Rows.{Each}
+use Rattle.ipg_tree_walk.specs.Visits.{kids_in, kids_in_tree, place_in}
+use Rattle.ipg_query.specs.declared.spot.Spot.{Spot}
+use Rattle.ipg_query.specs.Picked.{Found, found, each_of, spread, spread_each, below, below_in, all_in, all_in_tree, all_in_kids, all_of}
+use Rattle.ipg_query.specs.Spots.{IsNear, AreNear, IsSpot, AreSpots, spot_at, Goes, own}
+use Rattle.ipg_query.proofs.Going.{each_append, push_one}
+use Rattle.ipg_query.proofs.Lying.{in_near, spot_is, spots_are, all_is}
+
+-- ---- a row
+
+items_place : (at : ℕ) (one : tree.Kid) → has_items one ≡ true → place_in at one ≡ at
+items_place at (Sub from to sub) e = absurd (true≢false (sym e))
+items_place at (Token from to bytes) e = absurd (true≢false (sym e))
+items_place at (Number from to prim high low) e = absurd (true≢false (sym e))
+items_place at (Raw from to bytes) e = absurd (true≢false (sym e))
+items_place at (Array sym items) e = refl
+items_place at (Many sym items) e = refl
+
+items_spread : (at : ℕ) (one : tree.Kid) → has_items one ≡ true → spread at one ≡ each_of at (kids_in one)
+items_spread at (Sub from to sub) e = absurd (true≢false (sym e))
+items_spread at (Token from to bytes) e = absurd (true≢false (sym e))
+items_spread at (Number from to prim high low) e = absurd (true≢false (sym e))
+items_spread at (Raw from to bytes) e = absurd (true≢false (sym e))
+items_spread at (Array sym items) e = refl
+items_spread at (Many sym items) e = refl
+
+lone_spread : (at : ℕ) (one : tree.Kid) → has_items one ≡ false → spread at one ≡ found at one ∷ []
+lone_spread at (Sub from to sub) e = refl
+lone_spread at (Token from to bytes) e = refl
+lone_spread at (Number from to prim high low) e = refl
+lone_spread at (Raw from to bytes) e = refl
+lone_spread at (Array sym items) e = absurd (true≢false e)
+lone_spread at (Many sym items) e = absurd (true≢false e)
+
+module _ (src : Source) (st : Stored) (at : ℕ) (one : tree.Kid) (out to : List Spot) (before : List Found) (made : AreSpots src st out before)
+    (near : IsNear at one) where
+  pub spread_items : (rows : List Kid) → has_items one ≡ true → StandKids src st (place_in at one) rows (kids_in one) → to ≡ out ++ map (spot_at at) rows
+      → AreSpots src st to (before ++ spread at one)
+  spread_items rows items stand put =
+      let there = items_place at one items in
+      let spots = spots_are src st at rows (kids_in one) (subst (λ n. StandKids src st n rows (kids_in one)) there stand)
+      (subst (λ n. AreNear n (kids_in one)) there (in_near at one near)) in
+      subst₂ (λ ys xs. AreSpots src st ys (before ++ xs)) (sym put) (sym (items_spread at one items))
+      (each_append (IsSpot src st) out (map (spot_at at) rows) before (each_of at (kids_in one)) made spots)
+
+  pub spread_lone : (k : Kid) → has_items one ≡ false → StandsKid src st at k one → to ≡ out ++ spot_at at k ∷ [] → AreSpots src st to (before ++ spread at one)
+  spread_lone k lone stands put =
+      subst₂ (λ ys xs. AreSpots src st ys (before ++ xs)) (sym put) (sym (lone_spread at one lone))
+      (push_one (IsSpot src st) out before (spot_at at k) (found at one) made (spot_is src st at k one stands near))
+
+-- ---- below a result
+
+lone_below : (at : ℕ) (one : tree.Kid) → has_items one ≡ false → spread_each (place_in at one) (kids_in one) ≡ below_in at one
+lone_below at (Sub from to sub) e = refl
+lone_below at (Token from to bytes) e = refl
+lone_below at (Number from to prim high low) e = refl
+lone_below at (Raw from to bytes) e = refl
+lone_below at (Array sym items) e = absurd (true≢false e)
+lone_below at (Many sym items) e = absurd (true≢false e)
+
+items_below : (at : ℕ) (one : tree.Kid) → has_items one ≡ true → [] ≡ below_in at one
+items_below at (Sub from to sub) e = absurd (true≢false (sym e))
+items_below at (Token from to bytes) e = absurd (true≢false (sym e))
+items_below at (Number from to prim high low) e = absurd (true≢false (sym e))
+items_below at (Raw from to bytes) e = absurd (true≢false (sym e))
+items_below at (Array sym items) e = refl
+items_below at (Many sym items) e = refl
+
+module _ (src : Source) (st : Stored) (spot : Spot) (x : Found) (is : IsSpot src st spot x) where
+  pub none_below : (out : List Spot) (before : List Found) → has_items x.child ≡ true → AreSpots src st out before → AreSpots src st out (before ++ below x)
+  none_below out before items made =
+      subst (λ xs. AreSpots src st out (before ++ xs)) (items_below x.at x.child items) (subst (AreSpots src st out) (sym (append-nil before)) made)
+
+  pub place_is : (place : ℕ) → place ≡ place_in spot.at x.child → place ≡ place_in x.at x.child
+  place_is place e = e ∙ ap (λ n. place_in n x.child) is.at
+
+  pub rows_stand : (place : ℕ) (rows : List Kid) → place ≡ place_in spot.at x.child → StandKids src st (place_in spot.at x.child) rows (kids_in x.child)
+      → StandKids src st place rows (kids_in x.child)
+  rows_stand place rows e stand = subst (λ n. StandKids src st n rows (kids_in x.child)) (sym e) stand
+
+  pub rows_near : (place : ℕ) → place ≡ place_in spot.at x.child → AreNear place (kids_in x.child)
+  rows_near place e = subst (λ n. AreNear n (kids_in x.child)) (sym e) (in_near spot.at x.child is.near)
+
+  pub all_below : (place : ℕ) (to : List Spot) (before : List Found) → has_items x.child ≡ false → place ≡ place_in spot.at x.child
+      → AreSpots src st to (before ++ spread_each place (kids_in x.child)) → AreSpots src st to (before ++ below x)
+  all_below place to before lone e made =
+      subst (λ xs. AreSpots src st to (before ++ xs))
+      (ap (λ n. spread_each n (kids_in x.child)) (place_is place e) ∙ lone_below x.at x.child lone) made
+
+  -- ---- a result alone
+
+  pub put_own : (out to : List Spot) (before : List Found) → has_items x.child ≡ false → AreSpots src st out before → to ≡ out ++ spot ∷ []
+      → AreSpots src st to (before ++ own x)
+  put_own out to before lone made put =
+      subst₂ (λ ys b. AreSpots src st ys (before ++ (if b then [] else x ∷ []))) (sym put) (sym lone) (push_one (IsSpot src st) out before spot x made is)
+
+  pub put_none : (out : List Spot) (before : List Found) → has_items x.child ≡ true → AreSpots src st out before → AreSpots src st out (before ++ own x)
+  put_none out before items made =
+      subst (λ b. AreSpots src st out (before ++ (if b then [] else x ∷ []))) (sym items) (subst (AreSpots src st out) (sym (append-nil before)) made)
+
+-- ---- all that lies in a result
+
+all_tree : (at : ℕ) (one : Tree) → all_in_tree at one ≡ all_in_kids at (kids_in_tree one)
+all_tree at (Node rule size attrs start end kids) = refl
+
+all_parts_in : (at : ℕ) (one : tree.Kid) → all_in at one ≡ own (found at one) ++ all_in_kids (place_in at one) (kids_in one)
+all_parts_in at (Sub from to sub) = ap (λ xs. found at (Sub from to sub) ∷ xs) (all_tree (at + from) sub)
+all_parts_in at (Token from to bytes) = refl
+all_parts_in at (Number from to prim high low) = refl
+all_parts_in at (Raw from to bytes) = refl
+all_parts_in at (Array sym items) = refl
+all_parts_in at (Many sym items) = refl
+
+all_parts : (x : Found) → all_of x ≡ own x ++ flat_map all_of (each_of (place_in x.at x.child) (kids_in x.child))
+all_parts x = all_parts_in x.at x.child ∙ ap (λ xs. own x ++ xs) (sym (all_is (place_in x.at x.child) (kids_in x.child)))
+
+module _ (src : Source) (st : Stored) (spot : Spot) (pile new out to : List Spot) (place : ℕ) (rows : List Kid) (whole : List Found)
+    (put : (x : Found) (before : List Found) → IsSpot src st spot x → AreSpots src st out before → AreSpots src st to (before ++ own x))
+    (there : (x : Found) → IsSpot src st spot x → place ≡ place_in spot.at x.child)
+    (stand : (x : Found) → IsSpot src st spot x → StandKids src st (place_in spot.at x.child) rows (kids_in x.child))
+    (piled : new ≡ pile ++ reverse (map (spot_at place) rows)) where
+  new_pile : map (spot_at place) rows ++ reverse pile ≡ reverse new
+  new_pile =
+      sym (ap reverse piled ∙ reverse-append pile (reverse (map (spot_at place) rows)) ∙ ap (λ xs. xs ++ reverse pile) (reverse-reverse (map (spot_at place) rows)))
+
+  by_rest : (rest done : List Found) → Each (IsSpot src st) (spot ∷ reverse pile) rest → AreSpots src st out done → done ++ flat_map all_of rest ≡ whole
+      → Goes src st all_of (reverse new) to whole
+  by_rest [] done here made is = absurd here
+  by_rest (x ∷ rest) done here made is =
+      let kids = each_of (place_in x.at x.child) (kids_in x.child) in
+      let e = there x here.0 in
+      let spots = spots_are src st place rows (kids_in x.child) (rows_stand src st spot x here.0 place rows e (stand x here.0))
+      (rows_near src st spot x here.0 place e) in
+      let same : each_of place (kids_in x.child) ≡ kids = ap (λ n. each_of n (kids_in x.child)) (place_is src st spot x here.0 place e) in
+      record {
+        rest = kids ++ rest;
+        done = done ++ own x;
+        stand = subst (λ ys. Each (IsSpot src st) ys (kids ++ rest)) new_pile
+            (each_append (IsSpot src st) (map (spot_at place) rows) (reverse pile) kids rest (subst (AreSpots src st (map (spot_at place) rows)) same spots) here.1);
+        made = put x done here.0 made;
+        is = append_assoc done (own x) (flat_map all_of (kids ++ rest))
+            ∙ ap (λ xs. done ++ xs) (ap (λ xs. own x ++ xs) (flat_map-append all_of kids rest) ∙ sym (append_assoc (own x) (flat_map all_of kids) (flat_map all_of rest))
+            ∙ ap (λ xs. xs ++ flat_map all_of rest) (sym (all_parts x)))
+            ∙ is;
+      }
+
+  pub visited : Goes src st all_of (spot ∷ reverse pile) out whole → Goes src st all_of (reverse new) to whole
+  visited t = by_rest t.rest t.done t.stand t.made t.is
+
+pub piled_first : (src : Source) (st : Stored) (spot : Spot) (x : Found) (pile out : List Spot) (before : List Found) → pile ≡ spot ∷ [] → IsSpot src st spot x
+    → AreSpots src st out before → Goes src st all_of (reverse pile) out (before ++ all_of x)
+piled_first src st spot x pile out before e is made =
+    subst (λ ps. Goes src st all_of (reverse ps) out (before ++ all_of x)) (sym e)
+    (record { rest = x ∷ []; done = before; stand = (is, tt); made = made; is = ap (λ xs. before ++ xs) (append-nil (all_of x)) })
+
+-- the last of the pile is the next
+pub piled_next : (src : Source) (st : Stored) (pile rest : List Spot) (next : Spot) (out : List Spot) (whole : List Found) → pile ≡ rest ++ next ∷ []
+    → Goes src st all_of (reverse pile) out whole → Goes src st all_of (next ∷ reverse rest) out whole
+piled_next src st pile rest next out whole e goes =
+    subst (λ left. Goes src st all_of left out whole) (ap reverse e ∙ reverse-append rest (next ∷ [])) goes

@@ -1,0 +1,4 @@
+pub mod Spelled
+pub mod Begun
+pub mod Runs
+pub mod Answered

@@ -1,0 +1,5 @@
+-- paths and their texts, and where a text first isn't one
+pub mod Paths
+-- what functions inside the crate promise each other
+pub mod Reader
+pub mod Reading

@@ -1,0 +1,9 @@
+//! Paths over a tree, and how they are read.
+#![tactic(auto)]
+
+mod path;
+mod pos;
+mod reading;
+
+pub use path::{Name, Query, Step};
+pub use reading::{QueryFault, read};

@@ -1,0 +1,155 @@
+//! Reads a path.
+ghost use Rattle.std.specs.Prelude.{◌≡◌, ◌++◌, [], ◌∷◌, Some, None, IfOk, IsOkAnd, MatchResult, if◌then◌else◌};
+ghost use Rattle.ipg_query_path.specs.Paths.{IsPath, IsFault};
+ghost use Rattle.ipg_query_path.specs.Reader.{start, at_hand, step, ended};
+ghost use Rattle.ipg_query_path.specs.Reading.{seen};
+ghost use Rattle.ipg_query_path.specs.declared.path.Query.{Query as Asked};
+ghost use Rattle.ipg_query_path.specs.declared.reading.QueryFault.TheVariants.{Memory};
+ghost use Rattle.std.specs.Prelude.{ℕ, List};
+
+use crate::path::{Name, Query, Step};
+use crate::pos::{Pos, Turn, turn_at};
+use ipg_num::List;
+use std::alloc::{AllocError, Global};
+use std::mem;
+
+/// Why a text is no path.
+#[derive(Clone, Copy, Debug, Drop, PartialEq, Eq)]
+pub enum QueryFault {
+    /// No path goes on with the byte at this place, or the text ends here.
+    QuerySyntax { at: u64 },
+    Memory,
+}
+
+impl From<AllocError> for QueryFault {
+    ghost from_gives = { λ _ fault. fault ≡ Memory };
+
+    fn from(_: AllocError) -> QueryFault {
+        QueryFault::Memory
+    }
+}
+
+/// The steps read so far, the name at hand, and the place within the path.
+#[derive(Drop)]
+struct Reader {
+    alloc: Global,
+    steps: Vec<Step>,
+    name: Vec<u8>,
+    at: Pos,
+}
+
+impl Reader {
+    fn new(alloc: Global) -> Reader
+        ensures { seen result ≡ start }
+    {
+        Reader {
+            alloc,
+            steps: Vec::new(alloc),
+            name: Vec::new(alloc),
+            at: Pos::Step,
+        }
+    }
+
+    /// Hands out the name at hand, and begins another.
+    fn take_name(&mut self) -> Name
+        ensures name { result ≡ (seen self.old).name }
+        ensures rest { seen self.new ≡ record (seen self.old) { name = [] } }
+    {
+        let name = mem::replace(&mut self.name, Vec::new(self.alloc));
+        List::from_vec(name)
+    }
+
+    /// The step at hand.
+    fn hand_over(&mut self) -> Step
+        ensures step { result ≡ at_hand (seen self.old) }
+        ensures rest { seen self.new ≡ record (seen self.old) { name = [] } }
+    {
+        let name = self.take_name();
+        match self.at {
+            Pos::Name => Step::Named(name),
+            Pos::Closed(number) => Step::Nth(name, number),
+            Pos::Star => Step::Children,
+            _ => Step::All,
+        }
+    }
+
+    /// Puts the step at hand behind the others.
+    fn close(&mut self) -> Result<(), AllocError>
+        ensures { IfOk result (λ _. seen self.new ≡ record (seen self.old) { steps = (seen self.old).steps ++ at_hand (seen self.old) ∷ []; name = [] }) }
+    {
+        let step = self.hand_over();
+        self.steps.push(step)?;
+        Ok(())
+    }
+
+    /// Takes a byte, if a path goes on with it.
+    fn take(&mut self, b: u8) -> Result<bool, AllocError>
+        ensures { IfOk result (λ on. step (seen self.old) b ≡ (if on then Some (seen self.new) else None)) }
+    {
+        match turn_at(self.at, b) {
+            Turn::Stuck => Ok(false),
+            Turn::To(at) => {
+                self.at = at;
+                Ok(true)
+            }
+            Turn::Add(at) => {
+                self.name.push(b)?;
+                self.at = at;
+                Ok(true)
+            }
+            Turn::End(at) => {
+                self.close()?;
+                self.at = at;
+                Ok(true)
+            }
+        }
+    }
+
+    /// The path, where it may end here.
+    fn finish(mut self) -> Result<Option<Query>, AllocError>
+        ensures { IfOk result (λ query. query ≡ ended (seen self)) }
+    {
+        match self.at {
+            Pos::Field => {
+                let field = self.take_name();
+                Ok(Some(self.whole(Some(field))))
+            }
+            Pos::Name | Pos::Closed(_) | Pos::Star | Pos::Stars => {
+                self.close()?;
+                Ok(Some(self.whole(None)))
+            }
+            _ => Ok(None),
+        }
+    }
+
+    fn whole(self, field: Option<Name>) -> Query
+        ensures { result ≡ record { steps = (seen self).steps; field = field } }
+    {
+        Query {
+            steps: List::from_vec(self.steps),
+            field,
+        }
+    }
+}
+
+/// The path that a text is.
+///
+/// # Errors
+/// `QuerySyntax` has the first byte that no path goes on with, or the text's length where it ends too early.
+pub fn read(alloc: Global, text: &[u8]) -> Result<Query, QueryFault>
+    ensures is { MatchResult result (λ query. IsPath query text.now) (λ fault. IsFault text.now fault) }
+    ensures back { (query : Asked) → IsPath query text.now → MatchResult result (λ found. found ≡ query) (λ fault. fault ≡ Memory) }
+{
+    let mut reader = Reader::new(alloc);
+    let mut next = 0;
+    while next < text.len() {
+        if !reader.take(text[next])? {
+            return Err(QueryFault::QuerySyntax { at: next as u64 });
+        }
+        next += 1;
+    }
+    match reader.finish()? {
+        Some(query) => Ok(query),
+        None => Err(QueryFault::QuerySyntax { at: next as u64 }),
+    }
+}
