@@ -1,10 +1,11 @@
 #!/usr/bin/env bash
-# A second checker of certificates, written from the pages, and `verify`: both answer alike, on what `cert` writes and on such changed.
+# A second checker of certificates, written from the pages, and `verify` answer alike: on certificates of the built-in
+# grammars, of those of `formats/`, of random ones and from outside, and on such changed.
 set -u
 cd "$(dirname "$0")/../.." || exit 1
 . .ci/skips.sh
 command -v python3 >/dev/null || {
-  skip second python3
+  skip second_checker python3
   exit 0
 }
 top=$PWD
