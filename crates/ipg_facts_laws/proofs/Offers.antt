@@ -34,8 +34,10 @@ use Rattle.ipg_facts.specs.Form.{variable, number, add_part, add_parts, plus, mi
 use Rattle.ipg_facts.specs.Form.{mentioned, facts_of, bare, at_most_zero, leq, less, both_at_most_zero, equal, choice, differ}
 use Rattle.ipg_facts.specs.Reading.{Scope, Reading, length_of, opaque, nought, plain, ranges, greatest, greatest_of, least_width, item_at, item_facts, inside}
 use Rattle.ipg_facts.specs.Reading.{if_there, touching, after_facts, product, computed, limited, asserted, denied, reading, read, form}
-use Rattle.ipg_facts.specs.Members.{arrays_with, attr_ranges, branches, end_of, is_valid, is_whole, members, number_ranges, number_touches, on_interval, own_at, own_members, passed, passed_all}
-use Rattle.ipg_facts.specs.Members.{primitive_touches, rule_touches, runs, slot_members, start_of, takes, terms_members, text_touches, touches, touches_all, touches_first, touches_none, touches_some}
+use Rattle.ipg_facts.specs.Members.{arrays_with, attr_ranges, branches, end_of, is_valid, is_whole, members}
+use Rattle.ipg_facts.specs.Members.{number_ranges, number_touches, on_interval, own_at, own_members, passed, passed_all}
+use Rattle.ipg_facts.specs.Members.{primitive_touches, rule_touches, runs, slot_members, start_of, takes}
+use Rattle.ipg_facts.specs.Members.{terms_members, text_touches, touches, touches_all, touches_first, touches_none, touches_some}
 use Rattle.ipg_facts.specs.Keep.{opening, before, mentions_holder, alt_at, held_facts, held, holder_facts, caller_facts, rule_facts, edge_facts}
 use Rattle.ipg_facts.specs.Holder.{kept}
 use Rattle.ipg_facts.specs.Numbers.{keys_of, formula_of, formula_step, keep}

@@ -221,14 +221,16 @@ number_stuck stop least most v bytes now left low wide is done same never = reco
   back = λ n rest few e. absurd (at now n rest few done never (sym (append_assoc (decimal n) (stop ∷ []) rest) ∙ sym e ∙ is.splits));
 }
   where
-    at : (l : List ℕ) (n : ℕ) (rest : List ℕ) → IsWithin least most n → IsDone most v l → ((r : List ℕ) → l ≡ stop ∷ r → ⊥) → decimal n ++ stop ∷ rest ≡ decimal v ++ l → ⊥
+    at : (l : List ℕ) (n : ℕ) (rest : List ℕ) → IsWithin least most n → IsDone most v l → ((r : List ℕ) → l ≡ stop ∷ r → ⊥)
+        → decimal n ++ stop ∷ rest ≡ decimal v ++ l → ⊥
     at [] n rest few h missing e = none (fronts (decimal n) (stop ∷ rest) (decimal v) [] e)
       where
         none : Front (decimal n) (stop ∷ rest) (decimal v) [] ⊎ Front (decimal v) [] (decimal n) (stop ∷ rest) → ⊥
         none (inl f) = let s : ⊥ = omega (arith, ap length f.rest, length-append f.more (stop ∷ rest)) in s
         none (inr f) = no_digit stop low
             (all_back IsDigit (decimal n) (stop ∷ rest)
-            (subst (AllByRecursion IsDigit) (f.longer ∙ ap (λ l. decimal n ++ l) (sym (f.rest ∙ append-nil f.more))) (all_digits v (below v most is.small wide)))).0
+            (subst (AllByRecursion IsDigit) (f.longer ∙ ap (λ l. decimal n ++ l) (sym (f.rest ∙ append-nil f.more)))
+            (all_digits v (below v most is.small wide)))).0
     at (b ∷ l) n rest few h missing e = elim (behind stop v n b rest l low (below v most is.small wide) (below n most few.1 wide) e) [
       | inl s ↦ missing l (ap (λ y. y ∷ l) s.0)
       | inr goes ↦ h n few.1 goes

@@ -4,7 +4,8 @@ use Rattle.std.proofs.Common.{append-nil, length-append, Ok, Err}
 use Rattle.std.proofs.Math.Seq.{take-append_seam}
 use Rattle.ipg_proof.specs.declared.certificate.Certificate.{Certificate}
 use Rattle.ipg_proof.specs.declared.reader.Halt.TheVariants.{Here}
-use Rattle.ipg_proof.specs.Texts.{text_of, edge_line, cycle_line, heading, between, IsShort, IsLong, IsEdgeEntry, IsCycleEntry, IsSpeakable, IsTextOf, GoesOn, IsTextFault}
+use Rattle.ipg_proof.specs.Texts.{text_of, edge_line, cycle_line, heading, between, IsShort}
+use Rattle.ipg_proof.specs.Texts.{IsLong, IsEdgeEntry, IsCycleEntry, IsSpeakable, IsTextOf, GoesOn, IsTextFault}
 use Rattle.ipg_proof.specs.Reads.{Continues, Stops, Reads, AreAlone}
 use Rattle.ipg_proof.proofs.Readers.{fronts, no_cons, here_is_no_memory}
 use Rattle.ipg_proof.proofs.Lines.{alone_edge_line, alone_cycle_line}
@@ -16,10 +17,12 @@ alone_text a b more is also e =
     elim (fronts (dead_text b.dead) (cycles_text b.cycles) (dead_text a.dead) (cycles_text a.cycles ++ more)
     (e ∙ append_assoc (dead_text a.dead) (cycles_text a.cycles) more)) [
       | inl f ↦
-          let none = alone_section heading IsShort short_counts IsEdgeEntry edge_line alone_edge_line one_edge one_edge_is a.dead b.dead f.more is.0 also.0 f.longer in
+          let none = alone_section heading IsShort short_counts IsEdgeEntry edge_line alone_edge_line one_edge one_edge_is
+          a.dead b.dead f.more is.0 also.0 f.longer in
           cycles (sym (f.rest ∙ ap (λ w. w ++ cycles_text b.cycles) none))
       | inr f ↦
-          let none = alone_section heading IsShort short_counts IsEdgeEntry edge_line alone_edge_line one_edge one_edge_is b.dead a.dead f.more also.0 is.0 f.longer in
+          let none = alone_section heading IsShort short_counts IsEdgeEntry edge_line alone_edge_line one_edge one_edge_is
+          b.dead a.dead f.more also.0 is.0 f.longer in
           cycles (f.rest ∙ ap (λ w. w ++ (cycles_text a.cycles ++ more)) none)
     ]
   where

@@ -117,46 +117,49 @@ long_counts = record { none = (let s : 0 < 2 ^ 64 = omega arith in s); alone = a
 
 module _ {A : Type 0} (word : List ℕ) (IsCount : ℕ → Type 0) (count : Counts IsCount) (Is : A → Type 0) (spell : A → List ℕ) (alone : AreAlone Is spell)
     (one : A) (one_is : Is one) where
+  abbrev pub Are : List A → Type 0
+  Are entries = AreCounted IsCount Is entries
+
   abbrev pub section_text : List A → List ℕ
   section_text entries = word ++ counted_text 10 spell entries
 
-  none_are : AreCounted IsCount Is []
+  none_are : Are []
   none_are = (count.none, tt)
 
-  number_joins : Joins IsCount (number_text 10) (AreSo Is) (λ n. flat_map spell) (AreCounted IsCount Is) (counted_text 10 spell) (λ n xs. xs)
+  number_joins : Joins IsCount (number_text 10) (AreSo Is) (λ n. flat_map spell) Are (counted_text 10 spell) (λ n xs. xs)
   number_joins = counted_joins Is spell alone one one_is IsCount (number_text 10)
 
-  heading_joins : Joins any (always word) (λ it. AreCounted IsCount Is) (λ it. counted_text 10 spell) (AreCounted IsCount Is) section_text (λ it xs. xs)
-  heading_joins = word_joins word (AreCounted IsCount Is) (counted_text 10 spell) [] none_are
+  heading_joins : Joins any (always word) (λ it. Are) (λ it. counted_text 10 spell) Are section_text (λ it xs. xs)
+  heading_joins = word_joins word Are (counted_text 10 spell) [] none_are
 
   behind_word : (bytes mid left : List ℕ) (r : Result (List A) Halt) → Reads any (always word) bytes mid (Ok tt)
-      → Reads (AreCounted IsCount Is) (counted_text 10 spell) mid left r → Reads (AreCounted IsCount Is) section_text bytes left r
-  behind_word bytes mid left r h k = subst (Reads (AreCounted IsCount Is) section_text bytes left) (made_itself r)
-      (read_second any (always word) (λ it. AreCounted IsCount Is) (λ it. counted_text 10 spell) (AreCounted IsCount Is) section_text (λ it xs. xs) heading_joins
+      → Reads Are (counted_text 10 spell) mid left r → Reads Are section_text bytes left r
+  behind_word bytes mid left r h k = subst (Reads Are section_text bytes left) (made_itself r)
+      (read_second any (always word) (λ it. Are) (λ it. counted_text 10 spell) Are section_text (λ it xs. xs) heading_joins
       (alone_word word) bytes mid left tt r h k)
 
-  pub section_word : (bytes left : List ℕ) (why : Halt) → Reads any (always word) bytes left (Err why) → Reads (AreCounted IsCount Is) section_text bytes left (Err why)
+  pub section_word : (bytes left : List ℕ) (why : Halt) → Reads any (always word) bytes left (Err why) → Reads Are section_text bytes left (Err why)
   section_word bytes left why r =
-      read_first any (always word) (λ it. AreCounted IsCount Is) (λ it. counted_text 10 spell) (AreCounted IsCount Is) section_text (λ it xs. xs) heading_joins bytes left why r
+      read_first any (always word) (λ it. Are) (λ it. counted_text 10 spell) Are section_text (λ it xs. xs) heading_joins bytes left why r
 
   pub section_count : (bytes mid left : List ℕ) (why : Halt) → Reads any (always word) bytes mid (Ok tt)
-      → Reads IsCount (number_text 10) mid left (Err why) → Reads (AreCounted IsCount Is) section_text bytes left (Err why)
+      → Reads IsCount (number_text 10) mid left (Err why) → Reads Are section_text bytes left (Err why)
   section_count bytes mid left why h k = behind_word bytes mid left (Err why) h
-      (read_first IsCount (number_text 10) (AreSo Is) (λ n. flat_map spell) (AreCounted IsCount Is) (counted_text 10 spell) (λ n xs. xs) number_joins mid left why k)
+      (read_first IsCount (number_text 10) (AreSo Is) (λ n. flat_map spell) Are (counted_text 10 spell) (λ n xs. xs) number_joins mid left why k)
 
   pub section_lines : (bytes mid behind left : List ℕ) (n : ℕ) (r : Result (List A) Halt) → Reads any (always word) bytes mid (Ok tt)
       → Reads IsCount (number_text 10) mid behind (Ok n)
-      → Reads (AreSo Is n) (flat_map spell) behind left r → Reads (AreCounted IsCount Is) section_text bytes left r
-  section_lines bytes mid behind left n r h k l = behind_word bytes mid left r h (subst (Reads (AreCounted IsCount Is) (counted_text 10 spell) mid left) (made_itself r)
-      (read_second IsCount (number_text 10) (AreSo Is) (λ m. flat_map spell) (AreCounted IsCount Is) (counted_text 10 spell) (λ m xs. xs) number_joins
+      → Reads (AreSo Is n) (flat_map spell) behind left r → Reads Are section_text bytes left r
+  section_lines bytes mid behind left n r h k l = behind_word bytes mid left r h (subst (Reads Are (counted_text 10 spell) mid left) (made_itself r)
+      (read_second IsCount (number_text 10) (AreSo Is) (λ m. flat_map spell) Are (counted_text 10 spell) (λ m xs. xs) number_joins
       count.alone mid behind left n r k l))
 
-  alone_counted : AreAlone (AreCounted IsCount Is) (counted_text 10 spell)
-  alone_counted = alone_both IsCount (number_text 10) (AreSo Is) (λ n. flat_map spell) (AreCounted IsCount Is) (counted_text 10 spell) (λ n xs. xs) number_joins
+  alone_counted : AreAlone Are (counted_text 10 spell)
+  alone_counted = alone_both IsCount (number_text 10) (AreSo Is) (λ n. flat_map spell) Are (counted_text 10 spell) (λ n xs. xs) number_joins
       count.alone count.same (λ n is. alone_list Is spell alone one one_is n)
 
-  pub alone_section : AreAlone (AreCounted IsCount Is) section_text
-  alone_section = alone_both any (always word) (λ it. AreCounted IsCount Is) (λ it. counted_text 10 spell) (AreCounted IsCount Is) section_text (λ it xs. xs) heading_joins
+  pub alone_section : AreAlone Are section_text
+  alone_section = alone_both any (always word) (λ it. Are) (λ it. counted_text 10 spell) Are section_text (λ it xs. xs) heading_joins
       (alone_word word) (λ it other is also e. refl) (λ it is. alone_counted)
 
 -- ---- both
@@ -170,7 +173,8 @@ cycles_text cycles = between ++ counted_text 10 cycle_line cycles
 no_cycles : AreCounted IsLong IsCycleEntry []
 no_cycles = (long_counts.none, tt)
 
-both_joins : Joins (AreFew IsEdgeEntry) dead_text (λ d. AreCounted IsLong IsCycleEntry) (λ d. cycles_text) IsSpeakable text_of (λ d c. record { dead = d; cycles = c })
+both_joins : Joins (AreFew IsEdgeEntry) dead_text (λ d. AreCounted IsLong IsCycleEntry) (λ d. cycles_text) IsSpeakable text_of
+    (λ d c. record { dead = d; cycles = c })
 both_joins = pair_joins (AreFew IsEdgeEntry) dead_text (AreCounted IsLong IsCycleEntry) cycles_text IsSpeakable text_of (λ d c. record { dead = d; cycles = c })
     (λ c. c.dead) (λ c. c.cycles)
     (λ c. refl) (λ d c. refl) (λ d c h k. (h, k)) (λ c is. is) [] no_cycles

@@ -1,7 +1,8 @@
 //! Reads words, numbers and refutations.
 ghost use Rattle.std.specs.Prelude.{◌≡◌, ◌∷◌, ◌++◌, [], ◌≤◌, ◌<◌, ◌+◌, ◌^◌, length, drop, MatchOption};
 ghost use Rattle.std.specs.List.{flat_map};
-ghost use Rattle.ipg_proof.specs.Texts.{number_text, refutation_line, edge_line, cycle_line, counted_text, IsShort, IsLong, IsTree, IsEdgeEntry, AreFew, AreCounted};
+ghost use Rattle.ipg_proof.specs.Texts.{number_text, refutation_line, edge_line, cycle_line, counted_text};
+ghost use Rattle.ipg_proof.specs.Texts.{IsShort, IsLong, IsTree, IsEdgeEntry, AreFew, AreCounted};
 ghost use Rattle.ipg_proof.specs.Texts.{IsCycleEntry, IsSpeakable, heading, between, text_of};
 ghost use Rattle.ipg_proof.specs.Numbers.{IsDigit, FirstAnswer, NextAnswer, WithDigit};
 ghost use Rattle.ipg_proof.specs.Reads.{Reads, AreSo, IsFrom, IsWithin, any, always};

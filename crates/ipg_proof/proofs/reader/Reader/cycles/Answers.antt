@@ -21,7 +21,8 @@ returns-in_err-count c =
     let why = c.in_err-count.field-0.0 in
     exits (AreCounted IsLong IsCycleEntry) (section_text between IsLong long_counts IsCycleEntry cycle_line alone_cycle_line one_cycle one_cycle_is) first left
     c.from_residual-in_err-count.result why c.from_residual-in_err-count.ensures.1
-    (section_count between IsLong long_counts IsCycleEntry cycle_line alone_cycle_line one_cycle one_cycle_is first mid left why c.in_ok-word.ensures c.in_err-count.ensures)
+    (section_count between IsLong long_counts IsCycleEntry cycle_line alone_cycle_line one_cycle one_cycle_is
+    first mid left why c.in_ok-word.ensures c.in_err-count.ensures)
 
 pub returns : goal.returns
 returns c =

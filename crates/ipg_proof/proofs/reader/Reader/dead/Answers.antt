@@ -9,7 +9,8 @@ returns-in_err-word c =
     let first = c.args.self.now.left.now in
     let left = c.word.new.self.left.now in
     let why = c.in_err-word.field-0.0 in
-    exits (AreFew IsEdgeEntry) (section_text heading IsShort short_counts IsEdgeEntry edge_line alone_edge_line one_edge one_edge_is) first left c.from_residual.result why
+    exits (AreFew IsEdgeEntry) (section_text heading IsShort short_counts IsEdgeEntry edge_line alone_edge_line one_edge one_edge_is)
+    first left c.from_residual.result why
     c.from_residual.ensures.1
     (section_word heading IsShort short_counts IsEdgeEntry edge_line alone_edge_line one_edge one_edge_is first left why c.in_err-word.ensures)
 
@@ -21,7 +22,8 @@ returns-in_err-count c =
     let why = c.in_err-count.field-0.0 in
     exits (AreFew IsEdgeEntry) (section_text heading IsShort short_counts IsEdgeEntry edge_line alone_edge_line one_edge one_edge_is) first left
     c.from_residual-in_err-count.result why c.from_residual-in_err-count.ensures.1
-    (section_count heading IsShort short_counts IsEdgeEntry edge_line alone_edge_line one_edge one_edge_is first mid left why c.in_ok-word.ensures c.in_err-count.ensures)
+    (section_count heading IsShort short_counts IsEdgeEntry edge_line alone_edge_line one_edge one_edge_is
+    first mid left why c.in_ok-word.ensures c.in_err-count.ensures)
 
 pub returns : goal.returns
 returns c =

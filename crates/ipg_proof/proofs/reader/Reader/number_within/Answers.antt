@@ -19,7 +19,8 @@ returns-in_err-byte c =
     let why = c.in_err-byte.field-0.0 in
     let there = subst (λ l. Reads any (always (stop ∷ [])) l left (Err why)) c.in_default-next_digit.ensures.0 c.in_err-byte.ensures in
     exits (IsWithin c.args.least c.args.most) (number_text stop) first left c.from_residual.result why c.from_residual.ensures.1
-    (number_ends stop c.args.least c.args.most c.loop-next.value first c.loop-next.self.left.now left (Err why) c.requires.stop (omega arith) c.loop-next.invariant
+    (number_ends stop c.args.least c.args.most c.loop-next.value first c.loop-next.self.left.now left (Err why)
+    c.requires.stop (omega arith) c.loop-next.invariant
     c.in_default-next_digit.ensures.1 there)
 
 pub returns : goal.returns
