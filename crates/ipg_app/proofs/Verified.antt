@@ -4,6 +4,7 @@ use Rattle.std.proofs.Common.{true, false, Ok, Err, Option, Some, None, Result, 
 use Rattle.std.proofs.Common.{arith, nat_le}
 use Rattle.std.specs.Prelude.{IsTrue, if◌then◌else◌}
 use Rattle.std.specs.List.{AllByRecursion}
+use Rattle.std.proofs.lemmas.Bool.{true≢false}
 use Rattle.std.proofs.lemmas.Bool.Decides.{nat_tests}
 use Rattle.ipg_outside.specs.Files.{Told, absent, holds, MayHold}
 use Rattle.ipg_core.specs.Grammar.{Grammar}
@@ -45,7 +46,10 @@ never_mismatch g c at place (inr other) =
 none_false : (n : ℕ) (bs : List Bool) (at : ℕ) → AllByRecursion IsTrue bs → first_false n bs ≡ Some at → ⊥
 none_false n [] at all e = cc
 none_false n (true ∷ bs) at all e = none_false (n + 1) bs at all.1 e
-none_false n (false ∷ bs) at all e = cc
+none_false n (false ∷ bs) at all e = true≢false (sym all.0)
+
+clash : (text : List ℕ) → holds text ≡ absent → ⊥
+clash text e = cc
 
 module _ (one_limit : OneLimit) where
   never_unsound : (g : Grammar) (c : Certificate) (at : ℕ) → AreChecked g c → IsUnsound g c at → ⊥
@@ -84,7 +88,7 @@ module _ (one_limit : OneLimit) where
     within_is n h = grind (arith, nat_tests)
 
     of_file : (name : List ℕ) (said : Said) → length text ≤ max_input → told name ≡ holds text → Answers told (verify name g) said → said ≡ verified
-    of_file name said within held (inl missing) = absurd (let e : holds text ≡ absent = sym held ∙ missing.0 in cc)
+    of_file name said within held (inl missing) = absurd (clash text (sym held ∙ missing.0))
     of_file name said within held (inr (bytes, may, answers)) =
         let same : bytes ≡ text = subst (λ t. MayHold t bytes) held may in
         of_input (nat_le (length bytes) max_input) bytes _ said

@@ -69,8 +69,7 @@ pub fn say_cert(alloc: Global, core: Core) -> Result<Settled, AllocError>
 
 /// Texts can say a certificate that proves a grammar.
 fn is_speakable(grammar: &Checked, certificate: &Certificate)
-    requires { Proves grammar.now certificate.now }
-    ensures { IsSpeakable certificate.now }
+    ensures { Proves grammar.now certificate.now → IsSpeakable certificate.now }
 {
     let _rules = grammar.core().rules();
     is_typed(certificate);

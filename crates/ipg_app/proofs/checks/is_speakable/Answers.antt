@@ -5,4 +5,4 @@ use Rattle.ipg_app.proofs.checks.is_speakable.Goals as goal
 pub returns : goal.returns
 returns c =
     let good = subst Good c.core.ensures.core c.rules-rules.ensures.good in
-    c.proves_is_speakable.ensures c.args.grammar.now c.args.certificate.now good c.requires c.is_typed.ensures
+    λ proves. c.proves_is_speakable.ensures c.args.grammar.now c.args.certificate.now good proves c.is_typed.ensures

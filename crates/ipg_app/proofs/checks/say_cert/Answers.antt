@@ -17,7 +17,7 @@ returns-in-Ok c =
     let checks : Checks core (Ok same) = rw c.in-Ok.is at c.in_ok-certificate.ensures.checks in
     let proves : Proves same certificate = rw c.in-Ok.is at c.in_ok-certificate.ensures.proved in
     IfOk-weaker c.written.result (λ s. said_of s ≡ done (text_of certificate)) (λ s. Says (cert core) (said_of s))
-    (λ s e told. (Ok same, checks, record { certificate = certificate; proves = proves; speakable = c.is_speakable.ensures; is = e })) c.written.ensures
+    (λ s e told. (Ok same, checks, record { certificate = certificate; proves = proves; speakable = c.is_speakable.ensures proves; is = e })) c.written.ensures
 
 pub returns : goal.returns
 returns c =
