@@ -20,7 +20,8 @@ module _ (src : Source) (st : Stored) (g : Grammar) (name : List ℕ) (spot : Sp
   -- a spot of that name is put behind the others
   pub kept_here : IsSpot src st spot x → b ≡ true → to ≡ out ++ spot ∷ [] → AreSpots src st to (before ++ kept g name x)
   kept_here here e put =
-      subst (λ ys. AreSpots src st ys (before ++ kept g name x)) (sym put) (subst (λ c. AreSpots src st (out ++ spot ∷ []) (before ++ (if c then x ∷ [] else []))) (sym e ∙ is)
+      subst (λ ys. AreSpots src st ys (before ++ kept g name x)) (sym put)
+      (subst (λ c. AreSpots src st (out ++ spot ∷ []) (before ++ (if c then x ∷ [] else []))) (sym e ∙ is)
       (push_one (IsSpot src st) out before spot x made here))
 
   pub left_out : b ≡ false → AreSpots src st out (before ++ kept g name x)

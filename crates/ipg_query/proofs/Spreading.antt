@@ -131,7 +131,8 @@ module _ (src : Source) (st : Stored) (spot : Spot) (pile new out to : List Spot
     (piled : new ≡ pile ++ reverse (map (spot_at place) rows)) where
   new_pile : map (spot_at place) rows ++ reverse pile ≡ reverse new
   new_pile =
-      sym (ap reverse piled ∙ reverse-append pile (reverse (map (spot_at place) rows)) ∙ ap (λ xs. xs ++ reverse pile) (reverse-reverse (map (spot_at place) rows)))
+      sym (ap reverse piled ∙ reverse-append pile (reverse (map (spot_at place) rows))
+      ∙ ap (λ xs. xs ++ reverse pile) (reverse-reverse (map (spot_at place) rows)))
 
   by_rest : (rest done : List Found) → Each (IsSpot src st) (spot ∷ reverse pile) rest → AreSpots src st out done → done ++ flat_map all_of rest ≡ whole
       → Goes src st all_of (reverse new) to whole
@@ -146,10 +147,12 @@ module _ (src : Source) (st : Stored) (spot : Spot) (pile new out to : List Spot
         rest = kids ++ rest;
         done = done ++ own x;
         stand = subst (λ ys. Each (IsSpot src st) ys (kids ++ rest)) new_pile
-            (each_append (IsSpot src st) (map (spot_at place) rows) (reverse pile) kids rest (subst (AreSpots src st (map (spot_at place) rows)) same spots) here.1);
+            (each_append (IsSpot src st) (map (spot_at place) rows) (reverse pile) kids rest
+            (subst (AreSpots src st (map (spot_at place) rows)) same spots) here.1);
         made = put x done here.0 made;
         is = append_assoc done (own x) (flat_map all_of (kids ++ rest))
-            ∙ ap (λ xs. done ++ xs) (ap (λ xs. own x ++ xs) (flat_map-append all_of kids rest) ∙ sym (append_assoc (own x) (flat_map all_of kids) (flat_map all_of rest))
+            ∙ ap (λ xs. done ++ xs) (ap (λ xs. own x ++ xs) (flat_map-append all_of kids rest)
+            ∙ sym (append_assoc (own x) (flat_map all_of kids) (flat_map all_of rest))
             ∙ ap (λ xs. xs ++ flat_map all_of rest) (sym (all_parts x)))
             ∙ is;
       }

@@ -20,7 +20,8 @@ loop-row-preserved g c src ones before stand near made =
     let at = c.args.at in
     go_at (IsRow src st at) (IsSpot src st) spread_of c.args.rows.now c.loop-row.row-index _ _ _ _ c.loop-row-test.true
     (c.loop-row.invariant src ones before stand near made)
-    (λ x done is so_far. subst (λ n. AreSpots src st c.push_spread.new.spots.items (done ++ spread n x.child)) is.at (c.in_ok-push_spread.ensures src x.child done is.stands is.near so_far))
+    (λ x done is so_far. subst (λ n. AreSpots src st c.push_spread.new.spots.items (done ++ spread n x.child)) is.at
+    (c.in_ok-push_spread.ensures src x.child done is.stands is.near so_far))
 
 pub returns : goal.returns
 returns g c src ones before stand near made =
