@@ -64,7 +64,7 @@ module _ (one_limit : OneLimit) where
   never_fails g c Memory said proves fault is = cc
 
   judged : (g : Grammar) (c : Certificate) (said : Said) → Proves g c → Judges g c said → said ≡ verified
-  judged g c said proves (inl yes) = yes.1
+  judged g c said proves (inl right) = right.1
   judged g c said proves (inr fails) = absurd (never_fails g c fails.why said proves fails.fault fails.is)
 
   module _ (g : Grammar) (text : List ℕ) (made : Certifies g (done text)) (told : List ℕ → Told) where

@@ -14,13 +14,7 @@ returns-in-Ok c =
     let core = c.args.core in
     let same = c.in-Ok.grammar in
     let certificate = c.in-Ok.certificate in
-    let checks : Checks core (Ok same) = rw c.in-Ok.is at c.in_ok-certificate.ensures.checks in
-    let proves : Proves same certificate = rw c.in-Ok.is at c.in_ok-certificate.ensures.proved in
+    let checks : Checks core (Ok same) = rw c.in-Ok.is at c.in_ok-grammar.ensures.checks in
+    let proves : Proves same certificate = rw c.in-Ok.is at c.in_ok-grammar.ensures.proved in
     IfOk-weaker c.written.result (λ s. said_of s ≡ done (text_of certificate)) (λ s. Says (cert core) (said_of s))
     (λ s e told. (Ok same, checks, record { certificate = certificate; proves = proves; speakable = c.is_speakable.ensures proves; is = e })) c.written.ensures
-
-pub returns : goal.returns
-returns c =
-    let said = said_of c.in-Err.settled in
-    let checks : Checks c.args.core (Err said) = rw c.in-Err.is at c.in_ok-certificate.ensures.checks in
-    λ told. (Err said, checks, refl)
