@@ -18,3 +18,9 @@ returns-in-Ok c =
     let proves : Proves same certificate = rw c.in-Ok.is at c.in_ok-grammar.ensures.proved in
     IfOk-weaker c.written.result (λ s. said_of s ≡ done (text_of certificate)) (λ s. Says (cert core) (said_of s))
     (λ s e told. (Ok same, checks, record { certificate = certificate; proves = proves; speakable = c.is_speakable.ensures proves; is = e })) c.written.ensures
+
+pub returns-in-Err : goal.returns-in-Err
+returns-in-Err c =
+    let said = said_of c.in-Err.settled in
+    let checks : Checks c.args.core (Err said) = rw c.in-Err.is at c.in_ok-grammar.ensures.checks in
+    λ told. (Err said, checks, refl)
