@@ -1,4 +1,4 @@
-"""Cases from outside, made by independent implementations: what a command says of each, and its status.
+"""Cases made by independent implementations, and texts worked by hand: what a command says of each, and its status.
 
   vectors.py parses|counts|certificates|conditions|texts COMMAND..
 
@@ -89,7 +89,7 @@ def main():
         for difference in differences(kind, command, case):
             differing += 1
             print(f"{kind}: {difference}")
-    print(f"{kind}: {len(cases)} cases from outside, {differing} differ")
+    print(f"{kind}: {len(cases)} cases, {differing} differ")
     return 1 if differing else 0
 
 
