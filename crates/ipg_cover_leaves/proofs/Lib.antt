@@ -1,0 +1,16 @@
+-- what stands in a list that was put together
+pub mod Among
+-- bytes from a place on
+pub mod Places
+-- leaves within a length
+pub mod Insides
+-- bytes that are read off the page
+pub mod ReadOff
+-- the first that is not so
+pub mod Firsts
+-- numbers
+pub mod Numbered
+-- the answer
+pub mod Settled
+-- a byte more on the page
+pub mod Cells

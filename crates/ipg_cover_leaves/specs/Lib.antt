@@ -1,0 +1,6 @@
+-- leaves, and the bytes that they put
+pub mod Bytes
+-- what comes of putting them back
+pub mod Back
+-- what the page holds while they are put
+pub mod Page

@@ -1,0 +1,12 @@
+//! The leaves of a parsed tree, and the bytes that they put back.
+#![tactic(auto)]
+
+mod back;
+mod fault;
+mod leaf;
+mod number;
+mod page;
+
+pub use back::put_back;
+pub use fault::PutFault;
+pub use leaf::Leaf;
