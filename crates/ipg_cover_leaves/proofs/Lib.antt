@@ -12,5 +12,7 @@ pub mod Firsts
 pub mod Numbered
 -- the answer
 pub mod Settled
+-- leaves as a walk sees them
+pub mod Seeing
 -- a byte more on the page
 pub mod Cells

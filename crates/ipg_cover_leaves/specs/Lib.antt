@@ -1,5 +1,7 @@
 -- leaves, and the bytes that they put
 pub mod Bytes
+-- those of a tree
+pub mod Leaves
 -- what comes of putting them back
 pub mod Back
 -- what the page holds while they are put

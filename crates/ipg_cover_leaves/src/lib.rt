@@ -2,11 +2,13 @@
 #![tactic(auto)]
 
 mod back;
+mod collecting;
 mod fault;
 mod leaf;
 mod number;
 mod page;
 
 pub use back::put_back;
+pub use collecting::leaves;
 pub use fault::PutFault;
 pub use leaf::Leaf;
