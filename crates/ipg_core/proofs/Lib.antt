@@ -5,6 +5,7 @@ pub mod EvalLemmas
 pub mod Orders
 pub mod Yields
 pub mod Within
+pub mod Holds
 pub mod Turns
 pub mod Touching
 pub mod Asks

@@ -13,6 +13,7 @@ use Rattle.ipg_core.specs.Meaning.{Frame, Place, many_on, rule_on, den}
 use Rattle.ipg_core.specs.Order.{Provides, InOrder}
 use Rattle.ipg_core.specs.Good.{Good}
 use Rattle.ipg_core.specs.Within.{TreeWithin}
+use Rattle.ipg_core.specs.Holds.{TreeHolds}
 use Rattle.ipg_core.specs.MustTouch.{MustTouch}
 use Rattle.ipg_core.specs.Total.{Fits, Total, IsForward}
 
@@ -34,6 +35,11 @@ OneOrder = (g : Grammar) (at : ℕ × ℕ) (terms : List CoreTerm) (one other : 
 abbrev pub LiesWithin : Type 0
 LiesWithin = (g : Grammar) (h r : ℕ) (s : List ℕ) (outer : Values) (tree : Tree)
     → den g h r s outer ≡ Ok tree → TreeWithin (length s) tree
+
+-- a tree holds bytes of its part
+abbrev pub HoldsItsBytes : Type 0
+HoldsItsBytes = (g : Grammar) (h r : ℕ) (s : List ℕ) (outer : Values) (tree : Tree)
+    → den g h r s outer ≡ Ok tree → TreeHolds s tree
 
 -- a repetition never uses up its turns: with one more it comes to the same
 abbrev pub TurnsSuffice : Type 0

@@ -12,8 +12,9 @@ pub mod Meaning
 pub mod Mention
 pub mod Order
 pub mod Good
--- what lies where in a result, and which rules must touch a byte
+-- what lies where in a result, what it holds, and which rules must touch a byte
 pub mod Within
+pub mod Holds
 pub mod MustTouch
 -- when parsing by it ends
 pub mod Grown

@@ -1,6 +1,6 @@
 //! Laws of the meaning, each the contract of a function that does nothing.
 
-ghost use Rattle.ipg_core.specs.Laws.{HeightsAgree, ForwardIsTotal, OneOrder, LiesWithin, TurnsSuffice, TouchingTouches, AsksWhatFits};
+ghost use Rattle.ipg_core.specs.Laws.{HeightsAgree, ForwardIsTotal, OneOrder, LiesWithin, HoldsItsBytes, TurnsSuffice, TouchingTouches, AsksWhatFits};
 
 /// A larger height gives the same answer as any answer that isn't Deep.
 pub fn heights_agree()
@@ -20,6 +20,11 @@ pub fn one_order()
 /// A tree lies within its part: each interval is valid, and what is touched lies in the interval that touches it.
 pub fn lies_within()
     ensures { LiesWithin }
+{}
+
+/// A tree holds bytes of its part: its terminals, its numbers and its raw bytes are what stands there.
+pub fn holds_its_bytes()
+    ensures { HoldsItsBytes }
 {}
 
 /// A repetition never uses up the turns that the definition gives it.
