@@ -66,7 +66,8 @@ only_new all at b c bare put = elim (Contains-push_cases all (at, b) (at, c) put
 agree_new : (all : Puts) (at b place : ℕ) → ((d : ℕ) → Contains all (at, d) → ⊥) → Agrees all place → Agrees (all ++ (at, b) ∷ []) place
 agree_new all at b place bare agrees = elim (same_or_not at place) [
   | inl e ↦ subst (Agrees (all ++ (at, b) ∷ [])) e (λ c d one two. sym (only_new all at b c bare one) ∙ only_new all at b d bare two)
-  | inr other ↦ agree_elsewhere all at b place other agrees ]
+  | inr other ↦ agree_elsewhere all at b place other agrees
+]
 
 -- a clash stays the least where the places before it agree as they did
 still : (all : Puts) (at b x : ℕ) → IsClash all x → ((place : ℕ) → place < x → Agrees (all ++ (at, b) ∷ []) place) → IsClash (all ++ (at, b) ∷ []) x
@@ -93,10 +94,12 @@ module _ (cells : Cells) (clash : Option ℕ) (all : Puts) (at b : ℕ) (holds :
   put_new less empty = record {
     was_put = λ place c there. elim (same_or_not at place) [
       | inl e ↦ new_there place c e there
-      | inr other ↦ Contains-append_left all _ _ (holds.was_put place c (sym (set_there cells at place (Some b) other) ∙ there)) ];
+      | inr other ↦ Contains-append_left all _ _ (holds.was_put place c (sym (set_there cells at place (Some b) other) ∙ there))
+    ];
     is_held = λ place c put. elim (Contains-push_cases all (at, b) (place, c) put) [
       | inl old ↦ old_held place c old
-      | inr e ↦ (b, subst (λ n. slice_get (slice_set cells at (Some b)) n ≡ Some (Some b)) (ap (λ p. p.0) e) (set_here cells at (Some b) less)) ];
+      | inr e ↦ (b, subst (λ n. slice_get (slice_set cells at (Some b)) n ≡ Some (Some b)) (ap (λ p. p.0) e) (set_here cells at (Some b) less))
+    ];
     clashes = stays clash all at b (λ place agrees. agree_new all at b place (bare empty) agrees) holds.clashes;
   } where
     new_there : (place c : ℕ) → at ≡ place → slice_get (slice_set cells at (Some b)) place ≡ Some (Some c) → Contains (all ++ (at, b) ∷ []) (place, c)
@@ -108,7 +111,8 @@ module _ (cells : Cells) (clash : Option ℕ) (all : Puts) (at b : ℕ) (holds :
     old_held : (place c : ℕ) → Contains all (place, c) → (d : ℕ) × (slice_get (slice_set cells at (Some b)) place ≡ Some (Some d))
     old_held place c old = elim (same_or_not at place) [
       | inl e ↦ absurd (bare empty c (subst (λ n. Contains all (n, c)) (sym e) old))
-      | inr other ↦ let held = holds.is_held place c old in (held.0, set_there cells at place (Some b) other ∙ held.1) ]
+      | inr other ↦ let held = holds.is_held place c old in (held.0, set_there cells at place (Some b) other ∙ held.1)
+    ]
 
   -- over the same byte
   pub put_same : slice_get cells at ≡ Some (Some b) → Holds cells clash (all ++ (at, b) ∷ [])
@@ -146,6 +150,7 @@ module _ (cells : Cells) (clash : Option ℕ) (all : Puts) (at b : ℕ) (holds :
     was_put = λ place d here. Contains-append_left all _ _ (holds.was_put place d here);
     is_held = λ place d put. elim (Contains-push_cases all (at, b) (place, d) put) [
       | inl old ↦ holds.is_held place d old
-      | inr e ↦ (c, subst (λ n. slice_get cells n ≡ Some (Some c)) (ap (λ p. p.0) e) there) ];
+      | inr e ↦ (c, subst (λ n. slice_get cells n ≡ Some (Some c)) (ap (λ p. p.0) e) there)
+    ];
     clashes = earlier c least there differ within below one;
   }

@@ -19,7 +19,8 @@ module _ (Is : Leaf → Type 0) (leaves : List Leaf) where
   pub one_more : (n : ℕ) (leaf : Leaf) → slice_get leaves n ≡ Some leaf → Is leaf → AreSoBefore Is leaves n → AreSoBefore Is leaves (n + 1)
   one_more n leaf here is before k one less there = elim (same_or_not k n) [
     | inl e ↦ let same : leaf ≡ one = cc in subst Is same is
-    | inr other ↦ before k one (omega (arith, less, other)) there ]
+    | inr other ↦ before k one (omega (arith, less, other)) there
+  ]
 
   pub first_not : (n : ℕ) (leaf : Leaf) → slice_get leaves n ≡ Some leaf → ¬ Is leaf → AreSoBefore Is leaves n → IsFirstNot Is leaves n
   first_not n leaf here not before = record { leaf = leaf; there = here; not = not; before = before }

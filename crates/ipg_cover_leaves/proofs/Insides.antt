@@ -15,8 +15,12 @@ pub ends_inside : (len : ℕ) (leaf : Leaf) (bytes : List ℕ) → leaf_bytes le
     → place_of leaf + length bytes ≤ len
 ends_inside len leaf bytes is inside some =
     let at = last (place_of leaf) bytes some in
-    omega (arith, some, inside (place_of leaf + length bytes - 1, at.byte)
-      (subst (λ these. Contains these (place_of leaf + length bytes - 1, at.byte)) (sym (puts_are leaf bytes is)) at.there))
+    omega (
+      arith,
+      some,
+      inside (place_of leaf + length bytes - 1, at.byte)
+          (subst (λ these. Contains these (place_of leaf + length bytes - 1, at.byte)) (sym (puts_are leaf bytes is)) at.there),
+    )
 
 -- and so do all, where that does
 pub is_inside : (len : ℕ) (leaf : Leaf) (bytes : List ℕ) → leaf_bytes leaf ≡ Some bytes → (1 ≤ length bytes → place_of leaf + length bytes ≤ len)

@@ -14,5 +14,11 @@ pub mod Numbered
 pub mod Settled
 -- leaves as a walk sees them
 pub mod Seeing
+-- what sits in an input
+pub mod Sitting
+-- one answer
+pub mod Agreed
+-- numbers and their bytes
+pub mod Numbers
 -- a byte more on the page
 pub mod Cells

@@ -16,7 +16,8 @@ pub lies : (at : ℕ) (bytes : List ℕ) (put : ℕ × ℕ) → Contains (from_o
 lies at [] put h = absurd (in_none put h)
 lies at (b ∷ bytes) put h = elim (in_cases (at, b) (from_on (at + 1) bytes) put h) [
   | inl e ↦ record { from = omega (arith, ap (λ p. p.0) e); to = omega (arith, ap (λ p. p.0) e) }
-  | inr more ↦ record { from = omega (arith, (lies (at + 1) bytes put more).from); to = omega (arith, (lies (at + 1) bytes put more).to) } ]
+  | inr more ↦ record { from = omega (arith, (lies (at + 1) bytes put more).from); to = omega (arith, (lies (at + 1) bytes put more).to) }
+]
 
 -- some byte is put at the last place
 pub record PutAt (all : List (ℕ × ℕ)) (place : ℕ) : Type 0 where

@@ -43,9 +43,11 @@ module _ (cells : Cells) (clash : Option ℕ) (all : List (ℕ × ℕ)) (holds :
     (read : map Some bytes ≡ take at cells) where
   put_before : at ≤ length cells → (place : ℕ) → place < at → IsPut all place
   put_before within place less =
-      let one = byte_at bytes place (omega (arith, less, sym (length_held bytes) ∙ ap length read ∙ length_take cells at within)) in
-      (one.byte, holds.was_put place one.byte
-        (sym (within_take cells at place less) ∙ sym (ap (λ these. slice_get these place) read) ∙ held bytes place one.byte one.there))
+      let one = byte_at bytes place (omega (arith, less, sym (length_held bytes) ∙ ap length read ∙ length_take cells at within)) in (
+        one.byte,
+        holds.was_put place one.byte
+            (sym (within_take cells at place less) ∙ sym (ap (λ these. slice_get these place) read) ∙ held bytes place one.byte one.there),
+      )
 
   pub is_gap : at < length cells → slice_get cells at ≡ Some None → IsGap all (length cells) at
   is_gap less empty = record {

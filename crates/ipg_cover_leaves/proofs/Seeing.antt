@@ -17,7 +17,7 @@ use Rattle.ipg_cover_leaves.specs.Leaves.{leaf_in, leaves_seen, leaves_of, IsTre
 abbrev pub IsNear : ℕ → Seen → Type 0
 IsNear most one = one.at + from_of one.child ≤ most
 
-all_append : {X : Type 0} (P : X → Type 0) (xs ys : List X) → AllByRecursion P xs → AllByRecursion P ys → AllByRecursion P (xs ++ ys)
+pub all_append : {X : Type 0} (P : X → Type 0) (xs ys : List X) → AllByRecursion P xs → AllByRecursion P ys → AllByRecursion P (xs ++ ys)
 all_append P [] ys a b = b
 all_append P (x ∷ xs) ys a b = (a.0, all_append P xs ys a.1 b)
 

@@ -4,5 +4,7 @@ pub mod Bytes
 pub mod Leaves
 -- what comes of putting them back
 pub mod Back
+-- laws
+pub mod Laws
 -- what the page holds while they are put
 pub mod Page

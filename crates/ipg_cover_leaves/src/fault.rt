@@ -7,21 +7,13 @@ use std::alloc::AllocError;
 #[derive(Clone, Copy, Debug, Drop, PartialEq, Eq)]
 pub enum PutFault {
     /// The number of a leaf is none that its primitive can have. Leaves are counted from 0.
-    Value {
-        leaf: u64,
-    },
+    Value { leaf: u64 },
     /// A leaf has a byte at or past the length.
-    Outside {
-        leaf: u64,
-    },
+    Outside { leaf: u64 },
     /// The least place where two leaves put different bytes.
-    Clash {
-        at: u32,
-    },
+    Clash { at: u32 },
     /// The least place where no leaf puts a byte.
-    Gap {
-        at: u32,
-    },
+    Gap { at: u32 },
     Memory,
 }
 

@@ -33,7 +33,12 @@ impl Leaf {
     {
         match self {
             Leaf::Text { .. } | Leaf::Raw { .. } => true,
-            Leaf::Number { prim, high, low, .. } => halves_of(*prim, high, low).is_some(),
+            Leaf::Number {
+                prim,
+                high,
+                low,
+                ..
+            } => halves_of(*prim, high, low).is_some(),
         }
     }
 

@@ -4,6 +4,8 @@
 mod back;
 mod collecting;
 mod fault;
+
+pub mod laws;
 mod leaf;
 mod number;
 mod page;

@@ -127,7 +127,12 @@ impl Page {
         match leaf {
             Leaf::Text { from, bytes } => self.put_all(*from, bytes.as_slice()),
             Leaf::Raw { from, bytes } => self.put_all(*from, bytes.as_slice()),
-            Leaf::Number { prim, from, high, low } => {
+            Leaf::Number {
+                prim,
+                from,
+                high,
+                low,
+            } => {
                 if let Some(number) = halves_of(*prim, high, low) {
                     self.put_number(*from, *prim, number);
                 }

@@ -11,12 +11,12 @@ is_inside-requires c = subst HasBytes (sym c.index-leaves-n.is) (All-get_or HasB
 pub returns-then-not-is_inside : goal.returns-then-not-is_inside
 returns-then-not-is_inside c =
     first_not (IsInside c.args.len) c.args.leaves.now c.loop-n.n c.index-leaves-n.result
-      (slice_get-get_or _ _ _ c.loop-n-test.true ∙ ap Some (sym c.index-leaves-n.is)) c.if-not-is_inside.ensures c.loop-n.invariant
+    (slice_get-get_or _ _ _ c.loop-n-test.true ∙ ap Some (sym c.index-leaves-n.is)) c.if-not-is_inside.ensures c.loop-n.invariant
 
 pub loop-n-preserved : goal.loop-n-preserved
 loop-n-preserved c =
     one_more (IsInside c.args.len) c.args.leaves.now c.loop-n.n c.index-leaves-n.result
-      (slice_get-get_or _ _ _ c.loop-n-test.true ∙ ap Some (sym c.index-leaves-n.is)) c.if-not-is_inside.ensures c.loop-n.invariant
+    (slice_get-get_or _ _ _ c.loop-n-test.true ∙ ap Some (sym c.index-leaves-n.is)) c.if-not-is_inside.ensures c.loop-n.invariant
 
 pub returns : goal.returns
 returns c = all_so (IsInside c.args.len) c.args.leaves.now c.loop-n.n c.loop-n-test.false c.loop-n.invariant

@@ -18,7 +18,7 @@ loop-visit-preserved g c = record {
   parse = c.in-Some.ensures.parse ∙ c.loop-visit.invariant.parse;
   so_far = λ src one is.
       let here = visited src c.loop-visit.p c.next.new.self _ _ c.in-Some.visit (c.in-Some.ensures.end src) (c.in-Some.ensures.more src)
-        (c.loop-visit.invariant.so_far src one is) in
+      (c.loop-visit.invariant.so_far src one is) in
       let source = subst (λ q. IsSource q src) (sym (c.in-Some.ensures.parse ∙ c.loop-visit.invariant.parse)) is.source in
       let shows = subst (λ q. Shows src q.store c.in-Some.visit here.first) (sym c.in-Some.ensures.parse) here.shows in
       here.behind _ (c.in_ok-push_leaf.ensures src here.first source shows here.near);

@@ -8,7 +8,7 @@ pub returns-in-None : goal.returns-in-None
 returns-in-None c all holds =
     let same = c.deref-cell-items.ensures.value in
     is_gap _ _ all holds _ _ c.loop-at.invariant (subst (λ cells. c.loop-at.at < length cells) same c.loop-at-test.true)
-      (sym (ap (λ cells. slice_get cells c.loop-at.at) same) ∙ slice_get-get_or _ _ _ c.loop-at-test.true ∙ ap Some c.in-None.is)
+    (sym (ap (λ cells. slice_get cells c.loop-at.at) same) ∙ slice_get-get_or _ _ _ c.loop-at-test.true ∙ ap Some c.in-None.is)
 
 pub returns : goal.returns
 returns c all holds =

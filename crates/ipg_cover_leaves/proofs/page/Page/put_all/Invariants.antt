@@ -8,4 +8,4 @@ abbrev pub invariant-loop-byte : goal.invariant-loop-byte
 invariant-loop-byte l =
     (l.at ≡ l.from + l.byte-index) × (length l.self.cells.items ≡ length l.initial.self.cells.items)
     × ((all : List (ℕ × ℕ)) → Holds l.initial.self.cells.items l.initial.self.clash all
-      → Put l.self.cells.items l.self.clash all (from_on l.at (drop l.byte-index l.bytes)) (from_on l.from l.bytes))
+    → Put l.self.cells.items l.self.clash all (from_on l.at (drop l.byte-index l.bytes)) (from_on l.from l.bytes))

@@ -8,4 +8,4 @@ abbrev pub invariant-loop-leaf : goal.invariant-loop-leaf
 invariant-loop-leaf l =
     (length l.self.cells.items ≡ length l.initial.self.cells.items)
     × (Holds l.initial.self.cells.items l.initial.self.clash []
-      → Put l.self.cells.items l.self.clash [] (puts (drop l.leaf-index l.leaves)) (puts l.leaves))
+    → Put l.self.cells.items l.self.clash [] (puts (drop l.leaf-index l.leaves)) (puts l.leaves))
