@@ -138,7 +138,8 @@ module _ (cells : Cells) (clash : Option ℕ) (all : Puts) (at b : ℕ) (holds :
     is_one = subst (λ n. Contains (all ++ (at, b) ∷ []) (n, c)) (sym e) (Contains-append_left all _ _ (holds.was_put at c there));
     is_other = subst (λ n. Contains (all ++ (at, b) ∷ []) (n, b)) (sym e) (Contains-push all (at, b));
     differ = differ;
-    before = λ place less. agree_elsewhere all at b place (λ same. omega (arith, same, less, e)) (agreed clash holds.clashes below place (omega (arith, less, e)));
+    before = λ place less. agree_elsewhere all at b place (λ same. omega (arith, same, less, e))
+        (agreed clash holds.clashes below place (omega (arith, less, e)));
   } where
     agreed : (k : Option ℕ) → IsClashIf all k → ((x : ℕ) → k ≡ Some x → least ≤ x) → (place : ℕ) → place < least → Agrees all place
     agreed None was under place less = was place

@@ -8,7 +8,8 @@ use Rattle.ipg_cover_leaves.specs.Back.{Agree, IsBack, IsPutFault, IsGap}
 use Rattle.ipg_cover_leaves.specs.Page.{AreBytes, IsGapFault}
 
 module _ (leaves : List Leaf) (len cells : ℕ) (same : cells ≡ len) (agree : Agree leaves len) where
-  pub settled : (result : Result (Vec ℕ Global) PutFault) → MatchResult result (λ bytes. AreBytes (puts leaves) cells bytes.items) (IsGapFault (puts leaves) cells)
+  pub settled : (result : Result (Vec ℕ Global) PutFault)
+      → MatchResult result (λ bytes. AreBytes (puts leaves) cells bytes.items) (IsGapFault (puts leaves) cells)
       → MatchResult result (λ bytes. IsBack leaves len bytes.items) (IsPutFault leaves len)
   settled (Ok bytes) are = record { agree = agree; long = are.long ∙ same; each = are.each }
   settled (Err (Value leaf)) is = absurd is

@@ -4,7 +4,6 @@
 mod back;
 mod collecting;
 mod fault;
-
 pub mod laws;
 mod leaf;
 mod number;

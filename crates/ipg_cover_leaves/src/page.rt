@@ -1,5 +1,5 @@
 //! The page that leaves are put on.
-ghost use Rattle.std.specs.Prelude.{◌≡◌, ℕ, ◌+◌, ◌<◌, ◌≤◌, ◌^◌, ◌⊎◌, List, [], ◌∷◌, ◌++◌, Option, Some, None, length, slice_get, IfOk, OnOk, MatchOption, MatchResult};
+ghost use Rattle.std.specs.Prelude.{◌≡◌, ℕ, ◌+◌, ◌<◌, ◌≤◌, ◌^◌, ◌⊎◌, List, [], ◌∷◌, ◌++◌, Some, length, IfOk, OnOk, MatchResult};
 ghost use Rattle.std.specs.List.{All, Contains};
 ghost use Rattle.ipg_cover_leaves.specs.declared.leaf.Leaf.{Leaf as Placed};
 ghost use Rattle.ipg_cover_leaves.specs.Bytes.{from_on, limits, written, leaf_bytes, place_of, puts_of, puts};

@@ -22,7 +22,8 @@ loop-leaf-preserved c =
       λ holds.
           go_on _ _ [] _ _ (puts_of c.leaf-item.result) (puts (drop (l.leaf-index + 1) leaves)) _
           (subst (λ left. Put l.self.cells.items l.self.clash [] left (puts leaves))
-          (ap puts (drop-cons leaves l.leaf-index c.leaf-item.result c.loop-leaf-test.true ∙ ap₂ (λ x k. x ∷ drop k leaves) (sym c.leaf-item.is) (sym (add-one l.leaf-index))))
+          (ap puts (drop-cons leaves l.leaf-index c.leaf-item.result c.loop-leaf-test.true
+          ∙ ap₂ (λ x k. x ∷ drop k leaves) (sym c.leaf-item.is) (sym (add-one l.leaf-index))))
           (l.invariant.1 holds))
           c.put_leaf.ensures.put,
     )
