@@ -1,6 +1,6 @@
 """Cases made by independent implementations, and texts worked by hand: what a command says of each, and its status.
 
-  vectors.py parses|counts|certificates|conditions|texts COMMAND..
+  vectors.py parses|counts|certificates|conditions|earlier|texts COMMAND..
 
 COMMAND is followed by the name of a grammar's file, and for a parse, its counts or a certificate by that of the input
 or the certificate. A case of `texts` has its files by name, and runs of words, which all say the same; `> NAME` at the
@@ -69,6 +69,33 @@ def run_words(command, case):
     return answers
 
 
+def holds(lines, at, values):
+    """Whether the member that begins at a line holds, and the line behind it."""
+    depth = len(lines[at]) - len(lines[at].lstrip())
+    word = lines[at].strip()
+    if word not in ("all", "any"):
+        terms = [part.split("*v") for part in word[: -len(" <= 0")].split(" + ")]
+        return sum(int(t[0]) * (values[int(t[1])] if len(t) == 2 else 1) for t in terms) <= 0, at + 1
+    members, at = [], at + 1
+    while at < len(lines) and lines[at].startswith(" " * (depth + 1)):
+        one, at = holds(lines, at, values)
+        members.append(one)
+    return (all if word == "all" else any)(members), at
+
+
+def unsolved(case):
+    """The edges whose conditions don't hold at the values that the case has for them, or not within their bounds."""
+    wrong = []
+    for edge, values in case["solved"].items():
+        lines = case["says"].split("\n")
+        begins = next(n for n, line in enumerate(lines) if line.startswith(edge + " "))
+        so, at = holds(lines, begins + 1, values)
+        bounds = [line.split(" ") for line in lines[at : at + len(values)]]
+        if not so or any(not int(low) <= value <= int(high) for value, (_, _, low, _, high) in zip(values, bounds)):
+            wrong.append(edge)
+    return wrong
+
+
 def differences(kind, command, case):
     """The runs of a case that say something else than is due."""
     if kind == "texts":
@@ -77,6 +104,8 @@ def differences(kind, command, case):
     else:
         due = due_of(kind, case)
         answers = [(case["grammar"], run(command, files_of(kind, case)))]
+    if kind == "earlier" and unsolved(case):
+        return [f"{case['grammar']}\n  no solution of edges {unsolved(case)}"]
     return [f"{words}\n  got {got!r:.400}\n  due {due!r:.400}" for words, got in answers if got != due]
 
 

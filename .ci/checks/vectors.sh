@@ -25,4 +25,6 @@ python3 .ci/vectors.py counts crates/tool_counts/out/tool_counts || failed=1
 bash .ci/shared_calls.sh crates/tool_counts/out/tool_counts || failed=1
 built tool_conditions data/list.ipg
 python3 .ci/vectors.py conditions crates/tool_conditions/out/tool_conditions || failed=1
+# what is accepted now, and could be walked by the earlier conditions
+python3 .ci/vectors.py earlier crates/tool_conditions/out/tool_conditions earlier || failed=1
 exit "$failed"

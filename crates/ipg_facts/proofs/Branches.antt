@@ -15,6 +15,7 @@ use Rattle.ipg_core.specs.declared.grammar.CoreAlt.{CoreAlt}
 use Rattle.ipg_graph.specs.declared.edge.Edge.{Edge}
 use Rattle.ipg_facts.specs.Key.{caller_side}
 use Rattle.ipg_facts.specs.Members.{own_at}
+use Rattle.ipg_facts.specs.declared.edition.Edition.{Edition}
 use Rattle.ipg_facts.specs.Keep.{opening, before, caller_facts}
 use Rattle.ipg_facts.proofs.Parts.{at_item}
 
@@ -84,13 +85,13 @@ pub all_passed : (scope all : Scope) (order : List ℕ) (i : ℕ) → length ord
 unfolding passed_all
 all_passed scope all order i past h = sym (ap (passed_all scope) (drop_all i order past)) ∙ h
 
-pub caller_made : (g : Grammar) (marks : List Bool) (e : Edge) (caller : CoreAlt) (scope done : Scope) (order : List ℕ) (old mid new : List Fact)
-    → scope ≡ opening g marks caller_side caller → order ≡ before e.term caller.order → mid ≡ old ++ terms_members scope order → done ≡ passed_all scope order
-    → new ≡ mid ++ own_at done e.term e.branch → new ≡ old ++ caller_facts g marks e caller
+pub caller_made : (g : Grammar) (marks : List Bool) (edition : Edition) (e : Edge) (caller : CoreAlt) (scope done : Scope) (order : List ℕ) (old mid new : List Fact)
+    → scope ≡ opening g marks edition caller_side caller → order ≡ before e.term caller.order → mid ≡ old ++ terms_members scope order → done ≡ passed_all scope order
+    → new ≡ mid ++ own_at done e.term e.branch → new ≡ old ++ caller_facts g marks edition e caller
 unfolding caller_facts
-caller_made g marks e caller scope done order old mid new is_scope is_order is_mid is_done is_new =
+caller_made g marks edition e caller scope done order old mid new is_scope is_order is_mid is_done is_new =
     is_new ∙ ap (λ m. m ++ own_at done e.term e.branch) is_mid ∙ append_assoc old (terms_members scope order) (own_at done e.term e.branch)
     ∙ ap (λ d. old ++ (terms_members scope order ++ own_at d e.term e.branch)) is_done
     ∙ ap (λ s. old ++ (terms_members s order ++ own_at (passed_all s order) e.term e.branch)) is_scope
-    ∙ ap (λ o. old ++ (terms_members (opening g marks caller_side caller) o ++ own_at (passed_all (opening g marks caller_side caller) o) e.term e.branch))
-    is_order
+    ∙ ap (λ o. old ++ (terms_members (opening g marks edition caller_side caller) o
+    ++ own_at (passed_all (opening g marks edition caller_side caller) o) e.term e.branch)) is_order

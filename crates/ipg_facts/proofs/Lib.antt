@@ -1,8 +1,6 @@
 pub mod Parts
 pub mod Puts
 pub mod Words
-pub mod Mentions
 pub mod Tables
 pub mod Branches
 pub mod Inserted
-pub mod Rounds

@@ -6,16 +6,19 @@ use Rattle.ipg_core.specs.declared.grammar.CoreRule.{CoreRule}
 use Rattle.ipg_core.specs.Grammar.{Grammar, rule_at}
 use Rattle.ipg_graph.specs.declared.edge.Edge.{Edge}
 use Rattle.ipg_facts.specs.declared.fact.Fact.{Fact}
-use Rattle.ipg_facts.specs.declared.mention.Ask.TheVariants.{AnyOuter}
+use Rattle.ipg_facts.specs.declared.edition.Edition.{Edition}
+use Rattle.ipg_facts.specs.declared.edition.Edition.TheVariants.{Later}
+use Rattle.ipg_facts_holder.specs.declared.mention.Ask.TheVariants.{AnyOuter}
 use Rattle.ipg_facts.specs.Key.{caller_side, holder_side}
 use Rattle.ipg_facts.specs.Form.{leq}
-use Rattle.ipg_facts.specs.Reading.{Scope, length_of}
+use Rattle.ipg_facts.specs.Reading.{Scope, length_of, if_later}
 use Rattle.ipg_facts.specs.Members.{terms_members, passed_all, own_at}
-use Rattle.ipg_facts.specs.Holder.{mentions_some, kept}
+use Rattle.ipg_facts_holder.specs.Holder.{mentions_some, kept}
 
 -- an alternative none of whose arrays has run
-unfoldable pub opening : Grammar → List Bool → ℕ → CoreAlt → Scope
-opening g marks side alt = record {
+unfoldable pub opening : Grammar → List Bool → Edition → ℕ → CoreAlt → Scope
+opening g marks edition side alt = record {
+  edition = edition;
   side = side;
   names = g.names;
   marks = marks;
@@ -42,8 +45,8 @@ alt_at g at = alt_of (rule_at g at.0) at.1
 -- the holder's part is at least as long, and these of its terms have run
 unfoldable pub held_facts : Grammar → List Bool → CoreAlt → CoreAlt → List ℕ → List Fact
 held_facts g marks holder caller terms =
-    leq (length_of (opening g marks caller_side caller)) (length_of (opening g marks holder_side holder))
-    ++ terms_members (opening g marks holder_side holder) terms
+    leq (length_of (opening g marks Later caller_side caller)) (length_of (opening g marks Later holder_side holder))
+    ++ terms_members (opening g marks Later holder_side holder) terms
 
 -- those that matter
 unfoldable pub held : Grammar → List Bool → ℕ × ℕ → Option CoreAlt → CoreAlt → List Fact
@@ -55,16 +58,17 @@ holder_facts g marks None caller = []
 holder_facts g marks (Some at) caller = if mentions_holder caller then held g marks at (alt_at g at) caller else []
 
 -- the terms before the edge's term have run, and its call is made on the whole part
-unfoldable pub caller_facts : Grammar → List Bool → Edge → CoreAlt → List Fact
-caller_facts g marks e caller =
-    terms_members (opening g marks caller_side caller) (before e.term caller.order)
-    ++ own_at (passed_all (opening g marks caller_side caller) (before e.term caller.order)) e.term e.branch
+unfoldable pub caller_facts : Grammar → List Bool → Edition → Edge → CoreAlt → List Fact
+caller_facts g marks edition e caller =
+    terms_members (opening g marks edition caller_side caller) (before e.term caller.order)
+    ++ own_at (passed_all (opening g marks edition caller_side caller) (before e.term caller.order)) e.term e.branch
 
-unfoldable pub rule_facts : Grammar → List Bool → Edge → Option CoreRule → Option CoreAlt → List Fact
-rule_facts g marks e (Some rule) (Some caller) = holder_facts g marks rule.holder caller ++ caller_facts g marks e caller
-rule_facts g marks e (Some rule) None = []
-rule_facts g marks e None alt = []
+unfoldable pub rule_facts : Grammar → List Bool → Edition → Edge → Option CoreRule → Option CoreAlt → List Fact
+rule_facts g marks edition e (Some rule) (Some caller) =
+    if_later edition (holder_facts g marks rule.holder caller) ++ caller_facts g marks edition e caller
+rule_facts g marks edition e (Some rule) None = []
+rule_facts g marks edition e None alt = []
 
 -- the members of the edge's conditions, in order
-unfoldable pub edge_facts : Grammar → List Bool → Edge → List Fact
-edge_facts g marks e = rule_facts g marks e (rule_at g e.caller) (alt_at g (e.caller, e.alt))
+unfoldable pub edge_facts : Grammar → List Bool → Edition → Edge → List Fact
+edge_facts g marks edition e = rule_facts g marks edition e (rule_at g e.caller) (alt_at g (e.caller, e.alt))

@@ -4,7 +4,6 @@ pub mod Form
 pub mod Reading
 pub mod View
 pub mod Members
-pub mod Holder
 -- the conditions of an edge, over keys and then over numbers
 pub mod Keep
 pub mod Numbers

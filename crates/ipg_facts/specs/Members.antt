@@ -14,6 +14,8 @@ use Rattle.ipg_facts.specs.declared.fact.Form.{Form}
 use Rattle.ipg_facts.specs.declared.fact.Fact.{Fact}
 use Rattle.ipg_facts.specs.declared.fact.Fact.TheVariants.{All, Any}
 use Rattle.ipg_facts.specs.declared.fact.Bounds.{Bounds}
+use Rattle.ipg_facts.specs.declared.edition.Edition.{Edition}
+use Rattle.ipg_facts.specs.declared.edition.Edition.TheVariants.{Earlier, Later}
 use Rattle.ipg_facts.specs.Key.{start, end, named, attribute, loop}
 use Rattle.ipg_facts.specs.Form.{variable, shifted, leq, less, equal, choice}
 use Rattle.ipg_facts.specs.Reading.{Scope, length_of, nought, ranges, greatest, read, form}
@@ -98,9 +100,13 @@ members scope term (Some (Repeat first last item from to)) = []
 members scope term (Some (Many item from to)) = is_valid scope (form scope from) (form scope to)
 members scope term (Some (Pick cases other)) = Any (branches scope term [] cases other) ∷ []
 
+-- the bounds of arrays, one more of which has run; the earlier conditions know of none
+abbrev pub with_bounds : Edition → Scope → ℕ → CoreExpr → CoreExpr → List (Option Bounds)
+with_bounds Earlier scope term first last = scope.arrays
+with_bounds Later scope term first last = slice_set scope.arrays term (Some (record { first = form scope first; last = form scope last }))
+
 unfoldable pub arrays_with : Scope → ℕ → Option CoreTerm → List (Option Bounds)
-arrays_with scope term (Some (Repeat first last item from to)) =
-    slice_set scope.arrays term (Some (record { first = form scope first; last = form scope last }))
+arrays_with scope term (Some (Repeat first last item from to)) = with_bounds scope.edition scope term first last
 arrays_with scope term _ = scope.arrays
 
 -- the bounds of an array that has run are known from then on

@@ -8,6 +8,7 @@ use Rattle.ipg_lin.specs.declared.formula.Formula.TheVariants as formulas
 use Rattle.ipg_lin.specs.declared.formula.Boxed.{Boxed}
 use Rattle.ipg_facts.specs.declared.fact.Fact.{Fact, fold-Fact}
 use Rattle.ipg_facts.specs.declared.fact.Fact.TheOpen.{Fact-F}
+use Rattle.ipg_facts.specs.declared.edition.Edition.TheVariants.{Earlier, Later}
 use Rattle.ipg_facts.specs.Key.{Key, caller_side, holder_side, whole}
 use Rattle.ipg_facts.specs.Keep.{edge_facts}
 
@@ -68,4 +69,8 @@ all_of facts = (formulas.All (map (formula_of (keys_of facts)) facts), box_of (k
 
 -- the conditions of an edge
 unfoldable pub keep : Grammar → List Bool → Edge → Formula × Boxed
-keep g marks e = all_of (edge_facts g marks e)
+keep g marks e = all_of (edge_facts g marks Later e)
+
+-- as they were when they knew less
+unfoldable pub keep_before : Grammar → List Bool → Edge → Formula × Boxed
+keep_before g marks e = all_of (edge_facts g marks Earlier e)

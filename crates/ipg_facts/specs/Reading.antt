@@ -18,11 +18,15 @@ use Rattle.ipg_core.specs.MustTouch.{is_marked}
 use Rattle.ipg_facts.specs.declared.fact.Form.{Form}
 use Rattle.ipg_facts.specs.declared.fact.Fact.{Fact}
 use Rattle.ipg_facts.specs.declared.fact.Bounds.{Bounds}
+use Rattle.ipg_facts.specs.declared.edition.Edition.{Edition}
+use Rattle.ipg_facts.specs.declared.edition.Edition.TheVariants.{Earlier, Later}
 use Rattle.ipg_facts.specs.Key.{spell, whole, attribute, loop, field, value, holder_side}
 use Rattle.ipg_facts.specs.Form.{variable, number, plus, minus, scaled, shifted, is_constant, in_limits, leq, less, equal, differ, choice}
 
 -- an alternative whose expressions are read
 pub record Scope : Type 0 where
+  -- how much is known of its terms
+  pub edition : Edition
   -- the caller's or the holder's
   pub side : ℕ
   -- the names of attributes, by their numbers, and which rules must touch
@@ -108,6 +112,11 @@ item_facts scope item (Attr a) v = ranges v (greatest_of item (name_at scope.nam
 item_facts scope item Start v = leq nought v ++ leq (shifted v (pos (least_width scope.marks item))) (length_of scope)
 item_facts scope item End v = leq (number (pos (least_width scope.marks item))) v ++ leq v (length_of scope)
 
+-- what the earlier conditions leave out
+abbrev pub if_later : Edition → List Fact → List Fact
+if_later Earlier facts = []
+if_later Later facts = facts
+
 -- some item touches: v is a place behind a byte of the part
 unfoldable pub inside : Scope → Form → List Fact
 inside scope v = leq (number (pos 1)) v ++ leq v (length_of scope)
@@ -185,7 +194,7 @@ reading scope (CoreExpr-F.Seen term sym f) =
     plain (spell (CoreExpr-F.Seen term sym f)) (variable (field scope.names scope.side term f) [])
 reading scope (CoreExpr-F.Item term index f) =
     let words = spell (CoreExpr-F.Item term index.words f) in
-    plain words (variable (value scope.side words) (item_facts scope (item_at scope term) f (opaque scope words)))
+    plain words (variable (value scope.side words) (if_later scope.edition (item_facts scope (item_at scope term) f (opaque scope words))))
 reading scope (CoreExpr-F.After term left) =
     let words = spell (CoreExpr-F.After term left.words) in
     plain words (variable (value scope.side words) (after_facts scope (touching scope term) (opaque scope words) left.form))

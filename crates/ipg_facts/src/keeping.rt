@@ -1,13 +1,13 @@
 ghost use Rattle.std.specs.Prelude.{◌≡◌, IfOk, OnOk, ◌++◌, ◌∷◌, ◌<◌, [], length, slice_get, option_map, Option, replicate};
 ghost use Rattle.std.specs.Option.{option_copied};
 ghost use Rattle.ipg_core.specs.Grammar.{rule_at};
-ghost use Rattle.ipg_facts.specs.Members as members;
+ghost use Rattle.ipg_facts.specs.Reading as reading;
 ghost use Rattle.ipg_facts.specs.Keep as spec;
 ghost use Rattle.ipg_facts.specs.Numbers as numbers;
 ghost use Rattle.ipg_facts.specs.View.{scope_of};
 
+use crate::edition::Edition;
 use crate::fact::{Bounds, Fact};
-use crate::holder::{kept, mentions_holder};
 use crate::key::{CALLER, HOLDER};
 use crate::members::{put_own_members, put_terms_members};
 use crate::numbers::{box_of, formulas_of, keys_of};
@@ -15,10 +15,18 @@ use crate::put::put_leq;
 use crate::scope::{Scope, length_of};
 use ipg_core::accepted::Core;
 use ipg_core::grammar::{CoreAlt, CoreRule};
+use ipg_facts_holder::{kept, mentions_holder};
 use ipg_graph::Edge;
 use ipg_lin::{Boxed, Formula};
 use ipg_num::item_at;
 use std::alloc::{AllocError, Global};
+
+/// A grammar, and which of its rules must touch.
+#[derive(Clone, Copy)]
+struct Ground<'a> {
+    grammar: &'a Core,
+    marks: &'a [bool],
+}
 
 fn no_arrays(alloc: Global, count: usize) -> Result<Vec<Option<Bounds>>, AllocError>
     ensures { IfOk result (λ arrays. arrays.items ≡ replicate count None) }
@@ -34,17 +42,18 @@ fn no_arrays(alloc: Global, count: usize) -> Result<Vec<Option<Bounds>>, AllocEr
 #[tactic(auto, unfolding(crate::specs::Keep::opening))]
 fn opening<'a>(
     alloc: Global,
-    g: &'a Core,
-    marks: &'a [bool],
+    ground: Ground<'a>,
+    edition: Edition,
     side: u64,
     alt: &'a CoreAlt,
 ) -> Result<Scope<'a>, AllocError>
-    ensures { IfOk result (λ scope. scope_of scope ≡ spec.opening g.now marks.now side alt.now) }
+    ensures { IfOk result (λ scope. scope_of scope ≡ spec.opening ground.entry.grammar.now ground.entry.marks.now edition side alt.now) }
 {
     Ok(Scope {
+        edition,
         side,
-        names: g.names(),
-        marks,
+        names: ground.grammar.names(),
+        marks: ground.marks,
         terms: alt.terms.as_slice(),
         arrays: no_arrays(alloc, alt.terms.len())?,
     })
@@ -79,13 +88,6 @@ fn before(alloc: Global, term: u32, order: &[u32]) -> Result<Vec<u32>, AllocErro
     Ok(before)
 }
 
-/// A grammar, and which of its rules must touch.
-#[derive(Clone, Copy)]
-struct Ground<'a> {
-    grammar: &'a Core,
-    marks: &'a [bool],
-}
-
 /// The holder's part is at least as long, and these of its terms have run.
 #[tactic(auto, unfolding(crate::specs::Keep::held_facts), using(crate::proofs::Puts::then, crate::proofs::Puts::then_first))]
 fn put_held_facts(
@@ -98,8 +100,8 @@ fn put_held_facts(
 ) -> Result<(), AllocError>
     ensures { OnOk result (out.new.items ≡ out.old.items ++ spec.held_facts ground.entry.grammar.now ground.entry.marks.now holder.now caller.now terms.now) }
 {
-    let own = opening(alloc, ground.grammar, ground.marks, CALLER, caller)?;
-    let mut scope = opening(alloc, ground.grammar, ground.marks, HOLDER, holder)?;
+    let own = opening(alloc, ground, Edition::Later, CALLER, caller)?;
+    let mut scope = opening(alloc, ground, Edition::Later, HOLDER, holder)?;
     put_leq(
         alloc,
         out,
@@ -151,19 +153,39 @@ fn put_holder_facts(
     }
 }
 
+/// The same, which the earlier conditions leave out.
+fn put_later_holder_facts(
+    alloc: Global,
+    out: &mut Vec<Fact>,
+    ground: Ground,
+    edition: Edition,
+    holder: Option<(u32, u32)>,
+    caller: &CoreAlt,
+) -> Result<(), AllocError>
+    ensures { OnOk result
+        (out.new.items ≡ out.old.items
+        ++ reading.if_later edition (spec.holder_facts ground.entry.grammar.now ground.entry.marks.now holder caller.now)) }
+{
+    match edition {
+        Edition::Earlier => Ok(()),
+        Edition::Later => put_holder_facts(alloc, out, ground, holder, caller),
+    }
+}
+
 /// The terms before the edge's term have run, and its call is made on the whole part.
 #[tactic(auto, unfolding(crate::specs::Keep::caller_facts), using(crate::proofs::Puts::then, crate::proofs::Puts::then_last))]
 fn put_caller_facts(
     alloc: Global,
     out: &mut Vec<Fact>,
     ground: Ground,
+    edition: Edition,
     edge: Edge,
     caller: &CoreAlt,
 ) -> Result<(), AllocError>
-    ensures { OnOk result (out.new.items ≡ out.old.items ++ spec.caller_facts ground.entry.grammar.now ground.entry.marks.now edge caller.now) }
+    ensures { OnOk result (out.new.items ≡ out.old.items ++ spec.caller_facts ground.entry.grammar.now ground.entry.marks.now edition edge caller.now) }
 {
     let order = before(alloc, edge.term, caller.order.as_slice())?;
-    let mut scope = opening(alloc, ground.grammar, ground.marks, CALLER, caller)?;
+    let mut scope = opening(alloc, ground, edition, CALLER, caller)?;
     put_terms_members(alloc, out, &mut scope, order.as_slice())?;
     put_own_members(alloc, out, &scope, edge.term, edge.branch)
 }
@@ -173,30 +195,36 @@ fn put_rule_facts(
     alloc: Global,
     out: &mut Vec<Fact>,
     ground: Ground,
+    edition: Edition,
     edge: Edge,
     rule: &CoreRule,
 ) -> Result<(), AllocError>
-    ensures { OnOk result (out.new.items ≡ out.old.items ++ spec.rule_facts ground.entry.grammar.now ground.entry.marks.now edge (Some rule.now)
+    ensures { OnOk result (out.new.items ≡ out.old.items ++ spec.rule_facts ground.entry.grammar.now ground.entry.marks.now edition edge (Some rule.now)
         (slice_get rule.now.alts edge.alt)) }
 {
     match alt_of(rule, edge.alt) {
         None => Ok(()),
         Some(caller) => {
-            put_holder_facts(alloc, out, ground, rule.holder, caller)?;
-            put_caller_facts(alloc, out, ground, edge, caller)
+            put_later_holder_facts(alloc, out, ground, edition, rule.holder, caller)?;
+            put_caller_facts(alloc, out, ground, edition, edge, caller)
         }
     }
 }
 
 #[tactic(auto, unfolding(crate::specs::Keep::edge_facts, crate::specs::Keep::rule_facts))]
-fn edge_facts(alloc: Global, ground: Ground, edge: Edge) -> Result<Vec<Fact>, AllocError>
-    ensures { IfOk result (λ facts. facts.items ≡ spec.edge_facts ground.entry.grammar.now ground.entry.marks.now edge) }
+fn edge_facts(
+    alloc: Global,
+    ground: Ground,
+    edition: Edition,
+    edge: Edge,
+) -> Result<Vec<Fact>, AllocError>
+    ensures { IfOk result (λ facts. facts.items ≡ spec.edge_facts ground.entry.grammar.now ground.entry.marks.now edition edge) }
 {
     let mut facts = Vec::new(alloc);
     match item_at(ground.grammar.rules(), edge.caller as usize) {
         None => Ok(facts),
         Some(rule) => {
-            put_rule_facts(alloc, &mut facts, ground, edge, rule)?;
+            put_rule_facts(alloc, &mut facts, ground, edition, edge, rule)?;
             Ok(facts)
         }
     }
@@ -233,6 +261,28 @@ pub fn keep(
         grammar: g,
         marks: touch,
     };
-    let facts = edge_facts(alloc, ground, edge)?;
+    let facts = edge_facts(alloc, ground, Edition::Later, edge)?;
+    numbered(alloc, facts.as_slice())
+}
+
+/// The conditions as they were when they knew less (`Edition::Earlier`), with the same arguments as `keep`. Whatever
+/// solves `keep` gives a solution of these with the same length of the part.
+#[tactic(auto, unfolding(crate::specs::Numbers::keep_before))]
+pub fn keep_before(
+    alloc: Global,
+    g: &Core,
+    touch: &[bool],
+    edges: &[Edge],
+    e: u32,
+) -> Result<(Formula, Boxed), AllocError>
+    requires { e < length edges.now }
+    ensures { IfOk result (λ made. option_map (numbers.keep_before g.now touch.now) (slice_get edges.now e) ≡ Some made) }
+{
+    let edge = edges[e as usize];
+    let ground = Ground {
+        grammar: g,
+        marks: touch,
+    };
+    let facts = edge_facts(alloc, ground, Edition::Earlier, edge)?;
     numbered(alloc, facts.as_slice())
 }

@@ -2,14 +2,13 @@
 #![tactic(auto)]
 
 mod copying;
+mod edition;
 mod fact;
 mod form;
-mod holder;
 mod joining;
 mod keeping;
 mod key;
 mod members;
-mod mention;
 mod numbers;
 mod put;
 mod reading;
@@ -17,4 +16,4 @@ mod scope;
 mod touching;
 
 pub use joining::joint;
-pub use keeping::keep;
+pub use keeping::{keep, keep_before};

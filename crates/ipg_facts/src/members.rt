@@ -9,6 +9,7 @@ ghost use Rattle.ipg_facts.specs.Members as spec;
 ghost use Rattle.ipg_facts.specs.View.{scope_of};
 
 use crate::copying::copy_members;
+use crate::edition::Edition;
 use crate::fact::{Bounds, Fact, Form};
 use crate::form::variable;
 use crate::key::{attribute, loop_variable};
@@ -200,6 +201,25 @@ fn pass_array(
     Ok(())
 }
 
+/// The same, of which the earlier conditions know nothing.
+fn pass_known_array(
+    alloc: Global,
+    scope: &mut Scope,
+    term: u32,
+    first: &CoreExpr,
+    last: &CoreExpr,
+) -> Result<(), AllocError>
+    ensures { OnOk result
+        (scope_of scope.new ≡ record (scope_of scope.old) {
+          arrays = spec.with_bounds scope.old.edition (scope_of scope.old) term first.now last.now;
+        }) }
+{
+    match scope.edition {
+        Edition::Earlier => Ok(()),
+        Edition::Later => pass_array(alloc, scope, term, first, last),
+    }
+}
+
 #[tactic(auto, unfolding(crate::specs::Members::passed, crate::specs::Members::arrays_with))]
 fn pass(alloc: Global, scope: &mut Scope, term: u32) -> Result<(), AllocError>
     ensures { OnOk result (scope_of scope.new ≡ spec.passed (scope_of scope.old) term) }
@@ -214,7 +234,7 @@ fn pass(alloc: Global, scope: &mut Scope, term: u32) -> Result<(), AllocError>
                 from: _,
                 to: _,
             },
-        ) => pass_array(alloc, scope, term, first, last),
+        ) => pass_known_array(alloc, scope, term, first, last),
         Some(CoreTerm::Slot(_)) => Ok(()),
         Some(CoreTerm::Set { attr: _, value: _ }) => Ok(()),
         Some(CoreTerm::Test(_)) => Ok(()),

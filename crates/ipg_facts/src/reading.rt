@@ -7,6 +7,7 @@ ghost use Rattle.ipg_facts.specs.Key as keys;
 ghost use Rattle.ipg_facts.specs.Reading as spec;
 ghost use Rattle.ipg_facts.specs.View.{scope_of};
 
+use crate::edition::Edition;
 use crate::fact::{Bounds, Fact, Form, Key};
 use crate::form::{in_limits, is_constant, minus, number, plus, scaled, shifted, variable};
 use crate::key::{CALLER, HOLDER, attribute, field, loop_variable, put_words, value};
@@ -93,6 +94,25 @@ fn put_item_facts(
             put_leq(alloc, out, &number(alloc, wide), form)?;
             put_leq(alloc, out, form, &length_of(alloc, scope)?)
         }
+    }
+}
+
+/// The same, which the earlier conditions leave out.
+fn put_later_facts(
+    alloc: Global,
+    out: &mut Vec<Fact>,
+    scope: &Scope,
+    item: Option<&Sym>,
+    field: CoreField,
+    form: &Form,
+) -> Result<(), AllocError>
+    ensures { OnOk result
+        (out.new.items ≡ out.old.items
+        ++ spec.if_later scope.now.edition (spec.item_facts (scope_of scope.now) (option_copied item.entry) field form.now)) }
+{
+    match scope.edition {
+        Edition::Earlier => Ok(()),
+        Edition::Later => put_item_facts(alloc, out, scope, item, field, form),
     }
 }
 
@@ -240,12 +260,12 @@ fn item_form(
 ) -> Result<Form, AllocError>
     ensures { IfOk result
         (λ form. form ≡ forms.variable (keys.value scope.now.side (spec.read (scope_of scope.now) e.now).words)
-        (spec.item_facts (scope_of scope.now) (spec.item_at (scope_of scope.now) term) field
-        (spec.opaque (scope_of scope.now) (spec.read (scope_of scope.now) e.now).words))) }
+        (spec.if_later scope.now.edition (spec.item_facts (scope_of scope.now) (spec.item_at (scope_of scope.now) term) field
+        (spec.opaque (scope_of scope.now) (spec.read (scope_of scope.now) e.now).words)))) }
 {
     let mut facts = Vec::new(alloc);
     let known = opaque(alloc, scope, e)?;
-    put_item_facts(
+    put_later_facts(
         alloc,
         &mut facts,
         scope,
@@ -332,6 +352,15 @@ struct Case {
     form: Form,
 }
 
+/// The facts of a case, and that a variable has its value.
+fn case_facts(alloc: Global, known: &Form, case: Case) -> Result<Vec<Fact>, AllocError>
+    ensures { IfOk result (λ facts. facts.items ≡ case.facts.items ++ forms.equal known.now case.form) }
+{
+    let mut facts = case.facts;
+    put_equal(alloc, &mut facts, known, &case.form)?;
+    Ok(facts)
+}
+
 /// A variable that has one value or the other.
 fn cond_form(
     alloc: Global,
@@ -346,10 +375,8 @@ fn cond_form(
         (other.facts.items ++ forms.equal (spec.opaque (scope_of scope.now) (spec.read (scope_of scope.now) e.now).words) other.form))) }
 {
     let known = opaque(alloc, scope, e)?;
-    let mut one = taken.facts;
-    put_equal(alloc, &mut one, &known, &taken.form)?;
-    let mut two = other.facts;
-    put_equal(alloc, &mut two, &known, &other.form)?;
+    let one = case_facts(alloc, &known, taken)?;
+    let two = case_facts(alloc, &known, other)?;
     let mut facts = Vec::new(alloc);
     put_choice(alloc, &mut facts, one, two)?;
     variable(alloc, value_key(alloc, scope, e)?, List::from_vec(facts))

@@ -3,22 +3,24 @@
 ghost use Rattle.std.specs.Prelude.{◌≡◌, IfOk, slice_get};
 ghost use Rattle.std.specs.Option.{option_copied};
 ghost use Rattle.ipg_core.specs.Grammar.{name_at};
-ghost use Rattle.ipg_core.specs.MustTouch.{is_marked};
 ghost use Rattle.ipg_core.specs.Touch.{width};
 ghost use Rattle.ipg_facts.specs.Key as key;
 ghost use Rattle.ipg_facts.specs.Reading as spec;
 ghost use Rattle.ipg_facts.specs.View.{scope_of};
 
+use crate::edition::Edition;
 use crate::fact::{Bounds, Form};
 use crate::form::{number, variable};
 use crate::key::whole;
 use ipg_core::grammar::{CoreTerm, Name, Primitive, Sym};
+use ipg_facts_holder::is_marked;
 use ipg_num::{List, item_at};
 use std::alloc::{AllocError, Global};
 
 /// The caller's alternative, or its holder's.
 #[derive(Drop)]
 pub struct Scope<'a> {
+    pub edition: Edition,
     pub side: u64,
     /// The names of attributes, by their numbers.
     pub names: &'a [Name],
@@ -39,15 +41,6 @@ pub fn nought(alloc: Global) -> Form
     ensures { result ≡ spec.nought }
 {
     number(alloc, 0)
-}
-
-pub fn is_marked(marks: &[bool], rule: u32) -> bool
-    ensures { result ≡ is_marked marks.now rule }
-{
-    match marks.get(rule as usize) {
-        Some(mark) => *mark,
-        None => false,
-    }
 }
 
 /// How many bytes a number takes.

@@ -11,8 +11,9 @@ use crate::form::{shifted, variable};
 use crate::key::{end, named, start};
 use crate::put::{put_choice, put_equal, put_leq, put_less};
 use crate::reading::put_ranges;
-use crate::scope::{Scope, greatest, is_marked, length_of, nought, width};
+use crate::scope::{Scope, greatest, length_of, nought, width};
 use ipg_core::grammar::{Primitive, Sym};
+use ipg_facts_holder::is_marked;
 use ipg_num::List;
 use std::alloc::{AllocError, Global};
 

@@ -20,9 +20,9 @@ use Rattle.ipg_core.specs.Order as order
 use Rattle.ipg_core.specs.Order.{Sets, TermOf, Reads, itself, through, Passes, Names, Provides, is_taken}
 use Rattle.ipg_core.specs.Grown.{LeadsTo}
 use Rattle.ipg_core.specs.Grown as grown
-use Rattle.ipg_facts.specs.declared.mention.Ask.TheVariants.{Outer, Needs}
-use Rattle.ipg_facts.specs.Holder.{is_set_to, answers, mentions_some, set_by, is_held, calls, calls_some, reads_term, reads_next, readers, readers_of}
-use Rattle.ipg_facts.specs.Holder.{provides, is_wanted, matters, with_term, kept}
+use Rattle.ipg_facts_holder.specs.declared.mention.Ask.TheVariants.{Outer, Needs}
+use Rattle.ipg_facts_holder.specs.Holder.{is_set_to, answers, mentions_some, set_by, is_held, calls, calls_some, reads_term, reads_next, readers, readers_of}
+use Rattle.ipg_facts_holder.specs.Holder.{provides, is_wanted, matters, with_term, kept}
 use Rattle.ipg_facts_laws.proofs.Ordered.{contains_first, contains_later, taken_or, same_of}
 
 record Found {X : Type 0} (p : X → Bool) (xs : List X) : Type 0 where

@@ -6,6 +6,9 @@ pub mod Whole
 pub mod Forms
 pub mod Answers
 pub mod Relate
+pub mod Weaker
+pub mod Before
+pub mod Sooner
 pub mod Rebuild
 pub mod Slots
 pub mod Ran
@@ -29,6 +32,7 @@ pub mod Solved
 pub mod Parted
 pub mod Widths
 pub mod Cycles
+pub mod Solutions
 pub mod Bounded
 pub mod Lists
 pub mod Apart

@@ -110,17 +110,16 @@ pub keys_joined : (fs : List Fact) → flat_map (λ ks. ks) (map keys_in fs) ≡
 keys_joined [] = refl
 keys_joined (f ∷ fs) = ap (λ ks. keys_in f ++ ks) (keys_joined fs)
 
-module _ (v : Valuation) (keys : List Key) where
-  abbrev values : Assignment
-  values x = v (key_at keys x)
-
+-- values by number and by key, the same of each key of a table
+module _ (v : Valuation) (values : Assignment) (keys : List Key)
+    (agree : (key : Key) → list_any (bytes_eq key) keys ≡ true → values (place keys key) ≡ v key) where
   sum_numbered : (terms : List (Key × ℤ)) → Has keys (keys_of_terms terms) → sum_at values (numbered keys terms) ≡ sum_of v terms
   unfolding numbered
   sum_numbered [] h = refl
   sum_numbered (t ∷ terms) h =
       sum_insert values (place keys t.0, t.1) (numbered keys terms)
       ∙ ap (λ z. z +ℤ sum_at values (numbered keys terms))
-      (ap (λ k. t.1 *ℤ v k) (is_numbered keys t.0 (h t.0 (or_left _ _ ((bytes_eq-Decides t.0 t.0).1 refl)))))
+      (ap (λ z. t.1 *ℤ z) (agree t.0 (h t.0 (or_left _ _ ((bytes_eq-Decides t.0 t.0).1 refl)))))
       ∙ ap (λ z. (t.1 *ℤ v t.0) +ℤ z) (sum_numbered terms (λ key e. h key (or_right _ _ e)))
 
   -- the formula of a fact holds where the fact does
@@ -172,7 +171,7 @@ module _ (v : Valuation) (keys : List Key) where
   agrees : (fact : Fact) → Agrees fact
   agrees = ind-Fact Agrees (λ x y is. on_layer y x is)
 
-  all_agree : (fs : List Fact) → Has keys (flat_map keys_in fs) → map (holds_at values) (map (formula_of keys) fs) ≡ map (is_so v) fs
+  pub all_agree : (fs : List Fact) → Has keys (flat_map keys_in fs) → map (holds_at values) (map (formula_of keys) fs) ≡ map (is_so v) fs
   all_agree [] h = refl
   all_agree (f ∷ fs) h =
       rw (agrees f (λ key e. h key (any_left key (keys_in f) _ e)))
@@ -210,7 +209,9 @@ pub facts_solve : FactsSolve
 unfolding keys_of
 facts_solve v facts r so =
     let keys : List Key = keys_of facts in
-    let holds : holds_at (values v keys) (formula.All (map (formula_of keys) facts)) ≡ true =
-    ap (holds_at (values v keys)) (sym (formula.rolls-All _)) ∙ fold-roll-Formula Bool (holds_step (values v keys)) (Formula-F.All _)
-    ∙ ap every (all_agree v keys facts (keys_have (whole caller_side ∷ []) (flat_map keys_in facts))) ∙ so in
-    (values v keys, (lies v r keys, holds), ap v (first_stays (flat_map keys_in facts) [] (whole caller_side)))
+    let values : Assignment = λ x. v (key_at keys x) in
+    let holds : holds_at values (formula.All (map (formula_of keys) facts)) ≡ true =
+    ap (holds_at values) (sym (formula.rolls-All _)) ∙ fold-roll-Formula Bool (holds_step values) (Formula-F.All _)
+    ∙ ap every (all_agree v values keys (λ key e. ap v (is_numbered keys key e)) facts (keys_have (whole caller_side ∷ []) (flat_map keys_in facts)))
+    ∙ so in
+    (values, (lies v r keys, holds), ap v (first_stays (flat_map keys_in facts) [] (whole caller_side)))

@@ -25,6 +25,8 @@ use Rattle.ipg_graph.specs.declared.edge.Edge.{Edge}
 use Rattle.ipg_facts.specs.declared.fact.Part.{Part}
 use Rattle.ipg_facts.specs.declared.fact.Form.{Form}
 use Rattle.ipg_facts.specs.declared.fact.Bounds.{Bounds}
+use Rattle.ipg_facts.specs.declared.edition.Edition.{Edition}
+use Rattle.ipg_facts.specs.declared.edition.Edition.TheVariants.{Earlier, Later}
 use Rattle.ipg_facts.specs.declared.fact.Fact.{Fact, roll-Fact, map-Fact, fold-Fact, fold-roll-Fact, ind-Fact}
 use Rattle.ipg_facts.specs.declared.fact.Fact.TheVariants as facts
 use Rattle.ipg_facts.specs.declared.fact.Fact.TheOpen.{Fact-F}
@@ -33,13 +35,13 @@ use Rattle.ipg_facts.specs.Key.{Key, attribute, loop, field, named, value, calle
 use Rattle.ipg_facts.specs.Form.{variable, number, add_part, add_parts, plus, minus, scaled, scaled_part, shifted, counts, is_constant, in_limits}
 use Rattle.ipg_facts.specs.Form.{mentioned, facts_of, bare, at_most_zero, leq, less, both_at_most_zero, equal, choice, differ}
 use Rattle.ipg_facts.specs.Reading.{Scope, Reading, length_of, opaque, nought, plain, ranges, greatest, greatest_of, least_width, item_at, item_facts, inside}
-use Rattle.ipg_facts.specs.Reading.{if_there, touching, after_facts, product, computed, limited, asserted, denied, reading, read, form}
-use Rattle.ipg_facts.specs.Members.{arrays_with, attr_ranges, branches, end_of, is_valid, is_whole, members}
+use Rattle.ipg_facts.specs.Reading.{if_later, if_there, touching, after_facts, product, computed, limited, asserted, denied, reading, read, form}
+use Rattle.ipg_facts.specs.Members.{arrays_with, with_bounds, attr_ranges, branches, end_of, is_valid, is_whole, members}
 use Rattle.ipg_facts.specs.Members.{number_ranges, number_touches, on_interval, own_at, own_members, passed, passed_all}
 use Rattle.ipg_facts.specs.Members.{primitive_touches, rule_touches, runs, slot_members, start_of, takes}
 use Rattle.ipg_facts.specs.Members.{terms_members, text_touches, touches, touches_all, touches_first, touches_none, touches_some}
 use Rattle.ipg_facts.specs.Keep.{opening, before, mentions_holder, alt_at, held_facts, held, holder_facts, caller_facts, rule_facts, edge_facts}
-use Rattle.ipg_facts.specs.Holder.{kept}
+use Rattle.ipg_facts_holder.specs.Holder.{kept}
 use Rattle.ipg_facts.specs.Numbers.{keys_of, formula_of, formula_step, keep}
 use Rattle.ipg_facts.specs.Joint.{apart, apart_step, parts_apart, own_variables, joint}
 use Rattle.ipg_lin.specs.Form as lin
@@ -293,6 +295,10 @@ form_or : (b : Bool) (x y : Form) → FormOffers x → FormOffers y → FormOffe
 form_or true x y h k = h
 form_or false x y h k = k
 
+of_later : (edition : Edition) (fs : List Fact) → Offer fs → Offer (if_later edition fs)
+of_later Earlier fs h = tt
+of_later Later fs h = h
+
 module _ (scope : Scope) (known : ScopeOffers scope) where
   of_opaque : (words : List ℕ) → FormOffers (opaque scope words)
   of_opaque words = of_variable (value scope.side words) [] tt
@@ -329,11 +335,12 @@ module _ (scope : Scope) (known : ScopeOffers scope) where
       bounds_or_none (nat_lt 0 (least_width scope.marks (item_at scope term))) (if_there (slice_get scope.arrays term)) (bounds_at scope.arrays term known)
 
   of_seen : (words : List ℕ) (term : ℕ) (f : CoreField)
-      → Offers (plain words (variable (value scope.side words) (item_facts scope (item_at scope term) f (opaque scope words))))
+      → Offers (plain words (variable (value scope.side words) (if_later scope.edition (item_facts scope (item_at scope term) f (opaque scope words)))))
   of_seen words term f =
-      let facts : List Fact = item_facts scope (item_at scope term) f (opaque scope words) in
+      let known : List Fact = item_facts scope (item_at scope term) f (opaque scope words) in
+      let facts : List Fact = if_later scope.edition known in
       of_plain words (variable (value scope.side words) facts)
-      (of_variable (value scope.side words) facts (of_item (item_at scope term) f (opaque scope words) (of_opaque words)))
+      (of_variable (value scope.side words) facts (of_later scope.edition known (of_item (item_at scope term) f (opaque scope words) (of_opaque words))))
 
   of_behind : (words : List ℕ) (term : ℕ) (left : Form) → FormOffers left
       → Offers (plain words (variable (value scope.side words) (after_facts scope (touching scope term) (opaque scope words) left)))
@@ -575,13 +582,17 @@ module _ (scope : Scope) (known : ScopeOffers scope) where
   set_bounds (a ∷ arrays) zero b h k = (k, h.1)
   set_bounds (a ∷ arrays) (suc n) b h k = (h.0, set_bounds arrays n b h.1 k)
 
+  of_bounds : (edition : Edition) (term : ℕ) (first last : CoreExpr) → AllByRecursion BoundsOffer (with_bounds edition scope term first last)
+  of_bounds Earlier term first last = known
+  of_bounds Later term first last = set_bounds scope.arrays term _ known (of_form first, of_form last)
+
   of_arrays : (term : ℕ) (at : Option CoreTerm) → AllByRecursion BoundsOffer (arrays_with scope term at)
   unfolding arrays_with
   of_arrays term None = known
   of_arrays term (Some (Slot slot)) = known
   of_arrays term (Some (Set attr e)) = known
   of_arrays term (Some (Test e)) = known
-  of_arrays term (Some (Repeat first last item from to)) = set_bounds scope.arrays term _ known (of_form first, of_form last)
+  of_arrays term (Some (Repeat first last item from to)) = of_bounds scope.edition term first last
   of_arrays term (Some (Many item from to)) = known
   of_arrays term (Some (Pick cases other)) = known
 
@@ -607,17 +618,17 @@ no_bounds : (n : ℕ) → AllByRecursion BoundsOffer (replicate n None)
 no_bounds zero = tt
 no_bounds (suc n) = (tt, no_bounds n)
 
-of_opening : (g : Grammar) (marks : List Bool) (side : ℕ) (alt : CoreAlt) → ScopeOffers (opening g marks side alt)
+of_opening : (g : Grammar) (marks : List Bool) (edition : Edition) (side : ℕ) (alt : CoreAlt) → ScopeOffers (opening g marks edition side alt)
 unfolding opening
-of_opening g marks side alt = no_bounds (length alt.terms)
+of_opening g marks edition side alt = no_bounds (length alt.terms)
 
 of_held_facts : (g : Grammar) (marks : List Bool) (holder caller : CoreAlt) (terms : List ℕ) → Offer (held_facts g marks holder caller terms)
 unfolding held_facts
 of_held_facts g marks holder caller terms =
-    join (leq (length_of (opening g marks caller_side caller)) (length_of (opening g marks holder_side holder)))
-    (terms_members (opening g marks holder_side holder) terms)
-    (of_leq (length_of (opening g marks caller_side caller)) (length_of (opening g marks holder_side holder)) (tt, tt) (tt, tt))
-    (of_terms (opening g marks holder_side holder) (of_opening g marks holder_side holder) terms)
+    join (leq (length_of (opening g marks Later caller_side caller)) (length_of (opening g marks Later holder_side holder)))
+    (terms_members (opening g marks Later holder_side holder) terms)
+    (of_leq (length_of (opening g marks Later caller_side caller)) (length_of (opening g marks Later holder_side holder)) (tt, tt) (tt, tt))
+    (of_terms (opening g marks Later holder_side holder) (of_opening g marks Later holder_side holder) terms)
 
 of_held : (g : Grammar) (marks : List Bool) (at : ℕ × ℕ) (holder : Option CoreAlt) (caller : CoreAlt) → Offer (held g marks at holder caller)
 unfolding held
@@ -629,26 +640,28 @@ unfolding holder_facts
 of_holder g marks None caller = tt
 of_holder g marks (Some at) caller = one_or (mentions_holder caller) _ [] (of_held g marks at (alt_at g at) caller) tt
 
-of_caller : (g : Grammar) (marks : List Bool) (e : Edge) (caller : CoreAlt) → Offer (caller_facts g marks e caller)
+of_caller : (g : Grammar) (marks : List Bool) (edition : Edition) (e : Edge) (caller : CoreAlt) → Offer (caller_facts g marks edition e caller)
 unfolding caller_facts
-of_caller g marks e caller =
-    let scope : Scope = opening g marks caller_side caller in
-    let known : ScopeOffers scope = of_opening g marks caller_side caller in
+of_caller g marks edition e caller =
+    let scope : Scope = opening g marks edition caller_side caller in
+    let known : ScopeOffers scope = of_opening g marks edition caller_side caller in
     let order : List ℕ = before e.term caller.order in
     let all : Scope = passed_all scope order in
     join (terms_members scope order) (own_at all e.term e.branch) (of_terms scope known order)
     (of_own all (of_passed_all scope known order) e.branch (slice_get all.terms e.term))
 
-of_rule_facts : (g : Grammar) (marks : List Bool) (e : Edge) (rule : Option CoreRule) (alt : Option CoreAlt) → Offer (rule_facts g marks e rule alt)
+of_rule_facts : (g : Grammar) (marks : List Bool) (edition : Edition) (e : Edge) (rule : Option CoreRule) (alt : Option CoreAlt)
+    → Offer (rule_facts g marks edition e rule alt)
 unfolding rule_facts
-of_rule_facts g marks e (Some rule) (Some caller) =
-    join (holder_facts g marks rule.holder caller) (caller_facts g marks e caller) (of_holder g marks rule.holder caller) (of_caller g marks e caller)
-of_rule_facts g marks e (Some rule) None = tt
-of_rule_facts g marks e None alt = tt
+of_rule_facts g marks edition e (Some rule) (Some caller) =
+    join (if_later edition (holder_facts g marks rule.holder caller)) (caller_facts g marks edition e caller)
+    (of_later edition _ (of_holder g marks rule.holder caller)) (of_caller g marks edition e caller)
+of_rule_facts g marks edition e (Some rule) None = tt
+of_rule_facts g marks edition e None alt = tt
 
-pub of_edge : (g : Grammar) (marks : List Bool) (e : Edge) → Offer (edge_facts g marks e)
+pub of_edge : (g : Grammar) (marks : List Bool) (edition : Edition) (e : Edge) → Offer (edge_facts g marks edition e)
 unfolding edge_facts
-of_edge g marks e = of_rule_facts g marks e (rule_at g e.caller) (alt_at g (e.caller, e.alt))
+of_edge g marks edition e = of_rule_facts g marks edition e (rule_at g e.caller) (alt_at g (e.caller, e.alt))
 
 -- ---- numbers in place of keys
 
@@ -696,8 +709,8 @@ module _ (keys : List Key) where
 pub conditions_offer : ConditionsOffer
 unfolding keep
 conditions_offer g marks e =
-    let fs : List Fact = edge_facts g marks e in
-    folds-All Bool offers_step (map (formula_of (keys_of fs)) fs) ∙ formulas_offer (keys_of fs) fs (of_edge g marks e)
+    let fs : List Fact = edge_facts g marks Later e in
+    folds-All Bool offers_step (map (formula_of (keys_of fs)) fs) ∙ formulas_offer (keys_of fs) fs (of_edge g marks Later e)
 
 -- ---- parts together
 

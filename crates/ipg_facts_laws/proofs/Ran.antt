@@ -17,8 +17,10 @@ use Rattle.ipg_facts.specs.declared.fact.Fact.{Fact}
 use Rattle.ipg_facts.specs.declared.fact.Fact.TheVariants as facts
 use Rattle.ipg_facts.specs.Key.{attribute, loop}
 use Rattle.ipg_facts.specs.Form.{variable, equal, leq, less}
+use Rattle.ipg_facts.specs.declared.edition.Edition.{Edition}
+use Rattle.ipg_facts.specs.declared.edition.Edition.TheVariants.{Earlier, Later}
 use Rattle.ipg_facts.specs.Reading.{Scope, length_of, nought, read, form, least_width, item_of, item_at, if_there}
-use Rattle.ipg_facts.specs.Members.{members, branches, slot_members, own_members, is_whole, takes, runs, terms_members, passed, passed_all, arrays_with}
+use Rattle.ipg_facts.specs.Members.{members, branches, slot_members, own_members, is_whole, takes, runs, terms_members, passed, passed_all, arrays_with, with_bounds}
 use Rattle.ipg_facts_laws.specs.Valued.{Valuation, is_so}
 use Rattle.ipg_facts_laws.specs.Known.{AreSo, Stands, Fits, IsBehind}
 use Rattle.ipg_facts_laws.specs.Ran.{SlotRan, Chosen, PickRan, TermRan, ArrayRan, AreBetween, AtRan, AllRan, IsWholeCall, Turns, TakesWhole, CallsWhole}
@@ -184,6 +186,11 @@ module _ (v : Valuation) (scope : Scope) (env : Environment) (fits : Fits v scop
       ends = λ t. by_width (nat_lt 0 (least_width scope.marks (item_at scope t))) t refl;
     }
 
+  bounds_fit : (edition : Edition) (u : ℕ) (first last from to : CoreExpr) (item : Sym) → slice_get scope.terms u ≡ Some (Repeat first last item from to)
+      → ArrayRan scope.marks env u first last item → Fits v (record scope { arrays = with_bounds edition scope u first last }) env
+  bounds_fit Earlier u first last from to item e ran = fits
+  bounds_fit Later u first last from to item e ran = array_fits u first last from to item e ran
+
   passed_fits : (u : ℕ) (term : Option CoreTerm) → slice_get scope.terms u ≡ term → AtRan scope.marks env u term
       → Fits v (record scope { arrays = arrays_with scope u term }) env
   unfolding arrays_with
@@ -191,7 +198,7 @@ module _ (v : Valuation) (scope : Scope) (env : Environment) (fits : Fits v scop
   passed_fits u (Some (Slot slot)) e ran = fits
   passed_fits u (Some (Set attr value)) e ran = fits
   passed_fits u (Some (Test value)) e ran = fits
-  passed_fits u (Some (Repeat first last item from to)) e ran = array_fits u first last from to item e ran
+  passed_fits u (Some (Repeat first last item from to)) e ran = bounds_fit scope.edition u first last from to item e ran
   passed_fits u (Some (Many item from to)) e ran = fits
   passed_fits u (Some (Pick cases other)) e ran = fits
 

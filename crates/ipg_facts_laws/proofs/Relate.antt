@@ -22,10 +22,12 @@ use Rattle.ipg_core.specs.Eval.{eval, on_value, found, is_zero, behind, greatest
 use Rattle.ipg_facts.specs.declared.fact.Form.{Form}
 use Rattle.ipg_facts.specs.declared.fact.Fact.{Fact}
 use Rattle.ipg_facts.specs.declared.fact.Bounds.{Bounds}
+use Rattle.ipg_facts.specs.declared.edition.Edition.{Edition}
+use Rattle.ipg_facts.specs.declared.edition.Edition.TheVariants.{Earlier, Later}
 use Rattle.ipg_facts.specs.Key.{Key, whole, attribute, loop, field, value, holder_side}
 use Rattle.ipg_facts.specs.Form.{variable, number, plus, minus, scaled, shifted, is_constant, in_limits, leq, less, equal, differ, choice}
 use Rattle.ipg_facts.specs.Reading.{Scope, Reading, length_of, opaque, nought, plain, least_width, item_at, greatest_of, ranges, item_facts, inside}
-use Rattle.ipg_facts.specs.Reading.{touching, after_facts, product, computed, limited, asserted, denied, reading, read}
+use Rattle.ipg_facts.specs.Reading.{if_later, touching, after_facts, product, computed, limited, asserted, denied, reading, read}
 use Rattle.ipg_facts_laws.specs.Valued.{Valuation}
 use Rattle.ipg_facts_laws.specs.Known.{AreSo, Stands, Knows, IsRanged, IsItemField, IsPlace, IsBehind, Fits}
 use Rattle.ipg_facts_laws.specs.Laws.{ValuesAreKnown}
@@ -206,6 +208,10 @@ module _ (v : Valuation) where
       so_append v (leq nought a) (leq a (number (pos n))) (so_leq v nought a (pos 0) z stands_nought s h.0)
       (so_leq v a (number (pos n)) z (pos n) s (stands_number v (pos n)) h.1)
 
+  so_later : (edition : Edition) (fs : List Fact) → AreSo v fs → AreSo v (if_later edition fs)
+  so_later Earlier fs h = refl
+  so_later Later fs h = h
+
   module _ (scope : Scope) (env : Environment) (fits : Fits v scope env) where
     pub stands_length : Stands v (length_of scope) (pos env.eoi)
     stands_length = stands_key (whole scope.side) [] (pos env.eoi) refl fits.length
@@ -366,7 +372,8 @@ module _ (v : Valuation) where
         knows_plain _ _ z (stands_key (field scope.names scope.side term f) [] z refl (fits.results term sym f z (found_is _ z k.is) k.number))
     layer (CoreExpr-F.Item term index f) z k h =
         let i = first_of (eval index.0 env) (λ i. found (field_of_item env.names f (core.item_at (items_so_far (done_at env.done term)) i))) z k.is in
-        knows_plain _ _ z (stands_key _ _ z (so_item (item_at scope term) f _ z (stands_opaque _ z h) (fits.items term f i.first z (found_is _ z i.goes))) h)
+        knows_plain _ _ z (stands_key _ _ z
+        (so_later scope.edition _ (so_item (item_at scope term) f _ z (stands_opaque _ z h) (fits.items term f i.first z (found_is _ z i.goes)))) h)
     layer (CoreExpr-F.After term left) z k h =
         knows_plain _ _ z (stands_key _ _ z
         (so_after (touching scope term) (greatest_end (items_so_far (done_at env.done term))) _ (read scope left.0).form (eval left.0 env) z

@@ -23,10 +23,11 @@ use Rattle.ipg_core.specs.Grown.{IsInput, ComesTo, GrownLocal, GrownUnder, Grown
 use Rattle.ipg_core.specs.Laws.{LiesWithin, TouchingTouches}
 use Rattle.ipg_facts.specs.Key.{Key, whole, attribute, caller_side, holder_side}
 use Rattle.ipg_facts.specs.Form.{leq}
+use Rattle.ipg_facts.specs.declared.edition.Edition.TheVariants.{Later}
 use Rattle.ipg_facts.specs.Reading.{Scope, length_of}
 use Rattle.ipg_facts.specs.Members.{terms_members, passed_all, own_members, own_at}
 use Rattle.ipg_facts.specs.Members as puts
-use Rattle.ipg_facts.specs.Holder.{kept}
+use Rattle.ipg_facts_holder.specs.Holder.{kept}
 use Rattle.ipg_facts.specs.Keep.{opening, before, mentions_holder, alt_of, alt_at, held_facts, held, holder_facts, caller_facts, rule_facts, edge_facts}
 use Rattle.ipg_facts.specs.Numbers.{keep}
 use Rattle.ipg_facts_laws.specs.Valued.{Valuation}
@@ -48,7 +49,7 @@ use Rattle.ipg_facts_laws.proofs.Valuing.{or_zero, small, clamped, clamped_is, o
 use Rattle.ipg_facts_laws.proofs.Works.{first_scope, at_work, Work, work, work_fits}
 use Rattle.ipg_facts_laws.proofs.Moments.{Moment, moment}
 
-opened : (g : Grammar) (marks : Marks) (side : ℕ) (alt : CoreAlt) → opening g marks side alt ≡ first_scope g marks side alt
+opened : (g : Grammar) (marks : Marks) (side : ℕ) (alt : CoreAlt) → opening g marks Later side alt ≡ first_scope g marks side alt
 unfolding opening
 opened g marks side alt = refl
 
@@ -281,23 +282,23 @@ module _ (lies : LiesWithin) (must : TouchingTouches) (g : Grammar) (good : Good
       (subst (λ t. AreSo values (own_members (passed_all caller_scope reached.before) e.branch t)) (sym reached.is_term)
       (own_members_are_known values (passed_all caller_scope reached.before) caller_env before_so.1 e.branch reached.term when.calls))
 
-  caller_so : AreSo values (caller_facts g marks e caller)
+  caller_so : AreSo values (caller_facts g marks Later e caller)
   unfolding caller_facts opening
   caller_so =
       subst (λ us. AreSo values (terms_members caller_scope us ++ own_at (passed_all caller_scope us) e.term e.branch)) (sym order_is)
       (so_append values (terms_members caller_scope reached.before) (own_at (passed_all caller_scope reached.before) e.term e.branch) before_so.0 own_so)
 
-  rule_so : AreSo values (rule_facts g marks e (Some reached.rule) (Some caller))
+  rule_so : AreSo values (rule_facts g marks Later e (Some reached.rule) (Some caller))
   unfolding rule_facts
   rule_so =
-      so_append values (holder_facts g marks reached.rule.holder caller) (caller_facts g marks e caller)
+      so_append values (holder_facts g marks reached.rule.holder caller) (caller_facts g marks Later e caller)
       (held_by.so values holder_agrees caller_env part_is caller_fits) caller_so
 
-  edge_so : AreSo values (edge_facts g marks e)
+  edge_so : AreSo values (edge_facts g marks Later e)
   unfolding edge_facts
   edge_so =
-      subst (λ o. AreSo values (rule_facts g marks e o (alt_at g place))) (sym reached.at.is_rule)
-      (subst (λ o. AreSo values (rule_facts g marks e (Some reached.rule) o)) (sym (alt_is g place reached.rule caller reached.at)) rule_so)
+      subst (λ o. AreSo values (rule_facts g marks Later e o (alt_at g place))) (sym reached.at.is_rule)
+      (subst (λ o. AreSo values (rule_facts g marks Later e (Some reached.rule) o)) (sym (alt_is g place reached.rule caller reached.at)) rule_so)
 
   size_is : values (whole caller_side) ≡ pos (length s)
   size_is = caller_fits.length ∙ ap pos part_is
@@ -322,7 +323,7 @@ module _ (lies : LiesWithin) (must : TouchingTouches) (g : Grammar) (good : Good
   solved : (assigned : Assignment) × Solves assigned (keep g marks e) × (assigned 0 ≡ pos (length s))
   unfolding keep
   solved =
-      let is = facts_solve values (edge_facts g marks e) in_range edge_so in (is.0, is.1, is.2 ∙ size_is)
+      let is = facts_solve values (edge_facts g marks Later e) in_range edge_so in (is.0, is.1, is.2 ∙ size_is)
 
 pub reached_edges_solve : LiesWithin → TouchingTouches → ReachedEdgesSolve
 reached_edges_solve lies must g marks e s outer height good limit input grown reached = solved lies must g good marks limit e s outer height input grown reached

@@ -15,6 +15,7 @@ use Rattle.ipg_facts.specs.declared.fact.Draft.{Draft}
 use Rattle.ipg_facts.specs.declared.fact.Fact.{Fact, roll-Fact, map-Fact, fold-roll-Fact, ind-Fact}
 use Rattle.ipg_facts.specs.declared.fact.Fact.TheOpen.{Fact-F}
 use Rattle.ipg_facts.specs.Key.{Key, whole, caller_side}
+use Rattle.ipg_facts.specs.declared.edition.Edition.TheVariants.{Later}
 use Rattle.ipg_facts.specs.Keep.{edge_facts}
 use Rattle.ipg_facts.specs.Numbers.{keys_in, keys_step, with_keys, keys_of, place, insert, numbered, formula_of, formula_step, bounds_of, all_of, keep}
 use Rattle.ipg_facts_laws.specs.Laws.{IsPart, ConditionsAreParts}
@@ -112,7 +113,7 @@ first_by : (b : Bool) (keys more : List Key) (m k : Key) → ((keys : List Key) 
 first_by true keys more m k f = f keys
 first_by false keys more m k f = f (keys ++ m ∷ [])
 
-first_stays : (more keys : List Key) (k : Key) → slice_get (with_keys (k ∷ keys) more) 0 ≡ Some k
+pub first_stays : (more keys : List Key) (k : Key) → slice_get (with_keys (k ∷ keys) more) 0 ≡ Some k
 first_stays [] keys k = refl
 first_stays (m ∷ more) keys k = first_by (list_any (bytes_eq m) (k ∷ keys)) keys more m k (λ keys. first_stays more keys k)
 
@@ -124,7 +125,7 @@ some_first : (keys : List Key) (k : Key) → slice_get keys 0 ≡ Some k → 0 <
 some_first [] k e = absurd (cc)
 some_first (x ∷ keys) k e = omega arith
 
-facts_are_part : (facts : List Fact) → IsPart (all_of facts) × (slice_get (all_of facts).1.bounds 0 ≡ Some (pos 0, pos 1073741824))
+pub facts_are_part : (facts : List Fact) → IsPart (all_of facts) × (slice_get (all_of facts).1.bounds 0 ≡ Some (pos 0, pos 1073741824))
 unfolding keys_of
 facts_are_part facts =
     let keys : List Key = keys_of facts in
@@ -139,4 +140,4 @@ facts_are_part facts =
 pub conditions_are_parts : ConditionsAreParts
 unfolding keep
 conditions_are_parts g marks [] = tt
-conditions_are_parts g marks (e ∷ edges) = (facts_are_part (edge_facts g marks e), conditions_are_parts g marks edges)
+conditions_are_parts g marks (e ∷ edges) = (facts_are_part (edge_facts g marks Later e), conditions_are_parts g marks edges)

@@ -16,6 +16,7 @@ use Rattle.ipg_core.specs.Grown.{IsInput}
 use Rattle.ipg_core.specs.Laws.{LiesWithin, TouchingTouches}
 use Rattle.ipg_facts.specs.declared.fact.Bounds.{Bounds}
 use Rattle.ipg_facts.specs.Key.{attribute, holder_side}
+use Rattle.ipg_facts.specs.declared.edition.Edition.TheVariants as editions
 use Rattle.ipg_facts.specs.Reading.{Scope, item_of, if_there}
 use Rattle.ipg_facts_laws.specs.Valued.{Valuation}
 use Rattle.ipg_facts_laws.specs.Known.{Fits}
@@ -29,7 +30,7 @@ use Rattle.ipg_facts_laws.proofs.Valuing.{clamped, of_kind, fits}
 
 -- an alternative's scope, where none of its arrays has run
 abbrev pub first_scope : Grammar → Marks → ℕ → CoreAlt → Scope
-first_scope g marks side alt = record { side = side; names = g.names; marks = marks; terms = alt.terms; arrays = replicate (length alt.terms) None }
+first_scope g marks side alt = record { edition = editions.Later; side = side; names = g.names; marks = marks; terms = alt.terms; arrays = replicate (length alt.terms) None }
 
 -- the alternative on s
 abbrev pub at_work : Grammar → ℕ × ℕ → List ℕ → Values → Frame
@@ -68,7 +69,7 @@ work lies must g good marks limit at rule alt is_at h s input outer side before 
       at_hand = next.provided;
     }
 
-none_there : (n t : ℕ) → if_there (slice_get (replicate n None) t) ≡ None
+pub none_there : (n t : ℕ) → if_there (slice_get (replicate n None) t) ≡ None
 none_there zero t = refl
 none_there (suc n) zero = refl
 none_there (suc n) (suc t) = none_there n t

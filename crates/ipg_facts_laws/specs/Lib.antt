@@ -22,5 +22,7 @@ pub mod Conditions
 pub mod Nest
 -- what the laws of ending say
 pub mod Ends
+-- what the earlier conditions ask
+pub mod Before
 -- conditions leave no empty choice
 pub mod Offers

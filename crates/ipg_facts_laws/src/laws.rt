@@ -1,5 +1,6 @@
 //! Laws of the conditions, each the contract of a function that does nothing.
 
+ghost use Rattle.ipg_facts_laws.specs.Before.{JointsSolveBefore, KeepsSolveBefore, SolutionsHold};
 ghost use Rattle.ipg_facts_laws.specs.Bounded.{JointIsPart};
 ghost use Rattle.ipg_facts_laws.specs.Offers.{ConditionsOffer, JointsOffer};
 ghost use Rattle.ipg_facts_laws.specs.Laws.{ConditionsAreParts, EdgesAreFew, EdgesAreInside, EdgesCall, FactsSolve, JointSolvesParts, MembersAreKnown};
@@ -11,6 +12,22 @@ use ipg_core::laws::{lies_within, touching_touches};
 /// Facts that hold where variables have values by their keys make their formula over numbers hold, in its box.
 pub fn facts_solve()
     ensures { FactsSolve }
+{}
+
+/// And the other way round: a solution of their formula gives values by key that make the facts hold.
+pub fn solutions_hold()
+    ensures { SolutionsHold }
+{}
+
+/// A solution of the conditions of an edge gives one of its conditions before they knew of items, of the bounds of arrays and
+/// of holders, with the same length of the part.
+pub fn keeps_solve_before()
+    ensures { KeepsSolveBefore }
+{}
+
+/// So does a solution of the joint of several edges' conditions. So a cycle that could not be walked before cannot now.
+pub fn joints_solve_before()
+    ensures { JointsSolveBefore }
 {}
 
 /// Solutions of the parts with one value of variable 0 give one of their joint.

@@ -7,6 +7,7 @@ pub mod Lines
 pub mod Whole
 pub mod Ends
 pub mod Worth
+pub mod Wider
 pub mod Parts
 pub mod Graphs
 pub mod Alive

@@ -6,6 +6,8 @@ pub mod Places
 pub mod Proves
 -- what a certificate is worth
 pub mod Worth
+-- that no grammar lost its acceptance
+pub mod Wider
 -- texts
 pub mod Texts
 -- that texts can say what proves

@@ -2,12 +2,14 @@
 
 ghost use Rattle.ipg_proof.specs.Cycles.{LiveCyclesAreCycles, LoopsAreLive};
 ghost use Rattle.ipg_proof.specs.Speaks.{ProvesIsSpeakable};
+ghost use Rattle.ipg_proof.specs.Wider.{AcceptedStays};
 ghost use Rattle.ipg_proof.specs.Worth.{AcceptsIsTotal, ProvesIsAccepted, ProvesIsTotal};
 
 use ipg_cert::laws::checks_refute;
 use ipg_facts_laws::ending::ends_where_none_solve;
 use ipg_facts_laws::laws::{
     conditions_are_parts, conditions_offer, edges_are_few, joint_solves_parts, joints_offer,
+    joints_solve_before,
 };
 use ipg_graph::runs_are_whole;
 
@@ -33,6 +35,14 @@ pub fn accepts_is_total()
     ensures { AcceptsIsTotal }
 {
     ends_where_none_solve();
+}
+
+/// A grammar is accepted where it was by the earlier conditions, which knew nothing of items, of the bounds of arrays and of
+/// holders.
+pub fn accepted_stays()
+    ensures { AcceptedStays }
+{
+    joints_solve_before();
 }
 
 /// A certificate in memory that proves a good grammar is one that texts can say.

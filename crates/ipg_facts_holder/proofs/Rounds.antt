@@ -5,7 +5,7 @@ use Rattle.std.proofs.lemmas.Slice.Eq.{slice_eq-Decides}
 use mathlib.Core.Bool.{beq}
 use Rattle.std.specs.Cmp.Lexicographic.{pointwise}
 use Rattle.ipg_core.specs.Grammar.{Grammar}
-use Rattle.ipg_facts.specs.Holder.{readers, reads_next}
+use Rattle.ipg_facts_holder.specs.Holder.{readers, reads_next}
 
 -- one round more
 pub round_more : (g : Grammar) (attr k : ℕ) (marks next : List Bool) → marks ≡ readers g attr k → next ≡ map (reads_next g attr marks) g.rules

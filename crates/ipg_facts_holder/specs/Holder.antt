@@ -9,8 +9,8 @@ use Rattle.ipg_core.specs.declared.grammar.CoreRule.{CoreRule}
 use Rattle.ipg_core.specs.Grammar.{Grammar, rule_at, holder_of, same_place}
 use Rattle.ipg_core.specs.Mention.{Mention, SeenOf, ItemOf, AfterOf, OwnOf, OuterOf, term_mentions, term_syms}
 use Rattle.ipg_core.specs.MustTouch.{is_marked}
-use Rattle.ipg_facts.specs.declared.mention.Ask.{Ask}
-use Rattle.ipg_facts.specs.declared.mention.Ask.TheVariants.{AnyOuter, Outer, Needs}
+use Rattle.ipg_facts_holder.specs.declared.mention.Ask.{Ask}
+use Rattle.ipg_facts_holder.specs.declared.mention.Ask.TheVariants.{AnyOuter, Outer, Needs}
 
 abbrev pub is_set_to : ℕ → Option ℕ → Bool
 is_set_to attr None = false

@@ -3,10 +3,10 @@
 ghost use Rattle.std.specs.Prelude.{◌≡◌, IfOk, OnOk, slice_get, length, map, Option, ◌<◌, false, option_copied};
 ghost use Rattle.std.specs.List.{list_any};
 ghost use Rattle.ipg_core.specs.Grammar.{holder_of, rule_at};
-ghost use Rattle.ipg_facts.specs.Holder as spec;
+ghost use Rattle.ipg_facts_holder.specs.Holder as spec;
 
+use crate::marks::is_marked;
 use crate::mention::{Ask, mentions_some};
-use crate::scope::is_marked;
 use ipg_core::accepted::Core;
 use ipg_core::grammar::{CoreAlt, CoreExpr, CoreRule, CoreSlot, CoreTerm, Sym};
 use ipg_num::item_at;

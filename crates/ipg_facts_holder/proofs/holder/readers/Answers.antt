@@ -1,7 +1,7 @@
 use Rattle.std.proofs.Common.{◌≡◌, ap, sym, ◌∙◌, ◌≤◌, length, map, arith, List, Bool}
-use Rattle.ipg_facts.specs.Holder.{readers, reads_next}
-use Rattle.ipg_facts.proofs.Rounds.{round_more, settled, same_marks}
-use Rattle.ipg_facts.proofs.holder.readers.Goals as goal
+use Rattle.ipg_facts_holder.specs.Holder.{readers, reads_next}
+use Rattle.ipg_facts_holder.proofs.Rounds.{round_more, settled, same_marks}
+use Rattle.ipg_facts_holder.proofs.holder.readers.Goals as goal
 
 pub loop-round-init : goal.loop-round-init
 unfolding readers

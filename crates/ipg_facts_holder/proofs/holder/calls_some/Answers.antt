@@ -2,9 +2,9 @@ use Rattle.std.proofs.Common.{ap, sym, ◌∙◌, ◌||◌, List}
 use Rattle.std.specs.List.{list_any}
 use Rattle.ipg_core.specs.declared.grammar.CoreExpr.{CoreExpr}
 use Rattle.ipg_core.specs.declared.grammar.CoreSlot.{CoreSlot}
-use Rattle.ipg_facts.specs.Holder.{calls, calls_some}
-use Rattle.ipg_facts.proofs.Mentions.{calls_pick}
-use Rattle.ipg_facts.proofs.holder.calls_some.Goals as goal
+use Rattle.ipg_facts_holder.specs.Holder.{calls, calls_some}
+use Rattle.ipg_facts_holder.proofs.Mentions.{calls_pick}
+use Rattle.ipg_facts_holder.proofs.holder.calls_some.Goals as goal
 
 pub returns-then-cases_call : goal.returns-then-cases_call
 returns-then-cases_call c =

@@ -3,12 +3,12 @@
 ghost use Rattle.std.specs.Prelude.{◌≡◌, Option, nat_eq};
 ghost use Rattle.std.specs.List.{list_any};
 ghost use Rattle.ipg_core.specs.Mention as core;
-ghost use Rattle.ipg_facts.specs.Holder as spec;
+ghost use Rattle.ipg_facts_holder.specs.Holder as spec;
 
 use ipg_core::grammar::{CoreExpr, CoreField, CoreSlot, CoreTerm};
 
 /// What a mention is asked for.
-#[derive(Clone, Copy, Debug)]
+#[derive(Clone, Copy)]
 pub enum Ask {
     /// An attribute of the holder.
     AnyOuter,

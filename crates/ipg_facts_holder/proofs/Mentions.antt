@@ -4,14 +4,14 @@ use Rattle.std.specs.List.{list_any, flat_map}
 use Rattle.ipg_core.specs.declared.grammar.CoreField.{CoreField}
 use Rattle.ipg_core.specs.declared.grammar.CoreField.TheVariants.{Attr, Start, End}
 use Rattle.ipg_core.specs.Mention.{Mention, field_mentions}
-use Rattle.ipg_facts.specs.declared.mention.Ask.{Ask}
-use Rattle.ipg_facts.specs.declared.mention.Ask.TheVariants.{AnyOuter, Outer, Needs}
+use Rattle.ipg_facts_holder.specs.declared.mention.Ask.{Ask}
+use Rattle.ipg_facts_holder.specs.declared.mention.Ask.TheVariants.{AnyOuter, Outer, Needs}
 use Rattle.ipg_core.specs.declared.grammar.CoreExpr.{CoreExpr}
 use Rattle.ipg_core.specs.declared.grammar.CoreSlot.{CoreSlot}
 use Rattle.ipg_core.specs.declared.grammar.Sym.{Sym}
 use Rattle.ipg_core.specs.Grammar.{Grammar}
 use Rattle.ipg_core.specs.declared.grammar.CoreTerm.TheVariants.{Pick}
-use Rattle.ipg_facts.specs.Holder.{answers, calls, calls_some}
+use Rattle.ipg_facts_holder.specs.Holder.{answers, calls, calls_some}
 
 or_assoc : (a b c : Bool) → (a || b) || c ≡ a || (b || c)
 or_assoc true b c = refl

@@ -1,0 +1,2 @@
+-- which terms of a holder matter
+pub mod Holder

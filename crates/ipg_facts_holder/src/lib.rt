@@ -1,0 +1,9 @@
+//! Which terms of a holder matter to what a local rule's alternative mentions.
+#![tactic(auto)]
+
+mod holder;
+mod marks;
+mod mention;
+
+pub use holder::{kept, mentions_holder};
+pub use marks::is_marked;
