@@ -13,3 +13,4 @@ pub mod Graphs
 pub mod Alive
 pub mod Shapes
 pub mod Speaks
+mod Once

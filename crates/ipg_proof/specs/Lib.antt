@@ -8,6 +8,8 @@ pub mod Proves
 pub mod Worth
 -- that no grammar lost its acceptance
 pub mod Wider
+-- that it is one of both, for one reason
+pub mod Once
 -- texts
 pub mod Texts
 -- that texts can say what proves

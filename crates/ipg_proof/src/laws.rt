@@ -1,6 +1,7 @@
 //! What a certificate is worth, and which cycles it needn't speak of: laws, each the contract of a function that calls only the laws it stands on.
 
 ghost use Rattle.ipg_proof.specs.Cycles.{LiveCyclesAreCycles, LoopsAreLive};
+ghost use Rattle.ipg_proof.specs.Once.{FaultIsOne, ProvesIsNoFault};
 ghost use Rattle.ipg_proof.specs.Speaks.{ProvesIsSpeakable};
 ghost use Rattle.ipg_proof.specs.Wider.{AcceptedStays};
 ghost use Rattle.ipg_proof.specs.Worth.{AcceptsIsTotal, ProvesIsAccepted, ProvesIsTotal};
@@ -12,6 +13,7 @@ use ipg_facts_laws::laws::{
     joints_solve_before,
 };
 use ipg_graph::runs_are_whole;
+use ipg_touch::laws::one_limit;
 
 /// A grammar that a certificate proves is accepted: none of its cycles can be walked on one length of the part.
 pub fn proves_is_accepted()
@@ -43,6 +45,20 @@ pub fn accepted_stays()
     ensures { AcceptedStays }
 {
     joints_solve_before();
+}
+
+/// A certificate that proves a grammar isn't at fault, but for want of memory.
+pub fn proves_is_no_fault()
+    ensures { ProvesIsNoFault }
+{
+    one_limit();
+}
+
+/// Another is at fault for one reason.
+pub fn fault_is_one()
+    ensures { FaultIsOne }
+{
+    one_limit();
 }
 
 /// A certificate in memory that proves a good grammar is one that texts can say.

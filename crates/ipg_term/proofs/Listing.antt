@@ -9,7 +9,7 @@ use Rattle.ipg_cert.specs.declared.refutation.Refutation.{Refutation}
 use Rattle.ipg_cert.specs.Laws.{ChecksRefute}
 use Rattle.ipg_proof.specs.Calls.{Calls, joint_of, cycle_checks}
 use Rattle.ipg_graph.specs.Cycle.{IsSimpleCycle, StandsBefore}
-use Rattle.ipg_term.specs.Least.{IsLeast}
+use Rattle.ipg_solve_least.specs.Least.{IsLeast}
 use Rattle.ipg_term.specs.Loops.{CanLoop}
 use Rattle.ipg_term.specs.Refuted.{AreRefuted, IsLoop, IsReasonIn}
 use Rattle.ipg_term.specs.declared.fault.TermWhy.{TermWhy}
@@ -72,7 +72,7 @@ module _ (graph : Graph) (calls : Calls) where
   first_loop at cycles c Memory are is loop = tt
   first_loop at cycles c (MayLoop told values) are is loop = record {
     simple = subst (IsSimpleCycle graph) (sym loop.0) is.cycle;
-    least = subst (λ d. IsLeast (joint_of calls d).0 (joint_of calls d).1 values) (sym loop.0) loop.1;
+    least = subst (λ d. IsLeast (joint_of calls d).0 (joint_of calls d).1 0 values) (sym loop.0) loop.1;
     first = λ other simple before can.
         not_both c other (is.first other simple (are.later other simple can)) (subst (StandsBefore other) loop.0 before);
   }

@@ -18,7 +18,7 @@ use Rattle.ipg_proof.specs.Calls.{calls_of, joint_of, keep_of, keeps, edge_check
 use Rattle.ipg_proof.specs.Cycles.{LiveCyclesAreCycles, LoopsAreLive}
 use Rattle.ipg_proof.specs.Proves.{Accepts, Proves}
 use Rattle.ipg_touch.specs.Laws.{OneLimit}
-use Rattle.ipg_term.specs.Least.{IsLeast}
+use Rattle.ipg_solve_least.specs.Least.{IsLeast}
 use Rattle.ipg_term.specs.Loops.{CanLoop, Loops, IsReason}
 use Rattle.ipg_term.specs.Laws.{LoopsArentAccepted, OneLoops}
 use Rattle.ipg_term.specs.Refuted.{AreDead, AreRefuted, IsReasonIn}
@@ -121,8 +121,8 @@ loops_arent_accepted one_limit g cycle values loops accepts =
     (subst (λ marks. CanLoop (calls_of g marks) cycle) (one_limit g loops.marks accepts.marks loops.limit accepts.limit) (can_loop g cycle values loops))
 
 least_below : (g : Grammar) (cycle : List ℕ) (values others : List ℤ) (marks : Marks)
-    → IsLeast (joint_of (calls_of g marks) cycle).0 (joint_of (calls_of g marks) cycle).1 values
-    → IsLeast (joint_of (calls_of g marks) cycle).0 (joint_of (calls_of g marks) cycle).1 others → assigned values 0 ≡ assigned others 0
+    → IsLeast (joint_of (calls_of g marks) cycle).0 (joint_of (calls_of g marks) cycle).1 0 values
+    → IsLeast (joint_of (calls_of g marks) cycle).0 (joint_of (calls_of g marks) cycle).1 0 others → assigned values 0 ≡ assigned others 0
 least_below g cycle values others marks h k =
     let up = h.least (assigned others) k.solves.1 k.solves.2 in
     let down = k.least (assigned values) h.solves.1 h.solves.2 in
@@ -135,8 +135,8 @@ one_loops one_limit g cycle other values others h k =
       | inl one ↦ (
         one,
         least_below g other values others k.marks
-            (subst (λ c. IsLeast (joint_of (calls_of g k.marks) c).0 (joint_of (calls_of g k.marks) c).1 values) one
-            (subst (λ m. IsLeast (joint_of (calls_of g m) cycle).0 (joint_of (calls_of g m) cycle).1 values) same h.first.least))
+            (subst (λ c. IsLeast (joint_of (calls_of g k.marks) c).0 (joint_of (calls_of g k.marks) c).1 0 values) one
+            (subst (λ m. IsLeast (joint_of (calls_of g m) cycle).0 (joint_of (calls_of g m) cycle).1 0 values) same h.first.least))
             k.first.least,
       )
       | inr (inl before) ↦ absurd (k.first.first cycle h.first.simple before (subst (λ m. CanLoop (calls_of g m) cycle) same (can_loop g cycle values h)))

@@ -7,7 +7,7 @@ use Rattle.ipg_graph.specs.Answers.{Spot, Start, IsAfter, IsRun}
 use Rattle.ipg_cert.specs.declared.refutation.Refutation.{Refutation}
 use Rattle.ipg_proof.specs.Calls.{Calls, joint_of, edge_checks, cycle_checks}
 use Rattle.ipg_proof.specs.Places.{Rise}
-use Rattle.ipg_term.specs.Least.{IsLeast}
+use Rattle.ipg_solve_least.specs.Least.{IsLeast}
 use Rattle.ipg_term.specs.Loops.{CanLoop}
 use Rattle.ipg_term.specs.declared.fault.TermWhy.{TermWhy}
 use Rattle.ipg_term.specs.declared.fault.TermWhy.TheVariants.{MayLoop, Memory}
@@ -31,13 +31,13 @@ pub record AreRefuted (graph : Graph) (calls : Calls) (at : Spot) (cycles : List
 
 -- the cycle that is told can loop, at values of which the first is least
 abbrev pub IsLoop : Calls → List ℕ → TermWhy → Type 0
-IsLoop calls cycle (MayLoop told values) = (told ≡ cycle) × IsLeast (joint_of calls cycle).0 (joint_of calls cycle).1 values
+IsLoop calls cycle (MayLoop told values) = (told ≡ cycle) × IsLeast (joint_of calls cycle).0 (joint_of calls cycle).1 0 values
 IsLoop calls cycle Memory = Unit {0}
 
 -- so can the cycle of the graph, at no lesser length, and no cycle before it can
 pub record IsFirstOf (graph : Graph) (calls : Calls) (cycle : List ℕ) (values : List ℤ) : Type 0 where
   pub simple : IsSimpleCycle graph cycle
-  pub least : IsLeast (joint_of calls cycle).0 (joint_of calls cycle).1 values
+  pub least : IsLeast (joint_of calls cycle).0 (joint_of calls cycle).1 0 values
   pub first : (other : List ℕ) → IsSimpleCycle graph other → StandsBefore other cycle → ¬ CanLoop calls other
 
 abbrev pub IsReasonIn : Graph → Calls → TermWhy → Type 0

@@ -9,13 +9,13 @@ ghost use Rattle.ipg_proof.specs.Seen.{seen};
 ghost use Rattle.ipg_term.specs.Refuted.{AreRefuted, IsLoop, IsReasonIn};
 
 use crate::fault::TermWhy;
-use crate::halving::settled;
 use ipg_cert::Refutation;
 use ipg_cert::laws::checks_refute;
 use ipg_graph::Cycles;
 use ipg_num::List;
 use ipg_proof::{Calls, joint_of, live_cycles};
 use ipg_solve::Decision;
+use ipg_solve_least::decide_least;
 use std::alloc::{AllocError, Global};
 
 fn next_cycle(alloc: Global, cycles: &mut Cycles) -> Result<Option<List<u32>>, AllocError>
@@ -37,7 +37,7 @@ fn refuted_cycle(
     ensures { MatchResult result (λ entry. (entry.0 ≡ cycle) × IsTrue (cycle_checks (seen calls.entry) entry)) (IsLoop (seen calls.entry) cycle) }
 {
     let joint = joint_of(alloc, calls, cycle.as_slice())?;
-    match settled(alloc, &joint.0, &joint.1)? {
+    match decide_least(alloc, &joint.0, &joint.1, 0)? {
         Decision::Refuted(refutation) => Ok((cycle, refutation)),
         Decision::Solution(values) => Err(TermWhy::MayLoop { cycle, values }),
     }

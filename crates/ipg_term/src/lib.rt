@@ -5,7 +5,6 @@ mod checking;
 mod cycles;
 mod dead;
 mod fault;
-mod halving;
 pub mod laws;
 #[cfg(test)]
 mod tests;

@@ -1,0 +1,15 @@
+-- A certificate proves a grammar or is at fault, never both, and for one reason.
+use Rattle.std.specs.Prelude.{◌≡◌, ◌⊎◌}
+use Rattle.ipg_core.specs.Grammar.{Grammar}
+use Rattle.ipg_proof.specs.declared.certificate.Certificate.{Certificate}
+use Rattle.ipg_proof.specs.declared.fault.ProofWhy.{ProofWhy}
+use Rattle.ipg_proof.specs.declared.fault.ProofWhy.TheVariants.{Memory}
+use Rattle.ipg_proof.specs.Proves.{Proves, IsFault}
+
+-- one that proves has no fault but want of memory
+abbrev pub ProvesIsNoFault : Type 0
+ProvesIsNoFault = (g : Grammar) (c : Certificate) (why : ProofWhy) → Proves g c → IsFault g c why → why ≡ Memory
+
+-- and any other has one
+abbrev pub FaultIsOne : Type 0
+FaultIsOne = (g : Grammar) (c : Certificate) (why other : ProofWhy) → IsFault g c why → IsFault g c other → (why ≡ Memory) ⊎ (other ≡ Memory) ⊎ (why ≡ other)

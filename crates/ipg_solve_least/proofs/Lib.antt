@@ -1,0 +1,3 @@
+-- half of a range
+pub mod Narrowing
+pub mod Halves
