@@ -1,0 +1,34 @@
+use Rattle.std.proofs.Common.{◌≡◌, ◌-◌, ◌+◌, suc, subst, sym, arith}
+use Rattle.ipg_store_body.specs.Reading.{case_at}
+use Rattle.ipg_store_body.proofs.Loops.{Goes, starts, more, halts, ends}
+use Rattle.ipg_store_body.proofs.reading.BodyReader.cases.Goals as goal
+
+pub loop-at-init : goal.loop-at-init
+loop-at-init c =
+    starts case_at c.args.self.now.bytes.left.now c.in_ok-count.count c.long.new.self.left.now c.new-cases.result.items (c.in_ok-count.count - 0)
+    c.new-cases.ensures.items (omega arith) c.in_ok-count.ensures
+
+pub loop-at-preserved : goal.loop-at-preserved
+loop-at-preserved c =
+    let count = c.in_ok-count.count in
+    let at = c.loop-at._at in
+    let size : count - at ≡ suc (count - (at + 1)) = omega (arith, c.loop-at-test.true) in
+    subst (λ xs. Goes case_at c.args.self.now.bytes.left.now xs (count - (at + 1)) c.case.new.self.bytes.left.now) (sym c.in_ok-push.ensures.items)
+    (more case_at c.args.self.now.bytes.left.now c.loop-at.cases.items (count - at) (count - (at + 1)) c.loop-at.self.bytes.left.now
+    c.case.new.self.bytes.left.now c.in_ok-case.case size c.in_ok-case.ensures c.loop-at.invariant)
+
+pub returns-in_err-case : goal.returns-in_err-case
+returns-in_err-case c =
+    let count = c.in_ok-count.count in
+    let at = c.loop-at._at in
+    let size : count - at ≡ suc (count - (at + 1)) = omega (arith, c.loop-at-test.true) in
+    halts case_at c.args.self.now.bytes.left.now c.loop-at.cases.items (count - at) (count - (at + 1)) c.loop-at.self.bytes.left.now
+    c.case.new.self.bytes.left.now c.in_err-case.field-0.0 c.from_residual-in_err-case.result size c.from_residual-in_err-case.ensures.1
+    c.in_err-case.ensures c.loop-at.invariant
+
+pub returns : goal.returns
+returns c =
+    let count = c.in_ok-count.count in
+    let done : count - c.loop-at._at ≡ 0 = omega (arith, c.loop-at-test.false) in
+    ends case_at c.args.self.now.bytes.left.now c.loop-at.cases.items c.from_vec.result (count - c.loop-at._at) c.loop-at.self.bytes.left.now done
+    c.from_vec.ensures c.loop-at.invariant

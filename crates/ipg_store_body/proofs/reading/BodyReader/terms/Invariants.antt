@@ -1,0 +1,7 @@
+use Rattle.std.proofs.Common.{◌-◌}
+use Rattle.ipg_store_body.specs.Reading.{term_at}
+use Rattle.ipg_store_body.proofs.Loops.{Goes}
+use Rattle.ipg_store_body.proofs.reading.BodyReader.terms.Given as goal
+
+abbrev pub invariant-loop-at : goal.invariant-loop-at
+invariant-loop-at l = Goes term_at l.fn.self.bytes.left.now l.terms.items (l.count - l._at) l.self.bytes.left.now

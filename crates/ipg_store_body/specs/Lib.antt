@@ -1,0 +1,6 @@
+-- how a grammar is written as a body
+pub mod Format
+-- what a body may hold
+pub mod Fits
+-- what functions inside the crate promise each other
+pub mod Reading

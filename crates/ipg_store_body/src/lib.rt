@@ -1,0 +1,13 @@
+//! The body of a table file: a core grammar as bytes.
+#![tactic(auto)]
+
+mod body;
+mod reading;
+mod tag;
+#[cfg(test)]
+mod tests;
+mod writing;
+
+pub use body::Body;
+pub use reading::read;
+pub use writing::write;
