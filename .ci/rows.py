@@ -4,7 +4,8 @@
 
 A row has a name, the words, a status and what is known of the text: all of it (`stdout`), its first line (`head`), its last
 lines (`tail`), one line by its number (`line`), or how many there are (`count`). `files` are further files in hexadecimal,
-`input_zeros` an input of so many zeros, `grammar_parts` a grammar of texts so often repeated. With `prefixes` each prefix of
+`input_zeros` an input of so many zeros, `grammar_parts` a grammar of texts so often repeated, `path_parts` a path of such, the
+last of the words. With `prefixes` each prefix of
 the input is parsed, and those named have a tree. With `chain` the text is the file `out.bin` of a second run.
 Ends with status 1 where a row differs.
 """
@@ -29,10 +30,14 @@ def files_of(row):
     files = {name: bytes.fromhex(content) for name, content in row.get("files", {}).items()}
     parts = row.get("grammar_parts", [[row["grammar"], 1]] if "grammar" in row else None)
     if parts is not None:
-        files["g.ipg"] = "".join(text * times for text, times in parts).encode("latin-1")
+        files["g.ipg"] = joined(parts).encode("latin-1")
     if "input" in row:
         files["input.bin"] = bytes.fromhex(row["input"])
     return files
+
+
+def joined(parts):
+    return "".join(text * times for text, times in parts)
 
 
 def text_differs(row, text):
@@ -72,7 +77,8 @@ def differs(command, row):
                 file.truncate(row["input_zeros"])
         if "prefixes" in row:
             return prefix_differs(command, row, folder)
-        status, text = call(command, row["words"], folder)
+        path = [joined(row["path_parts"])] if "path_parts" in row else []
+        status, text = call(command, row["words"] + path, folder)
         what = f"status {status}" if status != row["status"] else text_differs(row, text)
         if what is None and "chain" in row:
             with open(os.path.join(folder, "out.bin"), "wb") as file:

@@ -1,11 +1,11 @@
 """Cases made by independent implementations, and texts worked by hand: what a command says of each, and its status.
 
-  vectors.py parses|counts|certificates|conditions|earlier|texts COMMAND..
+  vectors.py parses|counts|queries|certificates|conditions|earlier|texts COMMAND..
 
-COMMAND is followed by the name of a grammar's file, and for a parse, its counts or a certificate by that of the input
-or the certificate. A case of `texts` has its files by name, and runs of words, which all say the same; `> NAME` at the
-end of a run keeps what it says as a file in place of comparing it. A text may be a list of pieces, some with how often
-they stand. Ends with status 1 where a case differs.
+COMMAND is followed by the name of a grammar's file, and for a parse, its counts, a query or a certificate by that of the
+input or the certificate, and for a query by the path. A grammar that begins with `@` is built in. A case of `texts` has its
+files by name, and runs of words, which all say the same; `> NAME` at the end of a run keeps what it says as a file in place
+of comparing it. A text may be a list of pieces, some with how often they stand. Ends with status 1 where a case differs.
 """
 
 import json
@@ -21,12 +21,16 @@ FILES = {"counts": "parses"}
 
 def files_of(kind, case):
     """What stands in the command's files."""
-    files = [case["grammar"].encode("latin-1")]
-    if kind in ("parses", "counts"):
+    files = [] if is_built_in(case) else [case["grammar"].encode("latin-1")]
+    if kind in ("parses", "counts", "queries"):
         files.append(bytes.fromhex(case["input"]))
     if kind == "certificates":
         files.append(case["cert"].encode("latin-1"))
     return files
+
+
+def is_built_in(case):
+    return case["grammar"].startswith("@")
 
 
 def due_of(kind, case):
@@ -34,14 +38,14 @@ def due_of(kind, case):
     return (0, case["counts"]) if kind == "counts" else (case.get("status", 0), case["says"])
 
 
-def run(command, files):
+def run(command, files, words):
     with tempfile.TemporaryDirectory() as folder:
         names = []
         for number, content in enumerate(files):
             names.append(os.path.join(folder, str(number)))
             with open(names[-1], "wb") as file:
                 file.write(content)
-        done = subprocess.run(command + names, capture_output=True, timeout=120)
+        done = subprocess.run(command + names + words, capture_output=True, timeout=120)
     return done.returncode, done.stdout.decode("latin-1")
 
 
@@ -103,7 +107,9 @@ def differences(kind, command, case):
         answers = run_words([os.path.abspath(command[0])] + command[1:], case)
     else:
         due = due_of(kind, case)
-        answers = [(case["grammar"], run(command, files_of(kind, case)))]
+        grammar = [case["grammar"]] if is_built_in(case) else []
+        path = [case["path"]] if kind == "queries" else []
+        answers = [(case["grammar"], run(command + grammar, files_of(kind, case), path))]
     if kind == "earlier" and unsolved(case):
         return [f"{case['grammar']}\n  no solution of edges {unsolved(case)}"]
     return [f"{words}\n  got {got!r:.400}\n  due {due!r:.400}" for words, got in answers if got != due]

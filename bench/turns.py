@@ -1,9 +1,9 @@
 """Two commands that take turns: the least time of 25 runs of each, or of five where a run takes half a second and more, its
 peak of memory, and how many times as long the first takes as the second.
 
-  turns.py [--goal TIMES] [--most-ms MS] [--most-mib MIB] [--per-line BYTES] NAME FIRST.. -- SECOND..
+  turns.py [--goal TIMES] [--memory-goal TIMES] [--most-ms MS] [--most-mib MIB] [--per-line BYTES] NAME FIRST.. -- SECOND..
 
-The goals are for TIMES, and for the FIRST's time, its memory, and its memory for each line that it prints, beside the file
+The goals are for TIMES, of time and of memory, and for the FIRST's time, its memory, and its memory for each line that it prints, beside the file
 that is its fourth word. A goal that is missed is said to be, and ends nothing; a command that doesn't end with status 0 does.
 """
 
@@ -51,7 +51,7 @@ def held(value, goal, unit):
 
 def parsed():
     reader = argparse.ArgumentParser(usage=__doc__)
-    for name in ("--goal", "--most-ms", "--most-mib", "--per-line"):
+    for name in ("--goal", "--memory-goal", "--most-ms", "--most-mib", "--per-line"):
         reader.add_argument(name, type=float)
     reader.add_argument("name")
     reader.add_argument("words", nargs=argparse.REMAINDER)
@@ -70,7 +70,10 @@ def main():
     if asked.per_line is not None:
         beside = most * 2**20 - os.path.getsize(first[3])
         row.append(held(beside / printed(first), asked.per_line, "bytes a line"))
-    row += [held(theirs, None, "ms"), held(peak(second), None, "MiB"), held(ours / theirs, asked.goal, "times")]
+    others = peak(second)
+    row += [held(theirs, None, "ms"), held(others, None, "MiB"), held(ours / theirs, asked.goal, "times")]
+    if asked.memory_goal is not None:
+        row.append(held(most / others, asked.memory_goal, "times the memory"))
     print(" | ".join(row), flush=True)
 
 

@@ -52,6 +52,7 @@ each() {
 
 each parse crates/ipg/data/row.ipg crates/ipg/data/row.bin --arena 1 &&
   each parse "$folder/g" "$folder/input" --arena 1 &&
+  each query "$folder/g" "$folder/input" '**/U8/**.start' &&
   each trial gif 1 &&
   each fmt "$folder/g" &&
   each check "$folder/list" &&

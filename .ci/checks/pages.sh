@@ -11,4 +11,5 @@ top=$PWD
 . dist/sources.sh
 ./ipg check @gif >/dev/null || exit 1
 is_built || program=dist/ipg
-exec python3 .ci/pages.py "$program" README.md formats/README.md docs/PATTERNS.md docs/REFUSALS.md docs/TUTORIAL.md docs/MANY.md docs/CERTIFICATE.md
+pages=(README.md formats/README.md docs/{PATTERNS,REFUSALS,TUTORIAL,MANY,QUERY,CERTIFICATE}.md)
+exec python3 .ci/pages.py "$program" "${pages[@]}"

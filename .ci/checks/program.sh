@@ -195,11 +195,14 @@ done
 expect 8 $'too large\n' parse "$grammar" "$folder/long"
 expect 8 $'too large\n' verify "$grammar" "$folder/long"
 
-./ipg parse "$grammar" "$input" >/dev/full
-if [ $? -ne 6 ]; then
-  echo "program: a full device is no write fault"
-  failed=1
-fi
+for words in "parse $grammar $input" "query $grammar $input **"; do
+  # shellcheck disable=SC2086
+  (set -f && ./ipg $words >/dev/full)
+  if [ $? -ne 6 ]; then
+    echo "program: a full device is no write fault of $words"
+    failed=1
+  fi
+done
 
 # a pipe whose reader has gone
 mkfifo "$folder/pipe"

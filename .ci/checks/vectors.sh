@@ -1,5 +1,5 @@
 #!/usr/bin/env bash
-# Cases from independent implementations: trees, what a parse counts, answers to certificates, conditions of calls; and cases
+# Cases from independent implementations: trees, what a parse counts, what a path picks, answers to certificates, conditions of calls; and cases
 # worked by hand, of texts, names, operators and words.
 set -u
 cd "$(dirname "$0")/../.." || exit 1
@@ -18,6 +18,7 @@ built() {
 }
 
 python3 .ci/vectors.py parses ./ipg parse || failed=1
+python3 .ci/vectors.py queries ./ipg query || failed=1
 python3 .ci/vectors.py certificates ./ipg verify || failed=1
 python3 .ci/vectors.py texts ./ipg || failed=1
 built tool_counts data/row.ipg data/row.bin

@@ -7,4 +7,5 @@ pub mod OneCheck
 pub mod OneVerdict
 pub mod OneParse
 pub mod Meant
+pub mod Hits
 pub mod Verified

@@ -7,24 +7,30 @@ use Rattle.ipg_core.specs.Grammar.{Grammar, holder_of}
 use Rattle.ipg_core.specs.Good.{Good}
 use Rattle.ipg_core.specs.Grown.{IsInput, GrownUnder, max_input}
 use Rattle.ipg_core.specs.Meaning.{Means, den}
-use Rattle.ipg_core.specs.Lines.{lines, tree_lines}
+use Rattle.ipg_core.specs.Lines.{tree_lines}
 use Rattle.ipg_core.specs.Run.{Stop, Deep}
 use Rattle.ipg_core.specs.Total.{Total, Fits, height_for}
 use Rattle.ipg_core.specs.Tree.{Tree}
+use Rattle.ipg_core.specs.Within.{TreeWithin}
 use Rattle.ipg_mach_count_laws.specs.Laws.{CountsWithMemo}
 use Rattle.ipg_mach.specs.Counted.{IsTally}
 use Rattle.ipg_mach.specs.Outcome.{IsParse, Evaluates}
 use Rattle.ipg_mach.specs.Stage.{source}
 use Rattle.ipg_mach_moves.specs.Moves.{Tally}
 use Rattle.ipg_outside.specs.Sink.{Output}
-use Rattle.ipg_tree_walk.specs.Parse.{Walked}
+use Rattle.ipg_tree_walk.specs.Parse.{Parse, Walked}
 use Rattle.ipg_tree_walk.specs.declared.parsed.Counts.{Counts}
 use Rattle.ipg_table.specs.Rows.{Rows, StandFor}
-use Rattle.ipg_tree.specs.Shares.{IsTree}
+use Rattle.ipg_mach_nodes.specs.Stored.{Source}
+use Rattle.ipg_query.specs.Hits.{IsTree}
+use Rattle.ipg_tree.specs.Shares as printed
+use Rattle.ipg_app.specs.declared.task.Show.{Show}
+use Rattle.ipg_app.specs.Queried.{shown}
 use Rattle.ipg_app.specs.Answered.{Answers, Fails, PutsTree}
 use Rattle.ipg_app.specs.Measured.{IsSize}
 use Rattle.ipg_app.specs.declared.answering.Given.{Given}
 use Rattle.ipg_app.specs.declared.answering.AnswerFault.{AnswerFault}
+use Rattle.ipg_app.specs.declared.answering.AnswerFault.TheVariants as fault
 use Rattle.ipg_app.specs.declared.measuring.Size.{Size}
 use Rattle.std.specs.Prelude.{IfErr}
 
@@ -56,33 +62,55 @@ meant g s good total input = (
   },
 )
 
--- the tree of a parse is one that is printed by the grammar
-pub printable : (t : Rows) (g : Grammar) (input : List ℕ) (p : Walked) (one : Tree) → StandFor t g → IsParse t input p one
+-- the tree of a parse is one that can be shown by the grammar
+pub showable : (t : Rows) (g : Grammar) (input : List ℕ) (p : Walked) (one : Tree) → StandFor t g → length input ≤ 2 ^ 30 → IsParse t input p one
     → IsTree p.parse (source t input) g one
-printable t g input p one stands h = record {
+showable t g input p one stands small h = record {
   shares = record {
     tables = subst (λ t. StandFor t g) (sym h.tables) stands;
     syms = ap (λ (t : Rows). t.syms) (sym h.tables);
     input = sym h.bytes;
   };
   stands = h.stands;
+  within = subst (λ bytes. TreeWithin (length bytes) one) (sym h.bytes) h.within;
+  small = subst (λ bytes. length bytes ≤ 2 ^ 30) (sym h.bytes) small;
 }
 
--- ---- what becomes of the lines of a tree
+-- it is one whose lines can be printed
+pub printable : (parse : Parse) (src : Source) (g : Grammar) (one : Tree) → IsTree parse src g one → printed.IsTree parse src g one
+printable parse src g one h = record {
+  shares = record { tables = h.shares.tables; syms = h.shares.syms; input = h.shares.input };
+  stands = h.stands;
+}
 
-module _ (g : Grammar) (input : List ℕ) (answer : Result Tree Stop) (means : Means g input answer) (one : Tree) (is_one : answer ≡ Ok one)
+-- ---- what becomes of what is shown of a tree
+
+module _ (show : Show) (g : Grammar) (input : List ℕ) (answer : Result Tree Stop) (means : Means g input answer) (one : Tree) (is_one : answer ≡ Ok one)
     (before : Option Output) (counted : ℕ) (after : Option Output) (counts : ℕ) where
-  pub given_of : (r : Result Given AnswerFault) → PutsTree r (lines g one 0) before counted after counts
-      → IfOk r (λ x. Answers g input x before counted after counts)
-  given_of (Ok x) h = subst (λ x. Answers g input x before counted after counts) (sym h.0)
-      (record { answer = answer; means = means; is = (one, is_one, h.1) })
-  given_of (Err x) h = tt
+  -- what is shown of the input, by another name of its bytes
+  renamed : (bytes : List ℕ) (r : Result Given AnswerFault) → bytes ≡ input → PutsTree r (shown show g bytes one) before counted after counts
+      → PutsTree r (shown show g input one) before counted after counts
+  renamed bytes r e h = subst (λ b. PutsTree r (shown show g b one) before counted after counts) e h
 
-  pub fault_of : (r : Result Given AnswerFault) → PutsTree r (lines g one 0) before counted after counts
-      → IfErr r (λ x. Fails g input x before counted after counts)
-  fault_of (Ok x) h = tt
-  fault_of (Err x) h = subst (λ x. Fails g input x before counted after counts) (sym h.0)
-      (record { tree = one; means = subst (Means g input) is_one means; part = h.1 })
+  given : (r : Result Given AnswerFault) → PutsTree r (shown show g input one) before counted after counts
+      → IfOk r (λ x. Answers show g input x before counted after counts)
+  given (Ok x) h = subst (λ x. Answers show g input x before counted after counts) (sym h.0)
+      (record { answer = answer; means = means; is = (one, is_one, h.1) })
+  given (Err x) h = tt
+
+  failed : (r : Result Given AnswerFault) → PutsTree r (shown show g input one) before counted after counts
+      → IfErr r (λ x. Fails show g input x before counted after counts)
+  failed (Ok x) h = tt
+  failed (Err fault.Memory) h = h
+  failed (Err fault.Write) h = record { tree = one; means = subst (Means g input) is_one means; part = h }
+
+  pub given_of : (bytes : List ℕ) (r : Result Given AnswerFault) → bytes ≡ input → PutsTree r (shown show g bytes one) before counted after counts
+      → IfOk r (λ x. Answers show g input x before counted after counts)
+  given_of bytes r e h = given r (renamed bytes r e h)
+
+  pub fault_of : (bytes : List ℕ) (r : Result Given AnswerFault) → bytes ≡ input → PutsTree r (shown show g bytes one) before counted after counts
+      → IfErr r (λ x. Fails show g input x before counted after counts)
+  fault_of bytes r e h = failed r (renamed bytes r e h)
 
 -- ---- how large a tree is
 

@@ -7,7 +7,8 @@ use Rattle.ipg_outside.specs.declared.files.FileFault.{FileFault}
 use Rattle.ipg_outside.specs.declared.files.FileFault.TheVariants as file
 use Rattle.ipg_tree.specs.Puts.{Whole}
 use Rattle.ipg_core.specs.Grammar.{Grammar}
-use Rattle.ipg_core.specs.Lines.{lines}
+use Rattle.ipg_app.specs.declared.task.Show.{Show}
+use Rattle.ipg_app.specs.Queried.{shown}
 use Rattle.ipg_app.specs.Answered.{Fails}
 use Rattle.ipg_app.specs.declared.answering.AnswerFault.{AnswerFault}
 use Rattle.ipg_app.specs.declared.answering.AnswerFault.TheVariants as fault
@@ -109,8 +110,8 @@ surely_by told then words s h = by (h (record { reading = λ name rose. not_rise
 
 -- ---- a parse that wasn't written whole
 
-pub failed : (g : Grammar) (input : List ℕ) (f : AnswerFault) (before : Option Output) (counted : ℕ) (after : Option Output) (counts : ℕ) (s : Status)
-    → s ≡ fault_status f → Fails g input f before counted after counts → Replies (Parses g input) before counted after counts s
-failed g input fault.Memory before counted after counts s e h = inr (e, h)
-failed g input fault.Write before counted after counts s e h =
-    inl (done (lines g h.tree 0), record { answer = Ok h.tree; means = h.means; is = refl }, inr (e, h.part.failed, h.part.told))
+pub failed : (show : Show) (g : Grammar) (input : List ℕ) (f : AnswerFault) (before : Option Output) (counted : ℕ) (after : Option Output) (counts : ℕ)
+    (s : Status) → s ≡ fault_status f → Fails show g input f before counted after counts → Replies (Parses show g input) before counted after counts s
+failed show g input fault.Memory before counted after counts s e h = inr (e, h)
+failed show g input fault.Write before counted after counts s e h =
+    inl (done (shown show g input h.tree), record { answer = Ok h.tree; means = h.means; is = refl }, inr (e, h.part.failed, h.part.told))

@@ -12,7 +12,9 @@ use Rattle.ipg_app.specs.Order.{Order, says, finds, reads, Answers, Turn, have}
 use Rattle.ipg_formats.specs.declared.Kind.{Kind}
 use Rattle.ipg_formats.specs.Names.{kind_of}
 use Rattle.ipg_formats.specs.Text.{text_of}
-use Rattle.ipg_app.specs.Reply.{input_in, text_by, grammar_of, core_of, grammar_under, core_under, accepted, max_input}
+use Rattle.ipg_app.specs.Reply.{input_in, text_by, grammar_of, core_of, grammar_under, core_under, accepted, path_in, max_input}
+use Rattle.ipg_query_path.specs.declared.path.Query.{Query}
+use Rattle.ipg_app.specs.Path.{ReadsPath}
 use Rattle.ipg_app.specs.Run.{Settles}
 use Rattle.ipg_app.specs.Found.{Found, FoundCore, grammar_in_file, core_in_file, silence}
 use Rattle.ipg_app.proofs.Written.{later}
@@ -63,6 +65,15 @@ module _ (told : List ℕ → Told) (before after : List ℕ → ℕ) where
 
   pub core_refused : (text : List ℕ) (next : Grammar → Order) (said : Said) → CoreOf text (Err said) → Settled (core_of text next) said
   core_refused text next said h = inl (Err said, h, refl)
+
+  -- the path of a text leads on
+  pub path_goes_on : (text : List ℕ) (next : Query → Order) (said : Said) (path : Query) → ReadsPath text (Ok path) → Settled (next path) said
+      → Settled (path_in text next) said
+  path_goes_on text next said path h (inl a) = inl (Ok path, h, a)
+  path_goes_on text next said path h (inr f) = inr (record { name = f.name; turn = (Ok path, h, f.turn); rose = f.rose; is = f.is })
+
+  pub no_path : (text : List ℕ) (next : Query → Order) (said : Said) → ReadsPath text (Err said) → Settled (path_in text next) said
+  no_path text next said h = inl (Err said, h, refl)
 
   -- a step settles what is said
   pub settles_by : {A : Type 0} (r : Result A Said) (next : A → Order) (said x : Said) → r ≡ Err x → said ≡ x → Settled (have r next) said

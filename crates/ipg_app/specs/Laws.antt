@@ -2,10 +2,10 @@
 use Rattle.std.specs.Prelude.{◌≡◌, ◌≢◌, ◌≤◌, ℕ, List, length}
 use Rattle.ipg_outside.specs.Files.{Told, untold, holds}
 use Rattle.ipg_core.specs.Grammar.{Grammar}
-use Rattle.ipg_app_words.specs.Request.{Check}
 use Rattle.ipg_app.specs.Said.{Said, done}
 use Rattle.ipg_app.specs.Order.{Answers}
-use Rattle.ipg_app.specs.Reply.{use_order, verify, max_input, Parses}
+use Rattle.ipg_app.specs.declared.task.Show.{Show}
+use Rattle.ipg_app.specs.Reply.{use_order, Check, verify, max_input, Parses}
 use Rattle.ipg_app.specs.Certificate.{Certifies, verified}
 use Rattle.ipg_app.specs.CoreOf.{Answer, CoreOf}
 use Rattle.ipg_app.specs.Checks.{Checks}
@@ -20,7 +20,7 @@ OneCheck = (g : Grammar) (one other : Answer) → Checks g one → Checks g othe
 
 -- an input has one parse, whatever is remembered of calls and however large the heap is
 abbrev pub OneParse : Type 0
-OneParse = (g : Grammar) (input : List ℕ) (one other : Said) → Parses g input one → Parses g input other → one ≡ other
+OneParse = (show : Show) (g : Grammar) (input : List ℕ) (one other : Said) → Parses show g input one → Parses show g input other → one ≡ other
 
 -- of a name of which something is told `check` says one thing
 abbrev pub OneVerdict : Type 0

@@ -10,6 +10,9 @@ pub mod Certificate
 -- what is answered of an input, and how large its tree is
 pub mod Answered
 pub mod Measured
+-- paths, and what is shown of a tree
+pub mod Path
+pub mod Queried
 -- a trial on a sample
 pub mod Trial
 -- in which order it answers, and what it does outside

@@ -6,15 +6,20 @@ use Rattle.ipg_core.specs.Grammar.{Grammar}
 use Rattle.ipg_core.specs.Tree.{Tree}
 use Rattle.ipg_core.specs.Run.{Stop, NoTree, OutOfRange, Deep}
 use Rattle.ipg_core.specs.Meaning.{Means}
-use Rattle.ipg_core.specs.Lines.{lines}
 use Rattle.ipg_formats.specs.declared.Kind.{Kind}
+use Rattle.ipg_query_path.specs.declared.path.Query as paths
 use Rattle.ipg_formats.specs.Names.{kind_of}
 use Rattle.ipg_formats.specs.Text.{text_of}
-use Rattle.ipg_app_words.specs.Request.{Task, Parse, Check, Cert, Verify, Request, Use, Fmt, Trial, request_of}
+use Rattle.ipg_app_words.specs.Request as words
+use Rattle.ipg_app_words.specs.Request.{Request, Use, Fmt, Trial, Query, request_of}
+use Rattle.ipg_app.specs.declared.task.Show.{Show}
+use Rattle.ipg_app.specs.declared.task.Show.TheVariants.{Lines, Picked}
 use Rattle.ipg_app.specs.Said.{Said, done, done_line, usage, no_parse, range, too_large}
 use Rattle.ipg_app.specs.CoreOf.{grammar_in, CoreOf}
 use Rattle.ipg_app.specs.Checks.{Checks}
 use Rattle.ipg_app.specs.Certificate.{Certifies, Reads, Judges}
+use Rattle.ipg_app.specs.Path.{ReadsPath}
+use Rattle.ipg_app.specs.Queried.{shown}
 use Rattle.ipg_app.specs.Trial.{Tries, kind_by, parts_in}
 use Rattle.ipg_app.specs.Order.{Order, Step, says, only, found, have, contents, ◌>>=◌}
 
@@ -62,31 +67,38 @@ max_input = 2 ^ 30
 abbrev pub input_in : List ℕ → Result (List ℕ) Said
 input_in bytes = if nat_le (length bytes) max_input then Ok bytes else Err too_large
 
--- what is said of a parse; nothing of one that has no answer
-abbrev pub parse_said : Grammar → Result Tree Stop → Option Said
-parse_said g (Ok tree) = Some (done (lines g tree 0))
-parse_said g (Err NoTree) = Some no_parse
-parse_said g (Err OutOfRange) = Some range
-parse_said g (Err Deep) = None
+-- what is said of a parse, by what is to be shown of a tree; nothing of one that has no answer
+abbrev pub parse_said : Show → Grammar → List ℕ → Result Tree Stop → Option Said
+parse_said show g input (Ok tree) = Some (done (shown show g input tree))
+parse_said show g input (Err NoTree) = Some no_parse
+parse_said show g input (Err OutOfRange) = Some range
+parse_said show g input (Err Deep) = None
 
 -- what is said of the parse of an input by a grammar
-pub record Parses (g : Grammar) (input : List ℕ) (said : Said) : Type 0 where
+pub record Parses (show : Show) (g : Grammar) (input : List ℕ) (said : Said) : Type 0 where
   pub answer : Result Tree Stop
   pub means : Means g input answer
-  pub is : parse_said g answer ≡ Some said
+  pub is : parse_said show g input answer ≡ Some said
+
+-- Q1
+abbrev pub path_in : List ℕ → Step paths.Query
+path_in text next = do
+  answer ← found (ReadsPath text)
+  path ← have answer
+  next path
 
 -- ---- commands, each behind the core grammar of a text
 
-abbrev pub parse_input : List ℕ → Grammar → Order
-parse_input name g = do
+abbrev pub parse_input : Show → List ℕ → Grammar → Order
+parse_input show name g = do
   bytes ← contents name
   input ← have (input_in bytes)
-  says (Parses g input)
+  says (Parses show g input)
 
-abbrev pub parse : List ℕ → Grammar → Order
-parse name g = do
+abbrev pub parse : Show → List ℕ → Grammar → Order
+parse show name g = do
   same ← accepted g
-  parse_input name same
+  parse_input show name same
 
 abbrev pub check : Grammar → Order
 check g = do
@@ -142,9 +154,22 @@ fmt grammar = do
 
 -- ---- words
 
+-- what is done with a core grammar
+pub data Task : Type 0 where
+  Parse : Show → (input : List ℕ) → Task
+  Check : Task
+  Cert : Task
+  Verify : (certificate : List ℕ) → Task
+
 -- neither the memo nor the size of the heap has a part in what is said
+abbrev pub task_of : words.Task → Task
+task_of (words.Parse input memo mib) = Parse Lines input
+task_of words.Check = Check
+task_of words.Cert = Cert
+task_of (words.Verify certificate) = Verify certificate
+
 abbrev pub order_by : Task → Grammar → Order
-order_by (Parse input memo mib) g = parse input g
+order_by (Parse show input) g = parse show input g
 order_by Check g = check g
 order_by Cert g = cert g
 order_by (Verify certificate) g = verify certificate g
@@ -154,10 +179,17 @@ use_order grammar task = do
   g ← core_under grammar
   order_by task g
 
+-- the path is read before the grammar
+abbrev pub query : (grammar input path : List ℕ) → Order
+query grammar input text = do
+  path ← path_in text
+  use_order grammar (Parse (Picked path) input)
+
 abbrev pub order_on : Option Request → Order
-order_on (Some (Use grammar task)) = use_order grammar task
+order_on (Some (Use grammar task)) = use_order grammar (task_of task)
 order_on (Some (Fmt grammar)) = fmt grammar
 order_on (Some (Trial kind n)) = trial kind n
+order_on (Some (Query grammar input path)) = query grammar input path
 order_on None = only usage
 
 abbrev pub order_of : List (List ℕ) → Order

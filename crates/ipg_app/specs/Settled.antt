@@ -12,11 +12,14 @@ use Rattle.ipg_app.specs.declared.answering.AnswerFault.{AnswerFault}
 use Rattle.ipg_app.specs.declared.answering.AnswerFault.TheVariants as fault
 use Rattle.ipg_app.specs.Said.{Said, read_fault, too_large}
 use Rattle.ipg_app.specs.Order.{Order}
-use Rattle.ipg_app.specs.Reply.{Parses, parse_said, max_input}
+use Rattle.ipg_app.specs.Reply.{Parses, parse_said, max_input, Task, Parse, Check, Cert, Verify}
 use Rattle.ipg_app.specs.Run.{Settles, Writes}
 use Rattle.ipg_app.specs.Lines.{said_of}
 use Rattle.ipg_app.specs.declared.reply.Reply.{Reply}
-use Rattle.ipg_app.specs.declared.reply.Reply.TheVariants.{Text, Parse}
+use Rattle.ipg_app.specs.declared.reply.Reply.TheVariants as reply
+use Rattle.ipg_app.specs.declared.task.Show.{Show}
+use Rattle.ipg_app.specs.declared.task.Task as code
+use Rattle.ipg_app.specs.declared.task.Task.TheVariants as task
 use Rattle.ipg_mach.specs.declared.machine.Remember.{Remember}
 use Rattle.ipg_mach.specs.declared.machine.Remember.TheVariants as remember
 use Rattle.ipg_app_words.specs.declared.asking.Memo.{Memo}
@@ -29,23 +32,30 @@ abbrev pub remember_of : Memo → Remember
 remember_of memo.On = remember.Answers
 remember_of memo.Off = remember.Nothing
 
+-- a task, as the code has it
+abbrev pub task_seen : code.Task → Task
+task_seen (task.Parse input room show) = Parse show input.now
+task_seen task.Check = Check
+task_seen task.Cert = Cert
+task_seen (task.Verify certificate) = Verify certificate.now
+
 -- ---- what is settled
 
 -- an input that is to be parsed keeps the limit
 abbrev pub IsDue : Reply → Type 0
-IsDue (Text settled) = ⊤
-IsDue (Parse due) = length due.input.items ≤ max_input
+IsDue (reply.Text settled) = ⊤
+IsDue (reply.Parse due) = length due.input.items ≤ max_input
 
 -- this may be said of a reply
 abbrev pub MaySay : Reply → Said → Type 0
-MaySay (Text settled) said = said ≡ said_of settled
-MaySay (Parse due) said = Parses due.grammar due.input.items said
+MaySay (reply.Text settled) said = said ≡ said_of settled
+MaySay (reply.Parse due) said = Parses due.show due.grammar due.input.items said
 
 -- whatever may be said of the reply is settled
 abbrev pub IsSettled : (List ℕ → Told) → (List ℕ → ℕ) → (List ℕ → ℕ) → Order → Reply → Type 0
-IsSettled told before after order (Text settled) = Settles told before after order (said_of settled)
-IsSettled told before after order (Parse due) =
-    (length due.input.items ≤ max_input) × ((said : Said) → Parses due.grammar due.input.items said → Settles told before after order said)
+IsSettled told before after order (reply.Text settled) = Settles told before after order (said_of settled)
+IsSettled told before after order (reply.Parse due) =
+    (length due.input.items ≤ max_input) × ((said : Said) → Parses due.show due.grammar due.input.items said → Settles told before after order said)
 
 -- what is said of a file that was not read; nothing, for want of memory
 abbrev pub IsUnread : FileFault → Said → Type 0
@@ -66,10 +76,10 @@ Replies P before counted after counts s =
     ((said : Said) × P said × GoesOut said before counted after counts s) ⊎ ((s ≡ status.Memory) × (after ≡ before))
 
 -- what is said of an answer
-pub record Concludes (g : Grammar) (answer : Result Tree Stop) (before : Option Output) (counted : ℕ) (after : Option Output) (counts : ℕ)
-    (s : Status) : Type 0 where
+pub record Concludes (show : Show) (g : Grammar) (input : List ℕ) (answer : Result Tree Stop) (before : Option Output) (counted : ℕ)
+    (after : Option Output) (counts : ℕ) (s : Status) : Type 0 where
   pub said : Said
-  pub is : parse_said g answer ≡ Some said
+  pub is : parse_said show g input answer ≡ Some said
   pub goes : GoesOut said before counted after counts s
 
 abbrev pub fault_status : AnswerFault → Status

@@ -2,17 +2,23 @@
 
 ghost use Rattle.std.specs.Prelude.{◌≡◌, ◌≤◌, ◌^◌, length, IfOk, IfErr, Result};
 ghost use Rattle.ipg_core.specs.Grammar.{Grammar};
-ghost use Rattle.ipg_core.specs.Lines as tree;
+ghost use Rattle.ipg_core.specs.Lines.{lines};
 ghost use Rattle.ipg_core.specs.Meaning.{Means};
 ghost use Rattle.ipg_core.specs.Run.{Stop};
 ghost use Rattle.ipg_core.specs.Tree.{Tree};
 ghost use Rattle.ipg_mach_nodes.specs.Stored.{Source};
-ghost use Rattle.ipg_tree.specs.Shares.{IsTree};
+ghost use Rattle.ipg_query.specs.Hits.{IsTree};
+ghost use Rattle.ipg_query.specs.Picked.{picked};
 ghost use Rattle.ipg_app.specs.Answered.{Answers, Fails, PutsTree};
+ghost use Rattle.ipg_app.specs.Queried.{picks_text, shown};
 
+use crate::querying::put_hits;
+use crate::task::Show;
 use ipg_core::accepted::Checked;
 use ipg_mach::{Outcome, Parsed, Remember, parse};
 use ipg_outside::Sink;
+use ipg_query::select;
+use ipg_query_path::Query;
 use ipg_table::tables::compile;
 use ipg_tree::print;
 use linked_list_allocator::LocalHeap;
@@ -30,7 +36,7 @@ pub struct Room {
 /// What an input comes to.
 #[derive(Clone, Copy, Debug, Drop, PartialEq, Eq)]
 pub enum Given {
-    /// The lines of its tree were taken by the sink.
+    /// What is shown of its tree was taken by the sink.
     Tree,
     NoTree,
     /// A value left 64 bits.
@@ -42,7 +48,7 @@ pub enum Given {
 pub enum AnswerFault {
     /// Nothing was written.
     Memory,
-    /// The sink failed within the lines of the tree.
+    /// The sink failed within what is shown of the tree.
     Write,
 }
 
@@ -66,12 +72,12 @@ pub fn has_answer(grammar: &Checked, input: &[u8])
 }
 
 /// Writes the lines of a parsed tree.
-fn put<A: Allocator + Clone + Drop, S: Sink>(
+fn put_lines<A: Allocator + Clone + Drop, S: Sink>(
     parsed: &mut Parsed<'_, A>,
     out: &mut S,
 ) -> Result<Given, AnswerFault>
     ensures { (src : Source) (g : Grammar) (one : Tree) → IsTree parsed.old.parse src g one
-        → PutsTree result (tree.lines g one 0) (S.output out.old) (S.faults out.old) (S.output out.new) (S.faults out.new) }
+        → PutsTree result (lines g one 0) (S.output out.old) (S.faults out.old) (S.output out.new) (S.faults out.new) }
 {
     match print(parsed, out) {
         Ok(()) => Ok(Given::Tree),
@@ -79,24 +85,61 @@ fn put<A: Allocator + Clone + Drop, S: Sink>(
     }
 }
 
-/// What the grammar means on the input; the lines of a tree go into the sink, once the whole of it stands. The parse takes its
-/// memory from a heap of the size that is said; its tables lie outside of that.
+/// Writes what a path picks of a parsed tree, once all of it is picked.
+fn put_picked<A: Allocator + Clone + Drop, S: Sink>(
+    alloc: Global,
+    query: &Query,
+    parsed: &Parsed<'_, A>,
+    out: &mut S,
+) -> Result<Given, AnswerFault>
+    ensures { (src : Source) (g : Grammar) (one : Tree) → IsTree parsed.now.parse src g one
+        → PutsTree result (picks_text (picked g parsed.now.parse.input query.now one)) (S.output out.old) (S.faults out.old)
+        (S.output out.new) (S.faults out.new) }
+{
+    let hits = select(alloc, query, parsed)?;
+    match put_hits(&hits, out) {
+        Ok(()) => Ok(Given::Tree),
+        Err(_) => Err(AnswerFault::Write),
+    }
+}
+
+/// Writes what is to be shown of a parsed tree.
+fn put<A: Allocator + Clone + Drop, S: Sink>(
+    alloc: Global,
+    show: &Show,
+    parsed: &mut Parsed<'_, A>,
+    out: &mut S,
+) -> Result<Given, AnswerFault>
+    ensures { (src : Source) (g : Grammar) (one : Tree) → IsTree parsed.old.parse src g one
+        → PutsTree result (shown show.now g parsed.old.parse.input one) (S.output out.old) (S.faults out.old) (S.output out.new) (S.faults out.new) }
+{
+    match show {
+        Show::Lines => put_lines(parsed, out),
+        Show::Picked(query) => put_picked(alloc, query, parsed, out),
+    }
+}
+
+/// What the grammar means on the input; what is shown of a tree goes into the sink, once the whole of it stands. The parse takes
+/// its memory from a heap of the size that is said; its tables lie outside of that, and so does what a path picks.
 pub fn answer<S: Sink>(
     alloc: Global,
     grammar: &Checked,
     input: &[u8],
     room: Room,
+    show: &Show,
     out: &mut S,
 ) -> Result<Given, AnswerFault>
     requires { length input.now ≤ 2 ^ 30 }
-    ensures given { IfOk result (λ given. Answers grammar.now input.now given (S.output out.old) (S.faults out.old) (S.output out.new) (S.faults out.new)) }
-    ensures fault { IfErr result (λ fault. Fails grammar.now input.now fault (S.output out.old) (S.faults out.old) (S.output out.new) (S.faults out.new)) }
+    ensures given { IfOk result (λ given. Answers show.now grammar.now input.now given
+        (S.output out.old) (S.faults out.old) (S.output out.new) (S.faults out.new)) }
+    ensures fault { IfErr result (λ fault. Fails show.now grammar.now input.now fault
+        (S.output out.old) (S.faults out.old) (S.output out.new) (S.faults out.new)) }
 {
     let tables = compile(alloc, grammar)?;
     let heap = LocalHeap::new(alloc, room.mib as usize * BYTES_PER_MIB)?;
     has_answer(grammar, input);
     match parse(&heap, &tables, input, room.remember)? {
-        Outcome::Tree(mut parsed) => put(&mut parsed, out),
+        Outcome::Tree(mut parsed) => put(alloc, show, &mut parsed, out),
         Outcome::NoTree(_) => Ok(Given::NoTree),
         Outcome::Range(_) => Ok(Given::Range),
     }

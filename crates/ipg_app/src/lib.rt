@@ -10,6 +10,8 @@ pub mod laws;
 mod looping;
 mod measuring;
 mod parse;
+mod path;
+mod querying;
 mod refusal;
 mod reply;
 pub mod run;
@@ -17,6 +19,7 @@ mod said;
 mod settle;
 pub mod status;
 pub mod sure;
+mod task;
 #[cfg(test)]
 mod tests;
 mod trial;

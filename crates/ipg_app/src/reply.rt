@@ -1,21 +1,23 @@
-//! What is to be written: a text, or the tree of an input.
+//! What is to be written: a text, or what is shown of the tree of an input.
 ghost use Rattle.ipg_app.specs.Settled.{MaySay, IsDue, Replies};
 
 use crate::answering::Room;
 use crate::parse::parse;
 use crate::said::Settled;
 use crate::status::Status;
+use crate::task::Show;
 use crate::writing::say;
 use ipg_core::accepted::Checked;
 use ipg_outside::Sink;
 use std::alloc::Global;
 
-/// An input that was read, and what it is parsed by.
+/// An input that was read, what it is parsed by, and what is shown of its tree.
 #[derive(Drop)]
 pub struct Due {
     pub grammar: Checked,
     pub input: Vec<u8>,
     pub room: Room,
+    pub show: Show,
 }
 
 /// What is to be written.
@@ -25,7 +27,7 @@ pub enum Reply {
     Parse(Due),
 }
 
-/// Writes a reply: a text, or the tree of an input.
+/// Writes a reply: a text, or what is shown of the tree of an input.
 pub fn put_reply<S: Sink>(alloc: Global, reply: &Reply, out: &mut S) -> Status
     requires { IsDue reply.now }
     ensures { Replies (MaySay reply.now) (S.output out.old) (S.faults out.old) (S.output out.new) (S.faults out.new) result }

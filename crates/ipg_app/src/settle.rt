@@ -5,22 +5,24 @@ ghost use Rattle.ipg_ast.specs.Shape.{IsFlat};
 ghost use Rattle.ipg_names.specs.Readable.{IsReadable};
 ghost use Rattle.ipg_formats.specs.Text.{text_of};
 ghost use Rattle.ipg_app.specs.CoreOf.{CoreOf};
-ghost use Rattle.ipg_app.specs.Reply.{grammar_of, core_of, formatted, parse_input, parse, verify, fmt, use_order, order_by, order_of};
+ghost use Rattle.ipg_app.specs.Reply.{grammar_of, core_of, formatted, parse_input, parse, verify, fmt, query, use_order, order_by, order_of, task_of};
 ghost use Rattle.ipg_app.specs.Run.{Settles};
-ghost use Rattle.ipg_app_words.specs.Seen.{task_seen};
+ghost use Rattle.ipg_app_words.specs.Seen as words;
 ghost use Rattle.ipg_app.specs.Found.{Found, FoundCore, Says, grammar_in_file, core_in_file, silence};
 ghost use Rattle.ipg_app.specs.Lines.{said_of};
-ghost use Rattle.ipg_app.specs.Settled.{IsSettled, IsUnread, remember_of};
+ghost use Rattle.ipg_app.specs.Settled.{IsSettled, IsUnread, remember_of, task_seen};
 
 use crate::answering::Room;
 use crate::checks::{accepted, say_cert, say_check};
 use crate::core_of::{core_in_text, core_of};
 use crate::formatting::format;
 use crate::grammar::grammar_in;
+use crate::path::path_in;
 use crate::refusal::refusal;
 use crate::reply::{Due, Reply};
 use crate::said::{Settled, line, usage};
 use crate::status::Status;
+use crate::task::{Show, Task};
 use crate::trial::trial;
 use crate::verifying::judge;
 use ipg_app_words::{Asked, Memo, Wanted, request};
@@ -36,22 +38,76 @@ const MAX_TEXT: u64 = 1 << 20;
 
 const MAX_INPUT: u64 = 1 << 30;
 
+const QUERY_ROOM: Room = Room {
+    remember: Remember::Answers,
+    mib: 512,
+};
+
 /// Answers in order: to the words, to the grammar, and then what the grammar is wanted for.
 pub fn settle<F: Files>(alloc: Global, words: &[String], files: &mut F) -> Result<Reply, AllocError>
     ensures { IfOk result (IsSettled (F.told files.old) (F.faults files.old) (F.faults files.new) (order_of (map string_bytes words.now))) }
 {
     match request(alloc, words)? {
-        Some(Asked::Use { grammar, task }) => settle_use(alloc, grammar, task, files),
+        Some(Asked::Use { grammar, task }) => settle_use(alloc, grammar, task_of(task), files),
+        Some(
+            Asked::Query {
+                grammar,
+                input,
+                path,
+            },
+        ) => settle_query(alloc, grammar, input, path, files),
         Some(Asked::Fmt { grammar }) => Ok(Reply::Text(settle_fmt(alloc, grammar, files)?)),
         Some(Asked::Trial { kind, count }) => Ok(Reply::Text(trial(alloc, kind, count)?)),
         None => Ok(Reply::Text(usage(alloc)?)),
     }
 }
 
+/// What the words want of a core grammar.
+fn task_of(task: Wanted<'_>) -> Task<'_>
+    ensures { task_seen result ≡ task_of (words.task_seen task.entry) }
+{
+    match task {
+        Wanted::Parse { input, memo, mib } => Task::Parse {
+            input,
+            room: Room {
+                remember: remember(memo),
+                mib,
+            },
+            show: Show::Lines,
+        },
+        Wanted::Check => Task::Check,
+        Wanted::Cert => Task::Cert,
+        Wanted::Verify { certificate } => Task::Verify { certificate },
+    }
+}
+
+/// The path is read before the grammar.
+fn settle_query<F: Files>(
+    alloc: Global,
+    grammar: &str,
+    input: &str,
+    path: &str,
+    files: &mut F,
+) -> Result<Reply, AllocError>
+    ensures { IfOk result (IsSettled (F.told files.old) (F.faults files.old) (F.faults files.new) (query grammar.now input.now path.now)) }
+{
+    match path_in(alloc, path)? {
+        Ok(path) => {
+            let task = Task::Parse {
+                input,
+                room: QUERY_ROOM,
+                show: Show::Picked(path),
+            };
+            settle_use(alloc, grammar, task, files)
+        }
+        Err(settled) => Ok(Reply::Text(settled)),
+    }
+}
+
 fn settle_use<F: Files>(
     alloc: Global,
     grammar: &str,
-    task: Wanted<'_>,
+    task: Task<'_>,
     files: &mut F,
 ) -> Result<Reply, AllocError>
     ensures { IfOk result (IsSettled (F.told files.old) (F.faults files.old) (F.faults files.new) (use_order grammar.now (task_seen task.entry))) }
@@ -65,7 +121,7 @@ fn settle_use<F: Files>(
 fn use_built_in<F: Files>(
     alloc: Global,
     kind: Kind,
-    task: Wanted<'_>,
+    task: Task<'_>,
     files: &mut F,
 ) -> Result<Reply, AllocError>
     ensures { IfOk result (IsSettled (F.told files.old) (F.faults files.old) (F.faults files.new) (core_of (text_of kind) (order_by (task_seen task.entry)))) }
@@ -79,7 +135,7 @@ fn use_built_in<F: Files>(
 fn use_file<F: Files>(
     alloc: Global,
     name: &str,
-    task: Wanted<'_>,
+    task: Task<'_>,
     files: &mut F,
 ) -> Result<Reply, AllocError>
     ensures { IfOk result (IsSettled (F.told files.old) (F.faults files.old) (F.faults files.new) (core_in_file name.now (order_by (task_seen task.entry)))) }
@@ -159,22 +215,16 @@ fn grammar_in_file<F: Files>(
 fn settle_task<F: Files>(
     alloc: Global,
     core: Core,
-    task: Wanted<'_>,
+    task: Task<'_>,
     files: &mut F,
 ) -> Result<Reply, AllocError>
     ensures { IfOk result (IsSettled (F.told files.old) (F.faults files.old) (F.faults files.new) (order_by (task_seen task.entry) core)) }
 {
     match task {
-        Wanted::Parse { input, memo, mib } => {
-            let room = Room {
-                remember: remember(memo),
-                mib,
-            };
-            parse_by(alloc, core, input, room, files)
-        }
-        Wanted::Check => Ok(Reply::Text(say_check(alloc, core)?)),
-        Wanted::Cert => Ok(Reply::Text(say_cert(alloc, core)?)),
-        Wanted::Verify { certificate } => {
+        Task::Parse { input, room, show } => parse_by(alloc, core, input, room, show, files),
+        Task::Check => Ok(Reply::Text(say_check(alloc, core)?)),
+        Task::Cert => Ok(Reply::Text(say_cert(alloc, core)?)),
+        Task::Verify { certificate } => {
             Ok(Reply::Text(verify_by(alloc, core, certificate, files)?))
         }
     }
@@ -194,12 +244,13 @@ fn parse_by<F: Files>(
     core: Core,
     input: &str,
     room: Room,
+    show: Show,
     files: &mut F,
 ) -> Result<Reply, AllocError>
-    ensures { IfOk result (IsSettled (F.told files.old) (F.faults files.old) (F.faults files.new) (parse input.now core)) }
+    ensures { IfOk result (IsSettled (F.told files.old) (F.faults files.old) (F.faults files.new) (parse show input.now core)) }
 {
     match accepted(alloc, core)? {
-        Ok((checked, _)) => parse_input(alloc, checked, input, room, files),
+        Ok((checked, _)) => parse_input(alloc, checked, input, room, show, files),
         Err(settled) => Ok(Reply::Text(settled)),
     }
 }
@@ -209,15 +260,17 @@ fn parse_input<F: Files>(
     grammar: Checked,
     input: &str,
     room: Room,
+    show: Show,
     files: &mut F,
 ) -> Result<Reply, AllocError>
-    ensures { IfOk result (IsSettled (F.told files.old) (F.faults files.old) (F.faults files.new) (parse_input input.now grammar)) }
+    ensures { IfOk result (IsSettled (F.told files.old) (F.faults files.old) (F.faults files.new) (parse_input show input.now grammar)) }
 {
     match files.read_all(alloc, input, MAX_INPUT) {
         Ok(input) => Ok(Reply::Parse(Due {
             grammar,
             input,
             room,
+            show,
         })),
         Err(fault) => Ok(Reply::Text(unread(alloc, fault)?)),
     }

@@ -28,6 +28,9 @@ cert = on_grammar (codes "cert")
 abbrev pub verify : App
 verify = with_rule (on_grammar (codes "verify")) (required (codes "CERT"))
 
+abbrev pub query : App
+query = with_rule (with_rule (on_grammar (codes "query")) (required (codes "FILE"))) (required (codes "PATH"))
+
 abbrev pub trial : App
 trial = with_rule (with_rule (new_app (codes "trial")) (required (codes "KIND"))) (required (codes "N"))
 

@@ -23,6 +23,7 @@ pub data Request : Type 0 where
   Use : (grammar : Text) → Task → Request
   Fmt : (grammar : Text) → Request
   Trial : (kind : Text) (count : ℕ) → Request
+  Query : (grammar input path : Text) → Request
 
 abbrev pub parse_task : List Row → Option Task
 parse_task rows = do
@@ -54,6 +55,13 @@ trial_by rows = do
   count ← count_in text
   Some (Trial kind count)
 
+abbrev pub query_by : List Row → Option Request
+query_by rows = do
+  grammar ← first_of (codes "G") rows
+  input ← first_of (codes "FILE") rows
+  path ← first_of (codes "PATH") rows
+  Some (Query grammar input path)
+
 -- the command, where it takes the words, and what it wants the grammar for
 abbrev pub use_words : App → (List Row → Option Task) → List Text → Option Request
 use_words command task words = do
@@ -70,6 +78,11 @@ trial_words words = do
   rows ← taken command.trial words
   trial_by rows
 
+abbrev pub query_words : List Text → Option Request
+query_words words = do
+  rows ← taken command.query words
+  query_by rows
+
 -- the words from the command's name on
 abbrev pub request_by : Text → List Text → Option Request
 request_by name words = if bytes_eq name (codes "parse") then use_words command.parse parse_task words
@@ -78,7 +91,8 @@ request_by name words = if bytes_eq name (codes "parse") then use_words command.
     else (if bytes_eq name (codes "verify") then use_words command.verify verify_task words
     else (if bytes_eq name (codes "fmt") then fmt_words words
     else (if bytes_eq name (codes "trial") then trial_words words
-    else None)))))
+    else (if bytes_eq name (codes "query") then query_words words
+    else None))))))
 
 -- nothing where the words are no command's
 abbrev pub request_of : List Text → Option Request

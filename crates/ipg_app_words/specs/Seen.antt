@@ -1,6 +1,6 @@
 -- What the words ask for, as the code has it.
 use Rattle.std.specs.Prelude.{ℕ, List, Bool, not, ◌==◌, ◌&&◌, slice_index}
-use Rattle.ipg_app_words.specs.Request.{Task, Parse, Check, Cert, Verify, Request, Use, Fmt, Trial}
+use Rattle.ipg_app_words.specs.Request.{Task, Parse, Check, Cert, Verify, Request, Use, Fmt, Trial, Query}
 use Rattle.ipg_app_words.specs.declared.asking.Asked.{Asked}
 use Rattle.ipg_app_words.specs.declared.asking.Asked.TheVariants as asked
 use Rattle.ipg_app_words.specs.declared.asking.Wanted.{Wanted}
@@ -16,6 +16,7 @@ abbrev pub seen : Asked → Request
 seen (asked.Use grammar task) = Use grammar.now (task_seen task)
 seen (asked.Fmt grammar) = Fmt grammar.now
 seen (asked.Trial kind count) = Trial kind.now count
+seen (asked.Query grammar input path) = Query grammar.now input.now path.now
 
 -- neither `0` nor `+` stands first
 abbrev pub is_plain_first : List ℕ → Bool

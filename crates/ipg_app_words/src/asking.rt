@@ -24,8 +24,22 @@ pub enum Wanted<'a> {
 /// A command, with the name of its grammar or format.
 #[derive(Clone, Copy)]
 pub enum Asked<'a> {
-    Use { grammar: &'a str, task: Wanted<'a> },
-    Fmt { grammar: &'a str },
+    Use {
+        grammar: &'a str,
+        task: Wanted<'a>,
+    },
+    Fmt {
+        grammar: &'a str,
+    },
     /// A built-in grammar on a sample with so many parts.
-    Trial { kind: &'a str, count: u32 },
+    Trial {
+        kind: &'a str,
+        count: u32,
+    },
+    /// What a path picks of the tree of an input.
+    Query {
+        grammar: &'a str,
+        input: &'a str,
+        path: &'a str,
+    },
 }

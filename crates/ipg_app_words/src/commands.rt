@@ -38,6 +38,14 @@ pub fn parse<'a>(alloc: Global) -> Result<Command<'a>, AllocError>
         .arg(option(alloc, "arena"))
 }
 
+pub fn query<'a>(alloc: Global) -> Result<Command<'a>, AllocError>
+    ensures { IfOk result (λ command. app_of command ≡ spec.query) }
+{
+    on_grammar(alloc, "query")?
+        .arg(required(alloc, "FILE"))?
+        .arg(required(alloc, "PATH"))
+}
+
 pub fn trial<'a>(alloc: Global) -> Result<Command<'a>, AllocError>
     ensures { IfOk result (λ command. app_of command ≡ spec.trial) }
 {

@@ -8,7 +8,7 @@ ghost use Rattle.ipg_app_words.specs.Request.{request_of, request_by, parse_task
 ghost use Rattle.ipg_app_words.specs.Seen.{seen, task_seen};
 
 use crate::asking::{Asked, Wanted};
-use crate::commands::{on_grammar, parse, trial, verify};
+use crate::commands::{on_grammar, parse, query, trial, verify};
 use crate::matching::{taken, value};
 use crate::settings::{count, memo, mib};
 use clap::ArgMatches;
@@ -38,6 +38,7 @@ fn request_by<'a>(
         "verify" => verify_request(alloc, words),
         "fmt" => fmt_request(alloc, words),
         "trial" => trial_request(alloc, words),
+        "query" => query_request(alloc, words),
         _ => Ok(None),
     }
 }
@@ -94,6 +95,15 @@ fn trial_request<'a>(alloc: Global, words: &'a [String]) -> Result<Option<Asked<
     }
 }
 
+fn query_request<'a>(alloc: Global, words: &'a [String]) -> Result<Option<Asked<'a>>, AllocError>
+    ensures { IfOk result (λ asked. option_map seen asked ≡ spec.query_words (map string_bytes words.now)) }
+{
+    match taken(query(alloc)?, words)? {
+        Some(matches) => Ok(query_of(&matches)),
+        None => Ok(None),
+    }
+}
+
 fn use_of<'a>(matches: &ArgMatches<'a>, task: Option<Wanted<'a>>) -> Option<Asked<'a>>
     ensures { option_map seen result ≡ spec.use_by (rows_of (found_of matches.now)) (option_map task_seen task.entry) }
 {
@@ -115,6 +125,16 @@ fn trial_of<'a>(matches: &ArgMatches<'a>) -> Option<Asked<'a>>
     let kind = value(matches, "KIND")?;
     let count = count(value(matches, "N")?)?;
     Some(Asked::Trial { kind, count })
+}
+
+fn query_of<'a>(matches: &ArgMatches<'a>) -> Option<Asked<'a>>
+    ensures { option_map seen result ≡ spec.query_by (rows_of (found_of matches.now)) }
+{
+    Some(Asked::Query {
+        grammar: value(matches, "G")?,
+        input: value(matches, "FILE")?,
+        path: value(matches, "PATH")?,
+    })
 }
 
 fn parse_wanted<'a>(matches: &ArgMatches<'a>) -> Option<Wanted<'a>>

@@ -49,18 +49,19 @@ fn push_named<A: Allocator + Clone + Drop>(
     Ok(())
 }
 
-/// The children of a spot whose symbol has this name.
+/// The children of a spot whose symbol has this name. In `room` any spots may stand, before and after.
 fn named<A: Allocator + Clone + Drop>(
     alloc: Global,
     p: &Parsed<'_, A>,
-    spot: Spot,
+    room: &mut Vec<Spot>,
     name: &[u8],
+    spot: Spot,
 ) -> Result<Vec<Spot>, AllocError>
     ensures { (src : Source) (g : Grammar) (x : Found) → StandFor p.now.parse.tables g → IsSpot src p.now.parse.store spot x
         → IfOk result (λ spots. AreSpots src p.now.parse.store spots.items (named g name.now x)) }
 {
     let mut spots = Vec::new(alloc);
-    push_each_named(alloc, p, &mut spots, name, spot)?;
+    push_each_named(p, &mut spots, room, name, spot)?;
     Ok(spots)
 }
 
@@ -80,6 +81,7 @@ fn push_step<A: Allocator + Clone + Drop>(
     alloc: Global,
     p: &Parsed<'_, A>,
     spots: &mut Vec<Spot>,
+    room: &mut Vec<Spot>,
     step: &Step,
     spot: Spot,
 ) -> Result<(), AllocError>
@@ -88,17 +90,20 @@ fn push_step<A: Allocator + Clone + Drop>(
         → OnOk result (AreSpots src p.now.parse.store spots.new.items (before ++ stepped g step.now x)) }
 {
     match step {
-        Step::Named(name) => push_each_named(alloc, p, spots, name.as_slice(), spot),
-        Step::Nth(name, nth) => push_only(spots, &named(alloc, p, spot, name.as_slice())?, *nth),
+        Step::Named(name) => push_each_named(p, spots, room, name.as_slice(), spot),
+        Step::Nth(name, nth) => {
+            push_only(spots, &named(alloc, p, room, name.as_slice(), spot)?, *nth)
+        }
         Step::Children => push_below(p, spots, spot),
         Step::All => push_all(alloc, p, spots, spot),
     }
 }
 
+/// Puts the children of a spot behind the others whose symbol has this name; all of its children stand in `room` meanwhile.
 fn push_each_named<A: Allocator + Clone + Drop>(
-    alloc: Global,
     p: &Parsed<'_, A>,
     spots: &mut Vec<Spot>,
+    room: &mut Vec<Spot>,
     name: &[u8],
     spot: Spot,
 ) -> Result<(), AllocError>
@@ -106,9 +111,9 @@ fn push_each_named<A: Allocator + Clone + Drop>(
         → AreSpots src p.now.parse.store spots.old.items before
         → OnOk result (AreSpots src p.now.parse.store spots.new.items (before ++ named g name.now x)) }
 {
-    let mut below = Vec::new(alloc);
-    push_below(p, &mut below, spot)?;
-    push_named(p, spots, &below, name)
+    room.clear();
+    push_below(p, room, spot)?;
+    push_named(p, spots, room, name)
 }
 
 /// What a step takes of each spot.
@@ -122,8 +127,9 @@ pub fn stepped<A: Allocator + Clone + Drop>(
         → IfOk result (λ spots. AreSpots src p.now.parse.store spots.items (flat_map (stepped g step.now) xs)) }
 {
     let mut spots = Vec::new(alloc);
+    let mut room = Vec::new(alloc);
     for spot in from {
-        push_step(alloc, p, &mut spots, step, *spot)?;
+        push_step(alloc, p, &mut spots, &mut room, step, *spot)?;
     }
     Ok(spots)
 }

@@ -4,10 +4,12 @@
 mod leaf;
 mod line;
 mod names;
+mod parts;
 mod printing;
 mod tail;
 #[cfg(test)]
 mod tests;
 mod words;
 
+pub use parts::{print_part, print_value};
 pub use printing::{lines, print};

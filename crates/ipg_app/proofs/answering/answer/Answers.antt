@@ -1,7 +1,7 @@
 use Rattle.std.proofs.Common.{subst}
 use Rattle.ipg_mach.specs.Outcome.{IsOutcome}
 use Rattle.ipg_mach.specs.Stage.{source}
-use Rattle.ipg_app.proofs.Meant.{printable, given_of, fault_of}
+use Rattle.ipg_app.proofs.Meant.{showable, given_of, fault_of}
 use Rattle.ipg_app.proofs.answering.answer.Goals as goal
 
 pub returns-in-Tree-clause-given : goal.returns-in-Tree-clause-given
@@ -12,8 +12,9 @@ returns-in-Tree-clause-given g c =
     let meant = c.has_answer.ensures in
     let all = c.in_ok-parsed.ensures grammar meant.0 c.in_ok-tables.ensures meant.1 in
     let is = subst (λ w. IsOutcome t input w meant.0 all.0) c.in-Tree.is all.2 in
-    let tree = printable t grammar input c.in-Tree.parsed is.0 c.in_ok-tables.ensures is.2 in
-    given_of grammar input meant.0 meant.1 is.0 is.1 _ _ _ _ c.put.result (c.put.ensures (source t input) grammar is.0 tree)
+    let tree = showable t grammar input c.in-Tree.parsed is.0 c.in_ok-tables.ensures c.requires is.2 in
+    given_of c.args.show.now grammar input meant.0 meant.1 is.0 is.1 _ _ _ _ c.in-Tree.parsed.parse.input c.put.result is.2.bytes
+    (c.put.ensures (source t input) grammar is.0 tree)
 
 pub returns-in-Tree-clause-fault : goal.returns-in-Tree-clause-fault
 returns-in-Tree-clause-fault g c =
@@ -23,5 +24,6 @@ returns-in-Tree-clause-fault g c =
     let meant = c.has_answer.ensures in
     let all = c.in_ok-parsed.ensures grammar meant.0 c.in_ok-tables.ensures meant.1 in
     let is = subst (λ w. IsOutcome t input w meant.0 all.0) c.in-Tree.is all.2 in
-    let tree = printable t grammar input c.in-Tree.parsed is.0 c.in_ok-tables.ensures is.2 in
-    fault_of grammar input meant.0 meant.1 is.0 is.1 _ _ _ _ c.put.result (c.put.ensures (source t input) grammar is.0 tree)
+    let tree = showable t grammar input c.in-Tree.parsed is.0 c.in_ok-tables.ensures c.requires is.2 in
+    fault_of c.args.show.now grammar input meant.0 meant.1 is.0 is.1 _ _ _ _ c.in-Tree.parsed.parse.input c.put.result is.2.bytes
+    (c.put.ensures (source t input) grammar is.0 tree)

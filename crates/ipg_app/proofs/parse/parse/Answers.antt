@@ -5,4 +5,4 @@ pub returns-in-Err : goal.returns-in-Err
 returns-in-Err g c =
     let grammar = c.args.due.now.grammar in
     let input = c.args.due.now.input.items in
-    failed grammar input c.in-Err.fault _ _ _ _ c.status_of.result c.status_of.ensures (rw c.deref.ensures.value at c.in-Err.ensures.fault)
+    failed c.args.due.now.show grammar input c.in-Err.fault _ _ _ _ c.status_of.result c.status_of.ensures (rw c.deref.ensures.value at c.in-Err.ensures.fault)

@@ -13,10 +13,10 @@ returns-in-Ok g c =
     let before = g.F.Files.faults c.args.files.now in
     let after = g.F.Files.faults c.read_all.new.self in
     let name = c.args.input.now in
-    let grammar = c.args.grammar in
+    let parses = Parses c.args.show c.args.grammar in
     let bytes = c.in-Ok.input.items in
     let whole : ReadWhole (told name) (2 ^ 30) bytes = c.in-Ok.ensures.whole in
-    (whole.within, λ said parses. read_on told before after name (λ input. says (Parses grammar input)) said bytes whole.contents whole.within parses)
+    (whole.within, λ said h. read_on told before after name (λ input. says (parses input)) said bytes whole.contents whole.within h)
 
 pub returns-in_ok-unread-in-Err : goal.returns-in_ok-unread-in-Err
 returns-in_ok-unread-in-Err g c =
@@ -24,7 +24,7 @@ returns-in_ok-unread-in-Err g c =
     let before = g.F.Files.faults c.args.files.now in
     let after = g.F.Files.faults c.read_all.new.self in
     let name = c.args.input.now in
-    let grammar = c.args.grammar in
+    let parses = Parses c.args.show c.args.grammar in
     let settled = c.in_ok-unread-in-Err.field-0 in
-    unread_on told before after name (λ input. says (Parses grammar input)) c.in-Err.fault (said_of settled) c.in-Err.ensures.cut c.in-Err.ensures.failed
+    unread_on told before after name (λ input. says (parses input)) c.in-Err.fault (said_of settled) c.in-Err.ensures.cut c.in-Err.ensures.failed
     c.in_ok-unread-in-Err.ensures

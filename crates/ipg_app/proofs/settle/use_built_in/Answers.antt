@@ -1,10 +1,9 @@
 use Rattle.std.proofs.Common.{Ok}
 use Rattle.std.proofs.lemmas.Result.{IfOk-weaker}
 use Rattle.ipg_formats.specs.Text.{text_of}
-use Rattle.ipg_app_words.specs.Seen.{task_seen}
 use Rattle.ipg_app.specs.CoreOf.{CoreOf}
 use Rattle.ipg_app.specs.Reply.{core_of, order_by}
-use Rattle.ipg_app.specs.Settled.{IsSettled}
+use Rattle.ipg_app.specs.Settled.{IsSettled, task_seen}
 use Rattle.ipg_app.proofs.Settling.{core_goes_on}
 use Rattle.ipg_app.proofs.Replying.{settled_on}
 use Rattle.ipg_app.proofs.settle.use_built_in.Goals as goal

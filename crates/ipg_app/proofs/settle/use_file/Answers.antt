@@ -1,10 +1,9 @@
 use Rattle.std.proofs.lemmas.Result.{IfOk-weaker}
 use Rattle.ipg_app.specs.Reply.{order_by}
 use Rattle.ipg_app.specs.Run.{Settles}
-use Rattle.ipg_app_words.specs.Seen.{task_seen}
 use Rattle.ipg_app.specs.Found.{FoundCore, core_in_file, silence}
 use Rattle.ipg_app.specs.Lines.{said_of}
-use Rattle.ipg_app.specs.Settled.{IsSettled}
+use Rattle.ipg_app.specs.Settled.{IsSettled, task_seen}
 use Rattle.ipg_app.proofs.Settling.{core_on, no_core_on, settles_then}
 use Rattle.ipg_app.proofs.Replying.{settled_on}
 use Rattle.ipg_app.proofs.settle.use_file.Goals as goal

@@ -8,4 +8,4 @@ pub returns : goal.returns
 returns g c src grammar x before stand is made =
     let st = c.args.p.now.parse.store in
     c.push_named.ensures src grammar (below x) before stand
-    (rw c.deref.ensures.value (c.in_ok-push_below.ensures src x [] is (nothing (IsSpot src st) c.new-below.result.items c.new-below.ensures.items))) made
+    (rw c.deref.ensures.value (c.in_ok-push_below.ensures src x [] is (nothing (IsSpot src st) c.clear.new.self.items c.clear.ensures.items))) made

@@ -1,0 +1,31 @@
+//! The path of a text.
+ghost use Rattle.std.specs.Prelude.{◌≡◌, Ok, Err, IfOk, MatchResult};
+ghost use Rattle.ipg_app.specs.Lines.{said_of};
+ghost use Rattle.ipg_app.specs.Path.{ReadsPath, query_syntax};
+
+use crate::said::{Settled, line};
+use crate::status::Status;
+use ipg_query_path::{Query, QueryFault, read};
+use itoa::Buffer;
+use std::alloc::{AllocError, Global};
+
+/// The line that refuses a text that is no path, Q1.
+fn syntax(alloc: Global, at: u64) -> Result<Settled, AllocError>
+    ensures { IfOk result (λ settled. said_of settled ≡ query_syntax at) }
+{
+    let mut buffer = Buffer::new();
+    let mut told = Vec::from_slice(alloc, b"refused Q1 QuerySyntax ")?;
+    told.extend_from_slice(buffer.format(at).as_bytes())?;
+    line(alloc, Status::Refused, &told)
+}
+
+/// The path that a text is, or what is said of one that is none.
+pub fn path_in(alloc: Global, text: &str) -> Result<Result<Query, Settled>, AllocError>
+    ensures { IfOk result (λ made. MatchResult made (λ query. ReadsPath text.now (Ok query)) (λ settled. ReadsPath text.now (Err (said_of settled)))) }
+{
+    match read(alloc, text.as_bytes()) {
+        Ok(query) => Ok(Ok(query)),
+        Err(QueryFault::QuerySyntax { at }) => Ok(Err(syntax(alloc, at)?)),
+        Err(QueryFault::Memory) => Err(AllocError),
+    }
+}

@@ -1,0 +1,29 @@
+//! What is done with a core grammar.
+
+use crate::answering::Room;
+use ipg_query_path::Query;
+
+/// What is shown of a tree.
+#[derive(Debug, Drop)]
+pub enum Show {
+    /// Its lines.
+    Lines,
+    /// What a path picks of it.
+    Picked(Query),
+}
+
+/// What is done with a core grammar.
+#[derive(Drop)]
+pub enum Task<'a> {
+    /// An input is parsed by it.
+    Parse {
+        input: &'a str,
+        room: Room,
+        show: Show,
+    },
+    Check,
+    Cert,
+    Verify {
+        certificate: &'a str,
+    },
+}
