@@ -9,3 +9,4 @@ pub mod OneParse
 pub mod Meant
 pub mod Hits
 pub mod Verified
+pub mod OneReply

@@ -1,11 +1,13 @@
 -- What holds of core grammars and refusals.
-use Rattle.std.specs.Prelude.{◌≡◌, ◌≢◌, ◌≤◌, ℕ, List, length}
+use Rattle.std.specs.Prelude.{◌≡◌, ◌≢◌, ◌≤◌, ℕ, List, length, Option, Some, None}
 use Rattle.ipg_outside.specs.Files.{Told, untold, holds}
 use Rattle.ipg_core.specs.Grammar.{Grammar}
+use Rattle.ipg_app_words.specs.Request as words
+use Rattle.ipg_app_words.specs.Request.{Request, Use, Fmt, Trial, Query, request_of}
 use Rattle.ipg_app.specs.Said.{Said, done}
 use Rattle.ipg_app.specs.Order.{Answers}
 use Rattle.ipg_app.specs.declared.task.Show.{Show}
-use Rattle.ipg_app.specs.Reply.{use_order, Check, verify, max_input, Parses}
+use Rattle.ipg_app.specs.Reply.{use_order, order_of, Check, verify, max_input, Parses}
 use Rattle.ipg_app.specs.Certificate.{Certifies, verified}
 use Rattle.ipg_app.specs.CoreOf.{Answer, CoreOf}
 use Rattle.ipg_app.specs.Checks.{Checks}
@@ -31,3 +33,19 @@ OneVerdict = (told : List ℕ → Told) (name : List ℕ) (one other : Said) →
 abbrev pub CertIsVerified : Type 0
 CertIsVerified = (g : Grammar) (text : List ℕ) → Certifies g (done text) → length text ≤ max_input
     → (told : List ℕ → Told) (name : List ℕ) (said : Said) → told name ≡ holds text → Answers told (verify name g) said → said ≡ verified
+
+-- `cert` may write the text of any certificate that proves the grammar, and of a trial no such law is known
+abbrev pub HasOneReply : Option Request → Type 0
+HasOneReply None = Unit {0}
+HasOneReply (Some (Use grammar (words.Parse input memo mib))) = Unit {0}
+HasOneReply (Some (Use grammar words.Check)) = Unit {0}
+HasOneReply (Some (Use grammar words.Cert)) = ⊥
+HasOneReply (Some (Use grammar (words.Verify certificate))) = Unit {0}
+HasOneReply (Some (Fmt grammar)) = Unit {0}
+HasOneReply (Some (Trial kind n)) = ⊥
+HasOneReply (Some (Query grammar input path)) = Unit {0}
+
+-- to other words the program says one thing, where something is told of each file
+abbrev pub OneReply : Type 0
+OneReply = (told : List ℕ → Told) (words : List (List ℕ)) (one other : Said) → ((name : List ℕ) → told name ≢ untold) → HasOneReply (request_of words)
+    → Answers told (order_of words) one → Answers told (order_of words) other → one ≡ other

@@ -1,9 +1,11 @@
 //! What holds of core grammars, the contract of a function that does nothing.
 
-ghost use Rattle.ipg_app.specs.Laws.{CertIsVerified, OneCore, OneCheck, OneParse, OneVerdict};
+ghost use Rattle.ipg_app.specs.Laws.{CertIsVerified, OneCore, OneCheck, OneParse, OneReply, OneVerdict};
 
 use ipg_core::laws::heights_agree;
 use ipg_order::laws::{good_is_not_stuck, orders_once, stuck_once};
+use ipg_proof::laws::{fault_is_one, proves_is_no_fault};
+use ipg_query_path::laws::one_path;
 use ipg_term::laws::{loops_arent_accepted, one_loops};
 use ipg_touch::laws::one_limit;
 
@@ -45,4 +47,17 @@ pub fn cert_is_verified()
     ensures { CertIsVerified }
 {
     one_limit();
+}
+
+/// To words that ask for no certificate and no trial, and files of each of which something is told, the program says one
+/// thing: one status and one text.
+pub fn one_reply()
+    ensures { OneReply }
+{
+    one_core();
+    one_check();
+    one_parse();
+    one_path();
+    proves_is_no_fault();
+    fault_is_one();
 }

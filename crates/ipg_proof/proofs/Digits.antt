@@ -61,7 +61,7 @@ goes_digit (suc v) n b rest few small e = record {
   least = subst (λ k. suc v * 10 + k ≤ n) (digit_is b (digit_in (suc v) n b rest small e)) (grown (suc v) b n rest few small e);
 }
 
-no_digit : (stop : ℕ) → stop < 48 → IsDigit stop → ⊥
+pub no_digit : (stop : ℕ) → stop < 48 → IsDigit stop → ⊥
 no_digit stop h d = let s : ⊥ = omega (arith, h, d.0) in s
 
 -- behind the digits of v stands the end, or a digit that leads to n

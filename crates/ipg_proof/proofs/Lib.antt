@@ -14,3 +14,4 @@ pub mod Alive
 pub mod Shapes
 pub mod Speaks
 mod Once
+mod OneText

@@ -1,7 +1,7 @@
 //! What a certificate is worth, and which cycles it needn't speak of: laws, each the contract of a function that calls only the laws it stands on.
 
 ghost use Rattle.ipg_proof.specs.Cycles.{LiveCyclesAreCycles, LoopsAreLive};
-ghost use Rattle.ipg_proof.specs.Once.{FaultIsOne, ProvesIsNoFault};
+ghost use Rattle.ipg_proof.specs.Once.{FaultIsOne, ProvesIsNoFault, TextIsOfOne};
 ghost use Rattle.ipg_proof.specs.Speaks.{ProvesIsSpeakable};
 ghost use Rattle.ipg_proof.specs.Wider.{AcceptedStays};
 ghost use Rattle.ipg_proof.specs.Worth.{AcceptsIsTotal, ProvesIsAccepted, ProvesIsTotal};
@@ -60,6 +60,11 @@ pub fn fault_is_one()
 {
     one_limit();
 }
+
+/// A text is of one certificate at most.
+pub fn text_is_of_one()
+    ensures { TextIsOfOne }
+{}
 
 /// A certificate in memory that proves a good grammar is one that texts can say.
 pub fn proves_is_speakable()

@@ -3,3 +3,5 @@ pub mod Paths
 -- what functions inside the crate promise each other
 pub mod Reader
 pub mod Reading
+-- laws
+pub mod Laws

@@ -1,6 +1,7 @@
 //! Paths over a tree, and how they are read.
 #![tactic(auto)]
 
+pub mod laws;
 mod path;
 mod pos;
 mod reading;

@@ -1,0 +1,207 @@
+-- For words, and files of which something is told, the program says one thing.
+use Rattle.std.proofs.Common.{◌≡◌, ◌≢◌, ℕ, suc, zero, ◌+◌, ◌<◌, ◌≤◌, ◌⊎◌, inl, inr, List, [], ◌∷◌, ◌++◌, take, drop, Result, Ok, Err, Option, Some, None}
+use Rattle.std.proofs.Common.{refl, sym, ap, ◌∙◌, subst, arith, append_assoc}
+use Rattle.ipg_core.specs.Grammar.{Grammar}
+use Rattle.ipg_formats.specs.declared.Kind.{Kind}
+use Rattle.ipg_formats.specs.Names.{kind_of}
+use Rattle.ipg_formats.specs.Text.{text_of}
+use Rattle.ipg_outside.specs.Files.{Told, untold, absent, holds, MayHold}
+use Rattle.ipg_proof.specs.declared.certificate.Certificate.{Certificate}
+use Rattle.ipg_proof.specs.declared.fault.ProofWhy.{ProofWhy}
+use Rattle.ipg_proof.specs.declared.fault.ProofWhy.TheVariants.{Memory}
+use Rattle.ipg_proof.specs.Once.{ProvesIsNoFault, FaultIsOne}
+use Rattle.ipg_proof.specs.Texts as cert
+use Rattle.ipg_proof.specs.Texts.{IsTextFault}
+use Rattle.ipg_query_path.specs.declared.path.Query as paths
+use Rattle.ipg_query_path.specs.Laws.{OnePath}
+use Rattle.ipg_query_path.specs.Paths.{IsPath, IsFirstFault}
+use Rattle.ipg_app_words.specs.Request as words
+use Rattle.ipg_app_words.specs.Request.{Request, Use, Fmt, Trial, Query, request_of}
+use Rattle.ipg_app.specs.declared.task.Show.{Show}
+use Rattle.ipg_app.specs.declared.task.Show.TheVariants.{Lines, Picked}
+use Rattle.ipg_app.specs.Certificate.{Reads, Judges, cert_text, proof_said}
+use Rattle.ipg_app.specs.Checks.{Checks}
+use Rattle.ipg_app.specs.CoreOf.{CoreOf, grammar_in}
+use Rattle.ipg_app.specs.Laws.{OneCore, OneCheck, OneParse, OneReply, HasOneReply}
+use Rattle.ipg_app.specs.Order.{Order, Answers, says, finds, reads, only, have}
+use Rattle.ipg_app.specs.Path.{ReadsPath, query_syntax}
+use Rattle.ipg_app.specs.Reply.{Task, Parse, Check, Cert, Verify, text_by, core_of, accepted, input_in, parse_input, judge, formatted}
+use Rattle.ipg_app.specs.Reply.{order_by, order_on, use_order, Parses}
+use Rattle.ipg_read_tokens.specs.Shaped.{canonical_text}
+use Rattle.std.specs.Prelude.{codes}
+use Rattle.ipg_app.specs.Said.{Said, done, done_line, usage, read_fault}
+
+-- ---- the first place at fault
+
+begun : (k n : ℕ) (text : List ℕ) → k ≤ n → take n text ≡ take k text ++ drop k (take n text)
+begun zero n text less = refl
+begun (suc k) zero text less = absurd (omega (arith, less))
+begun (suc k) (suc n) [] less = refl
+begun (suc k) (suc n) (b ∷ text) less = ap (λ l. b ∷ l) (begun k n text (omega (arith, less)))
+
+-- what goes on from more bytes goes on from fewer
+fewer : {C : Type 0} (Is : C → List ℕ → Type 0) (k n : ℕ) (text : List ℕ) → k ≤ n → (c : C) × (rest : List ℕ) × Is c (take n text ++ rest)
+    → (c : C) × (rest : List ℕ) × Is c (take k text ++ rest)
+fewer Is k n text less (c, rest, is) = (
+  c,
+  drop k (take n text) ++ rest,
+  subst (Is c) (ap (λ l. l ++ rest) (begun k n text less) ∙ append_assoc (take k text) (drop k (take n text)) rest) is,
+)
+
+order : (a b : ℕ) → (a ≡ b) ⊎ ((a < b) ⊎ (b < a))
+order zero zero = inl refl
+order zero (suc b) = inr (inl (omega arith))
+order (suc a) zero = inr (inr (omega arith))
+order (suc a) (suc b) = elim (order a b) [
+  | inl e ↦ inl (ap suc e)
+  | inr other ↦ elim other [ inl less ↦ inr (inl (omega (arith, less))) | inr more ↦ inr (inr (omega (arith, more))) ]
+]
+
+no_text_before : (text : List ℕ) (a b : ℕ) → IsTextFault text a → IsTextFault text b → a < b → ⊥
+no_text_before text a b p q less =
+    let more = fewer cert.IsTextOf (a + 1) b text (omega (arith, less)) q.before in
+    p.there (omega (arith, less, q.within)) more
+
+one_text_fault : (text : List ℕ) (a b : ℕ) → IsTextFault text a → IsTextFault text b → a ≡ b
+one_text_fault text a b p q = elim (order a b) [
+  | inl e ↦ e
+  | inr apart ↦ elim apart [ inl less ↦ absurd (no_text_before text a b p q less) | inr more ↦ absurd (no_text_before text b a q p more) ]
+]
+
+no_path_before : (text : List ℕ) (a b : ℕ) → IsFirstFault text a → IsFirstFault text b → a < b → ⊥
+no_path_before text a b p q less =
+    let more = fewer IsPath (a + 1) b text (omega (arith, less)) q.before in
+    p.there (omega (arith, less, q.within)) more
+
+one_path_fault : (text : List ℕ) (a b : ℕ) → IsFirstFault text a → IsFirstFault text b → a ≡ b
+one_path_fault text a b p q = elim (order a b) [
+  | inl e ↦ e
+  | inr apart ↦ elim apart [ inl less ↦ absurd (no_path_before text a b p q less) | inr more ↦ absurd (no_path_before text b a q p more) ]
+]
+
+-- ---- what is found is one
+
+reads_same : (text : List ℕ) (x y : Result Certificate Said) → Reads text x → Reads text y → x ≡ y
+reads_same text (Ok c) (Ok d) p q = ap Ok (p.only d q.is)
+reads_same text (Ok c) (Err said) p q = absurd (q.fault.ends c p.is)
+reads_same text (Err said) (Ok d) p q = absurd (p.fault.ends d q.is)
+reads_same text (Err one) (Err other) p q = ap Err (p.is ∙ ap cert_text (one_text_fault text p.at q.at p.fault q.fault) ∙ sym q.is)
+
+path_same : OnePath → (text : List ℕ) (x y : Result paths.Query Said) → ReadsPath text x → ReadsPath text y → x ≡ y
+path_same one_path text (Ok a) (Ok b) p q = ap Ok (one_path text a b p q)
+path_same one_path text (Ok a) (Err said) p q = absurd (q.fault.whole a p)
+path_same one_path text (Err said) (Ok b) p q = absurd (p.fault.whole b q)
+path_same one_path text (Err one) (Err other) p q = ap Err (p.is ∙ ap query_syntax (one_path_fault text p.at q.at p.fault q.fault) ∙ sym q.is)
+
+unsaid : (why : ProofWhy) (said : Said) → why ≡ Memory → proof_said why ≡ Some said → ⊥
+unsaid why said e is = let none = sym (ap proof_said e) ∙ is in absurd (cc)
+
+said_same : (why other : ProofWhy) (one two : Said) → why ≡ other → proof_said why ≡ Some one → proof_said other ≡ Some two → one ≡ two
+said_same why other one two e p q = let both : Some one ≡ Some two = sym p ∙ ap proof_said e ∙ q in cc
+
+judged_same : ProvesIsNoFault → FaultIsOne → (g : Grammar) (c : Certificate) (one other : Said) → Judges g c one → Judges g c other → one ≡ other
+judged_same no_fault is_one g c one other (inl p) (inl q) = p.1 ∙ sym q.1
+judged_same no_fault is_one g c one other (inl p) (inr f) = absurd (unsaid f.why other (no_fault g c f.why p.0 f.fault) f.is)
+judged_same no_fault is_one g c one other (inr f) (inl p) = absurd (unsaid f.why one (no_fault g c f.why p.0 f.fault) f.is)
+judged_same no_fault is_one g c one other (inr f) (inr h) = elim (is_one g c f.why h.why f.fault h.fault) [
+  | inl e ↦ absurd (unsaid f.why one e f.is)
+  | inr more ↦ elim more [ inl e ↦ absurd (unsaid h.why other e h.is) | inr e ↦ said_same f.why h.why one other e f.is h.is ]
+]
+
+-- ---- orders that say one thing
+
+abbrev IsNoCert : Task → Type 0
+IsNoCert (Parse show input) = Unit {0}
+IsNoCert Check = Unit {0}
+IsNoCert Cert = ⊥
+IsNoCert (Verify certificate) = Unit {0}
+
+module _ (told : List ℕ → Told) where
+  abbrev IsOne : Order → Type 0
+  IsOne order = (one other : Said) → Answers told order one → Answers told order other → one ≡ other
+
+  one_only : (said : Said) → IsOne (only said)
+  one_only said one other a b = a ∙ sym b
+
+  one_have : {A : Type 0} (r : Result A Said) (next : A → Order) → ((a : A) → IsOne (next a)) → IsOne (have r next)
+  one_have (Ok a) next each = each a
+  one_have (Err said) next each = one_only said
+
+  one_found : {A : Type 0} (P : A → Type 0) (next : A → Order) → ((x y : A) → P x → P y → x ≡ y) → ((a : A) → IsOne (next a)) → IsOne (finds P next)
+  one_found P next same each one other (x, p, a) (y, q, b) =
+      each x one other a (subst (λ z. Answers told (next z) other) (same y x q p) b)
+
+  one_in : (t : Told) (next : List ℕ → Order) (P : Said → Type 0) → t ≢ untold → ((one other : Said) → P one → P other → one ≡ other)
+      → ((bytes : List ℕ) → IsOne (next bytes)) → (one other : Said)
+      → ((t ≡ absent) × P one) ⊎ ((bytes : List ℕ) × MayHold t bytes × Answers told (next bytes) one)
+      → ((t ≡ absent) × P other) ⊎ ((bytes : List ℕ) × MayHold t bytes × Answers told (next bytes) other) → one ≡ other
+  one_in untold next P known same each one other a b = absurd (known refl)
+  one_in absent next P known same each one other (inl a) (inl b) = same one other a.1 b.1
+  one_in absent next P known same each one other (inl a) (inr b) = absurd b.1
+  one_in absent next P known same each one other (inr a) b = absurd a.1
+  one_in (holds bytes) next P known same each one other (inl a) b = absurd (cc)
+  one_in (holds bytes) next P known same each one other (inr a) (inl b) = absurd (cc)
+  one_in (holds bytes) next P known same each one other (inr a) (inr b) =
+      each bytes one other (subst (λ these. Answers told (next these) one) a.1 a.2) (subst (λ these. Answers told (next these) other) b.1 b.2)
+
+  one_read : (name : List ℕ) (next : List ℕ → Order) → told name ≢ untold → ((bytes : List ℕ) → IsOne (next bytes)) → IsOne (reads name next)
+  one_read name next known each one other a b =
+      one_in (told name) next (λ s. s ≡ read_fault) known (λ s t p q. p ∙ sym q) each one other a b
+
+  one_text : (k : Option Kind) (name : List ℕ) (next : List ℕ → Order) → told name ≢ untold → ((text : List ℕ) → IsOne (next text))
+      → IsOne (text_by k name next)
+  one_text (Some kind) name next known each = each (text_of kind)
+  one_text None name next known each = one_read name next known each
+
+  module _ (one_core : OneCore) (one_check : OneCheck) (one_parse : OneParse) (one_path : OnePath) (no_fault : ProvesIsNoFault) (is_one : FaultIsOne)
+      (known : (name : List ℕ) → told name ≢ untold) where
+    one_accepted : (g : Grammar) (next : Grammar → Order) → ((same : Grammar) → IsOne (next same)) → IsOne (accepted g next)
+    one_accepted g next each =
+        one_found (Checks g) (λ answer. have answer next) (one_check g) (λ answer. one_have answer next each)
+
+    one_core_of : (text : List ℕ) (next : Grammar → Order) → ((g : Grammar) → IsOne (next g)) → IsOne (core_of text next)
+    one_core_of text next each = one_found (CoreOf text) (λ answer. have answer next) (one_core text) (λ answer. one_have answer next each)
+
+    one_judge : (text : List ℕ) (g : Grammar) → IsOne (judge text g)
+    one_judge text g =
+        one_found (Reads text) (λ read. have read (λ c. says (Judges g c))) (reads_same text)
+        (λ read. one_have read (λ c. says (Judges g c)) (λ c one other a b. judged_same no_fault is_one g c one other a b))
+
+    one_bytes : (bytes : List ℕ) (next : List ℕ → Order) → ((input : List ℕ) → IsOne (next input)) → IsOne (have (input_in bytes) next)
+    one_bytes bytes next each = one_have (input_in bytes) next each
+
+    one_parse_of : (show : Show) (input : List ℕ) (g : Grammar) → IsOne (parse_input show input g)
+    one_parse_of show input g =
+        one_read input (λ bytes. have (input_in bytes) (λ these. says (Parses show g these))) (known input)
+        (λ bytes. one_bytes bytes (λ these. says (Parses show g these)) (one_parse show g))
+
+    one_task : (task : Task) (g : Grammar) → IsNoCert task → IsOne (order_by task g)
+    one_task (Parse show input) g settled = one_accepted g (parse_input show input) (one_parse_of show input)
+    one_task Check g settled = one_accepted g (λ same. only (done_line (codes "accepted"))) (λ same. one_only (done_line (codes "accepted")))
+    one_task Cert g settled = absurd settled
+    one_task (Verify certificate) g settled =
+        one_read certificate (λ bytes. have (input_in bytes) (λ text. judge text g)) (known certificate)
+        (λ bytes. one_bytes bytes (λ text. judge text g) (λ text. one_judge text g))
+
+    one_use : (grammar : List ℕ) (task : Task) → IsNoCert task → IsOne (use_order grammar task)
+    one_use grammar task settled =
+        one_text (kind_of grammar) grammar (λ text. core_of text (order_by task)) (known grammar)
+        (λ text. one_core_of text (order_by task) (λ g. one_task task g settled))
+
+    one_request : (request : Option Request) → HasOneReply request → IsOne (order_on request)
+    one_request None settled = one_only usage
+    one_request (Some (Use grammar (words.Parse input memo mib))) settled = one_use grammar (Parse Lines input) tt
+    one_request (Some (Use grammar words.Check)) settled = one_use grammar Check tt
+    one_request (Some (Use grammar words.Cert)) settled = absurd settled
+    one_request (Some (Use grammar (words.Verify certificate))) settled = one_use grammar (Verify certificate) tt
+    one_request (Some (Fmt grammar)) settled =
+        one_text (kind_of grammar) grammar (λ text. have (grammar_in text) formatted) (known grammar)
+        (λ text. one_have (grammar_in text) formatted (λ g. one_only (done (canonical_text g))))
+    one_request (Some (Trial kind n)) settled = absurd settled
+    one_request (Some (Query grammar input path)) settled =
+        one_found (ReadsPath path) (λ read. have read (λ query. use_order grammar (Parse (Picked query) input))) (path_same one_path path)
+        (λ read. one_have read (λ query. use_order grammar (Parse (Picked query) input)) (λ query. one_use grammar (Parse (Picked query) input) tt))
+
+pub one_reply : OneCore → OneCheck → OneParse → OnePath → ProvesIsNoFault → FaultIsOne → OneReply
+one_reply one_core one_check one_parse one_path no_fault is_one told words one other known plain =
+    one_request told one_core one_check one_parse one_path no_fault is_one known (request_of words) plain one other
