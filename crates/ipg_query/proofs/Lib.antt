@@ -4,4 +4,6 @@ pub mod Naming
 pub mod Valued
 pub mod Chosen
 pub mod Spreading
+pub mod Coming
+pub mod Picking
 pub mod Placed

@@ -1,18 +1,15 @@
 -- What is put behind spots of a row, and what lies below a result.
-use Rattle.std.proofs.Common.{◌≡◌, ℕ, ◌+◌, true, false, List, [], ◌∷◌, ◌++◌, map, flat_map, reverse, refl, ap, ◌∙◌, sym, subst}
-use Rattle.std.proofs.Common.{subst₂, append_assoc, append-nil, true≢false, if◌then◌else◌}
-use Rattle.std.proofs.lemmas.Grind.{flat_map-append}
-use Rattle.std.proofs.lemmas.List.{reverse-append, reverse-reverse}
+use Rattle.std.proofs.Common.{◌≡◌, ℕ, ◌+◌, true, false, List, [], ◌∷◌, ◌++◌, length, map, flat_map, arith, refl, ap, ◌∙◌, sym, subst}
+use Rattle.std.proofs.Common.{subst₂, append-nil, true≢false, if◌then◌else◌}
 use Rattle.ipg_core.specs.Tree as tree
 use Rattle.ipg_core.specs.Tree.{Tree, Node, Sub, Token, Number, Raw, Array, Many, Kids, no_kids, kid}
 use Rattle.ipg_mach_nodes.specs.declared.kid.Kid.{Kid}
 use Rattle.ipg_mach_nodes.specs.Stored.{Stored, Source, StandsKid, StandKids}
 use Rattle.ipg_mach_results.specs.Flat.{has_items}
-use Rattle.ipg_table.specs.Rows.{Each}
 use Rattle.ipg_tree_walk.specs.Visits.{kids_in, kids_in_tree, place_in}
 use Rattle.ipg_query.specs.declared.spot.Spot.{Spot}
 use Rattle.ipg_query.specs.Picked.{Found, found, each_of, spread, spread_each, below, below_in, all_in, all_in_tree, all_in_kids, all_of}
-use Rattle.ipg_query.specs.Spots.{IsNear, AreNear, IsSpot, AreSpots, spot_at, Goes, own}
+use Rattle.ipg_query.specs.Spots.{IsNear, AreNear, IsSpot, AreSpots, spot_at, own, inner}
 use Rattle.ipg_query.proofs.Going.{each_append, push_one}
 use Rattle.ipg_query.proofs.Lying.{in_near, spot_is, spots_are, all_is}
 
@@ -97,6 +94,14 @@ module _ (src : Source) (st : Stored) (spot : Spot) (x : Found) (is : IsSpot src
       subst (λ xs. AreSpots src st to (before ++ xs))
       (ap (λ n. spread_each n (kids_in x.child)) (place_is place e) ∙ lone_below x.at x.child lone) made
 
+  pub inner_put : (place : ℕ) (rows : List Kid) (out to : List Spot) (before : List Found) → place ≡ place_in spot.at x.child
+      → StandKids src st (place_in spot.at x.child) rows (kids_in x.child) → AreSpots src st out before → to ≡ out ++ map (spot_at place) rows
+      → AreSpots src st to (before ++ inner x)
+  inner_put place rows out to before e stand made put =
+      subst₂ (λ ys n. AreSpots src st ys (before ++ each_of n (kids_in x.child))) (sym put) (place_is place e)
+      (each_append (IsSpot src st) out (map (spot_at place) rows) before (each_of place (kids_in x.child)) made
+      (spots_are src st place rows (kids_in x.child) (rows_stand place rows e stand) (rows_near place e)))
+
   -- ---- a result alone
 
   pub put_own : (out to : List Spot) (before : List Found) → has_items x.child ≡ false → AreSpots src st out before → to ≡ out ++ spot ∷ []
@@ -121,53 +126,19 @@ all_parts_in at (Raw from to bytes) = refl
 all_parts_in at (Array sym items) = refl
 all_parts_in at (Many sym items) = refl
 
-all_parts : (x : Found) → all_of x ≡ own x ++ flat_map all_of (each_of (place_in x.at x.child) (kids_in x.child))
+pub all_parts : (x : Found) → all_of x ≡ own x ++ flat_map all_of (each_of (place_in x.at x.child) (kids_in x.child))
 all_parts x = all_parts_in x.at x.child ∙ ap (λ xs. own x ++ xs) (sym (all_is (place_in x.at x.child) (kids_in x.child)))
 
-module _ (src : Source) (st : Stored) (spot : Spot) (pile new out to : List Spot) (place : ℕ) (rows : List Kid) (whole : List Found)
-    (put : (x : Found) (before : List Found) → IsSpot src st spot x → AreSpots src st out before → AreSpots src st to (before ++ own x))
-    (there : (x : Found) → IsSpot src st spot x → place ≡ place_in spot.at x.child)
-    (stand : (x : Found) → IsSpot src st spot x → StandKids src st (place_in spot.at x.child) rows (kids_in x.child))
-    (piled : new ≡ pile ++ reverse (map (spot_at place) rows)) where
-  new_pile : map (spot_at place) rows ++ reverse pile ≡ reverse new
-  new_pile =
-      sym (ap reverse piled ∙ reverse-append pile (reverse (map (spot_at place) rows))
-      ∙ ap (λ xs. xs ++ reverse pile) (reverse-reverse (map (spot_at place) rows)))
+no_rows : (src : Source) (st : Stored) (at : ℕ) (rows : List Kid) (ones : Kids) → rows ≡ [] → StandKids src st at rows ones → ones ≡ no_kids
+no_rows src st at [] no_kids e stand = refl
+no_rows src st at [] (kid one more) e stand = absurd stand
+no_rows src st at (k ∷ rows) no_kids e stand = refl
+no_rows src st at (k ∷ rows) (kid one more) e stand = absurd (omega (arith, ap length e))
 
-  by_rest : (rest done : List Found) → Each (IsSpot src st) (spot ∷ reverse pile) rest → AreSpots src st out done → done ++ flat_map all_of rest ≡ whole
-      → Goes src st all_of (reverse new) to whole
-  by_rest [] done here made is = absurd here
-  by_rest (x ∷ rest) done here made is =
-      let kids = each_of (place_in x.at x.child) (kids_in x.child) in
-      let e = there x here.0 in
-      let spots = spots_are src st place rows (kids_in x.child) (rows_stand src st spot x here.0 place rows e (stand x here.0))
-      (rows_near src st spot x here.0 place e) in
-      let same : each_of place (kids_in x.child) ≡ kids = ap (λ n. each_of n (kids_in x.child)) (place_is src st spot x here.0 place e) in
-      record {
-        rest = kids ++ rest;
-        done = done ++ own x;
-        stand = subst (λ ys. Each (IsSpot src st) ys (kids ++ rest)) new_pile
-            (each_append (IsSpot src st) (map (spot_at place) rows) (reverse pile) kids rest
-            (subst (AreSpots src st (map (spot_at place) rows)) same spots) here.1);
-        made = put x done here.0 made;
-        is = append_assoc done (own x) (flat_map all_of (kids ++ rest))
-            ∙ ap (λ xs. done ++ xs) (ap (λ xs. own x ++ xs) (flat_map-append all_of kids rest)
-            ∙ sym (append_assoc (own x) (flat_map all_of kids) (flat_map all_of rest))
-            ∙ ap (λ xs. xs ++ flat_map all_of rest) (sym (all_parts x)))
-            ∙ is;
-      }
-
-  pub visited : Goes src st all_of (spot ∷ reverse pile) out whole → Goes src st all_of (reverse new) to whole
-  visited t = by_rest t.rest t.done t.stand t.made t.is
-
-pub piled_first : (src : Source) (st : Stored) (spot : Spot) (x : Found) (pile out : List Spot) (before : List Found) → pile ≡ spot ∷ [] → IsSpot src st spot x
-    → AreSpots src st out before → Goes src st all_of (reverse pile) out (before ++ all_of x)
-piled_first src st spot x pile out before e is made =
-    subst (λ ps. Goes src st all_of (reverse ps) out (before ++ all_of x)) (sym e)
-    (record { rest = x ∷ []; done = before; stand = (is, tt); made = made; is = ap (λ xs. before ++ xs) (append-nil (all_of x)) })
-
--- the last of the pile is the next
-pub piled_next : (src : Source) (st : Stored) (pile rest : List Spot) (next : Spot) (out : List Spot) (whole : List Found) → pile ≡ rest ++ next ∷ []
-    → Goes src st all_of (reverse pile) out whole → Goes src st all_of (next ∷ reverse rest) out whole
-piled_next src st pile rest next out whole e goes =
-    subst (λ left. Goes src st all_of left out whole) (ap reverse e ∙ reverse-append rest (next ∷ [])) goes
+-- where nothing lies in a result, all of it is the result
+pub alone : (src : Source) (st : Stored) (at place : ℕ) (rows : List Kid) (one : tree.Kid) → has_items one ≡ false
+    → StandKids src st (place_in at one) rows (kids_in one) → rows ≡ [] → all_in place one ≡ found place one ∷ []
+alone src st at place rows one lone stand none =
+    all_parts_in place one
+    ∙ ap (λ b. (if b then [] else found place one ∷ []) ++ all_in_kids (place_in place one) (kids_in one)) lone
+    ∙ ap (λ ks. found place one ∷ all_in_kids (place_in place one) ks) (no_rows src st (place_in at one) rows (kids_in one) none stand)

@@ -1,5 +1,5 @@
 -- Spots of a stored tree, and which results of the tree they are.
-use Rattle.std.specs.Prelude.{◌≡◌, ℕ, ◌+◌, ◌^◌, ◌≤◌, List, [], ◌∷◌, ◌++◌, flat_map, Option, None, Some, if◌then◌else◌}
+use Rattle.std.specs.Prelude.{◌≡◌, ℕ, ◌+◌, ◌^◌, ◌≤◌, List, [], ◌∷◌, ◌++◌, map, flat_map, Option, None, Some, if◌then◌else◌}
 use Rattle.ipg_core.specs.Grammar.{Grammar}
 use Rattle.ipg_core.specs.Tree as tree
 use Rattle.ipg_core.specs.Tree.{Kids}
@@ -8,10 +8,14 @@ use Rattle.ipg_mach_nodes.specs.declared.kid.Kid.{Kid}
 use Rattle.ipg_mach_nodes.specs.Stored.{Stored, Source, StandsKid}
 use Rattle.ipg_mach_results.specs.Flat.{has_items}
 use Rattle.ipg_table.specs.Rows.{Each}
+use Rattle.ipg_tree_walk.specs.Visits.{kids_in, place_in}
+use Rattle.ipg_query_path.specs.declared.path.Step.{Step}
+use Rattle.ipg_query_path.specs.declared.path.Step.TheVariants.{Named, Nth, Children, All}
+use Rattle.ipg_query.specs.declared.left.Left.{Left}
 use Rattle.ipg_query.specs.declared.spot.Spot.{Spot}
 use Rattle.ipg_query.specs.declared.hit.Hit.{Hit}
 use Rattle.ipg_query.specs.Hits.{IsHit}
-use Rattle.ipg_query.specs.Picked.{Found, Pick, is_named}
+use Rattle.ipg_query.specs.Picked.{Found, Pick, each_of, below, is_named, named, only, members}
 
 -- a row of a part that begins there
 abbrev pub spot_at : ℕ → Kid → Spot
@@ -55,9 +59,64 @@ Goes src st f left out whole = Through (IsSpot src st) (IsSpot src st) f left ou
 abbrev pub own : Found → List Found
 own x = if has_items x.child then [] else x ∷ []
 
+-- what lies in a result, each array and repetition as it is
+abbrev pub inner : Found → List Found
+inner x = each_of (place_in x.at x.child) (kids_in x.child)
+
+-- what a step takes of a result at once: of `**` that is the result alone
+abbrev pub taken : Grammar → Step → Found → List Found
+taken g (Named name) x = named g name x
+taken g (Nth name k) x = only (named g name x) k
+taken g Children x = below x
+taken g All x = own x
+
+-- and where the step is to be taken once more: `**` in all that lies in a result
+abbrev pub deeper : Step → Found → List Found
+deeper (Named name) x = []
+deeper (Nth name k) x = []
+deeper Children x = []
+deeper All x = inner x
+
 -- a result whose symbol has this name
 abbrev pub kept : Grammar → List ℕ → Found → List Found
 kept g name x = if is_named g name x then x ∷ [] else []
+
+-- ---- what is left to be done
+
+-- steps that are to be taken, and the spot that they begin at
+pub record Rest : Type 0 where
+  pub steps : List Step
+  pub spot : Spot
+
+abbrev pub left_at : List Step → Spot → Rest
+left_at steps spot = record { steps = steps; spot = spot }
+
+abbrev pub seen_one : Left → Rest
+seen_one left = left_at left.steps.now left.spot
+
+abbrev pub seen : List Left → List Rest
+seen lefts = map seen_one lefts
+
+-- the same at a result
+pub record Course : Type 0 where
+  pub steps : List Step
+  pub from : Found
+
+abbrev pub course : List Step → Found → Course
+course steps x = record { steps = steps; from = x }
+
+abbrev pub comes_to : Grammar → Course → List Found
+comes_to g c = members g c.steps (c.from ∷ [])
+
+pub record IsLeft (src : Source) (st : Stored) (left : Rest) (c : Course) : Type 0 where
+  pub steps : left.steps ≡ c.steps
+  pub spot : IsSpot src st left.spot c.from
+
+-- what is left, one after the other, comes to these results
+pub record Comes (src : Source) (st : Stored) (g : Grammar) (lefts : List Rest) (xs : List Found) : Type 0 where
+  pub courses : List Course
+  pub stand : Each (IsLeft src st) lefts courses
+  pub is : flat_map (comes_to g) courses ≡ xs
 
 -- what is shown of a spot is all that is picked of a result
 abbrev pub IsShown : Option Hit → List Pick → Type 0

@@ -13,7 +13,7 @@ use ipg_tree_walk::Parsed;
 use std::alloc::{AllocError, Allocator};
 
 /// Puts rows of one part behind the spots.
-fn push_each(spots: &mut Vec<Spot>, at: u32, rows: &[Kid]) -> Result<(), AllocError>
+pub fn push_each(spots: &mut Vec<Spot>, at: u32, rows: &[Kid]) -> Result<(), AllocError>
     ensures { OnOk result (spots.new.items ≡ spots.old.items ++ map (spot_at at) rows.now) }
 {
     for row in rows {

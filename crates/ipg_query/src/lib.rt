@@ -1,11 +1,12 @@
 //! What a path picks of a parsed tree.
 #![tactic(auto)]
 
-mod all;
 mod below;
+mod deeper;
 mod ends;
 mod fields;
 mod hit;
+mod left;
 mod names;
 mod rows;
 mod selecting;

@@ -1,22 +1,24 @@
 //! Selects what a path picks.
-ghost use Rattle.std.specs.Prelude.{◌≡◌, ℕ, List, [], ◌∷◌, ◌++◌, flat_map, IfOk, OnOk};
+ghost use Rattle.std.specs.Prelude.{◌≡◌, ◌<◌, ℕ, List, ◌∷◌, ◌++◌, length, reverse, IfOk, OnOk};
 ghost use Rattle.ipg_core.specs.Grammar.{Grammar};
 ghost use Rattle.ipg_core.specs.Tree as tree;
 ghost use Rattle.ipg_core.specs.Tree.{Tree};
 ghost use Rattle.ipg_mach_nodes.specs.Stored.{Source, Stored, StandsKid};
-ghost use Rattle.ipg_table.specs.Rows.{Each};
+ghost use Rattle.ipg_table.specs.Rows.{Each, StandFor};
 ghost use Rattle.ipg_tree_walk.specs.Visits.{whole, from_of, to_of};
 ghost use Rattle.ipg_query.specs.Hits.{IsHit, Shares, IsTree};
 ghost use Rattle.ipg_query.specs.Picked as picked;
-ghost use Rattle.ipg_query.specs.Picked.{Found, Pick, found, members, shown};
-ghost use Rattle.ipg_query.specs.Spots.{IsSpot, AreSpots, IsShown};
+ghost use Rattle.ipg_query.specs.Picked.{Found, Pick, found, shown};
+ghost use Rattle.ipg_query.specs.Spots.{IsSpot, IsShown, Comes, seen, seen_one};
 
+use crate::deeper::{push_deeper, without_idle};
 use crate::fields::field_named;
 use crate::hit::Hit;
-use crate::spot::{Spot, push};
-use crate::steps::stepped;
+use crate::left::{Left, pile_up, push_left};
+use crate::spot::{MOST, Spot};
+use crate::steps::push_taken;
 use ipg_mach_nodes::Kid;
-use ipg_query_path::{Name, Query, Step};
+use ipg_query_path::{Name, Query};
 use ipg_tree_walk::Parsed;
 use std::alloc::{AllocError, Allocator, Global};
 
@@ -30,23 +32,6 @@ fn root_of<A: Allocator + Clone + Drop>(p: &Parsed<'_, A>) -> Spot
         at: 0,
         kid: Kid::Node { id, from: 0, to },
     }
-}
-
-/// What steps come to, from the root on.
-fn members_of<A: Allocator + Clone + Drop>(
-    alloc: Global,
-    p: &Parsed<'_, A>,
-    steps: &[Step],
-) -> Result<Vec<Spot>, AllocError>
-    ensures { (src : Source) (g : Grammar) (one : Tree) → IsTree p.now.parse src g one
-        → IfOk result (λ spots. AreSpots src p.now.parse.store spots.items (members g steps.now (found 0 (whole one) ∷ []))) }
-{
-    let mut spots = Vec::new(alloc);
-    push(&mut spots, root_of(p))?;
-    for step in steps {
-        spots = stepped(alloc, p, step, &spots)?;
-    }
-    Ok(spots)
 }
 
 /// The ends of the interval of a row in its parent's part.
@@ -107,6 +92,9 @@ fn push_hit<'a, A: Allocator + Clone + Drop>(
 {
     match hit_of(p, field, spot) {
         Some(hit) => {
+            if hits.len() >= MOST {
+                return Err(AllocError);
+            }
             hits.push(hit)?;
             Ok(())
         }
@@ -114,21 +102,31 @@ fn push_hit<'a, A: Allocator + Clone + Drop>(
     }
 }
 
-/// What is shown of each spot.
-fn hits_of<'a, A: Allocator + Clone + Drop>(
+/// Takes the first of the steps that are left: what comes of that is on the pile, the first on top.
+/// In the lists any spots may stand, before and after.
+fn take<'q, A: Allocator + Clone + Drop>(
     alloc: Global,
-    p: &Parsed<'a, A>,
-    field: &Option<Name>,
-    spots: &[Spot],
-) -> Result<Vec<Hit<'a>>, AllocError>
-    ensures { (src : Source) (g : Grammar) (xs : List Found) → Shares p.now.parse src g → AreSpots src p.now.parse.store spots.now xs
-        → IfOk result (λ hits. Each IsHit hits.items (flat_map (shown g p.now.parse.input field.now) xs)) }
+    p: &Parsed<'_, A>,
+    pile: &mut Vec<Left<'q>>,
+    spots: &mut Vec<Spot>,
+    room: &mut Vec<Spot>,
+    next: Left<'q>,
+) -> Result<(), AllocError>
+    ensures { (src : Source) (g : Grammar) (xs : List Found) → StandFor p.now.parse.tables g → 0 < length next.entry.steps.now
+        → Comes src p.now.parse.store g (seen_one next.entry ∷ reverse (seen pile.old.items)) xs
+        → OnOk result (Comes src p.now.parse.store g (reverse (seen pile.new.items)) xs) }
 {
-    let mut hits = Vec::new(alloc);
-    for spot in spots {
-        push_hit(p, &mut hits, field, *spot)?;
+    match next.steps.split_first() {
+        Some((step, rest)) => {
+            spots.clear();
+            push_deeper(p, spots, step, next.spot)?;
+            pile_up(pile, next.steps, spots)?;
+            spots.clear();
+            push_taken(alloc, p, spots, room, step, next.spot)?;
+            pile_up(pile, rest, spots)
+        }
+        None => Ok(()),
     }
-    Ok(hits)
 }
 
 /// What a path picks of a parsed tree, in order; doubles stay.
@@ -140,6 +138,23 @@ pub fn select<'a, A: Allocator + Clone + Drop>(
     ensures { (src : Source) (g : Grammar) (one : Tree) → IsTree p.now.parse src g one
         → IfOk result (λ hits. Each IsHit hits.items (picked.picked g p.now.parse.input query.now one)) }
 {
-    let spots = members_of(alloc, p, query.steps.as_slice())?;
-    hits_of(alloc, p, &query.field, &spots)
+    let mut hits = Vec::new(alloc);
+    let mut pile = Vec::new(alloc);
+    let mut spots = Vec::new(alloc);
+    let mut room = Vec::new(alloc);
+    push_left(&mut pile, query.steps.as_slice(), root_of(p))?;
+    'piled: for _ in 0..u64::MAX {
+        match pile.pop() {
+            Some(top) => {
+                let next = without_idle(p, top);
+                if next.steps.is_empty() {
+                    push_hit(p, &mut hits, &query.field, next.spot)?
+                } else {
+                    take(alloc, p, &mut pile, &mut spots, &mut room, next)?
+                }
+            }
+            None => return Ok(hits),
+        }
+    }
+    Err(AllocError)
 }

@@ -4,8 +4,8 @@ ghost use Rattle.std.specs.Prelude.{◌≡◌, ◌++◌, [], ◌∷◌, OnOk};
 use ipg_mach_nodes::Kid;
 use std::alloc::AllocError;
 
-/// A list of more spots counts as want of memory.
-const MOST: usize = 1 << 24;
+/// More of them in one list count as want of memory.
+pub const MOST: usize = 1 << 24;
 
 /// A row of a stored tree, and the place of the input where the part begins that it lies in.
 #[derive(Clone, Copy, Debug, PartialEq, Eq)]

@@ -1,13 +1,13 @@
 //! What a step takes of spots.
-ghost use Rattle.std.specs.Prelude.{◌≡◌, ℕ, List, ◌++◌, filter, flat_map, OnOk, IfOk};
+ghost use Rattle.std.specs.Prelude.{◌≡◌, ℕ, List, ◌++◌, filter, OnOk, IfOk};
 ghost use Rattle.ipg_core.specs.Grammar.{Grammar};
 ghost use Rattle.ipg_mach_nodes.specs.Stored.{Source, Stored};
 ghost use Rattle.ipg_table.specs.Rows.{StandFor};
-ghost use Rattle.ipg_query.specs.Picked.{Found, is_named, named, only, stepped};
-ghost use Rattle.ipg_query.specs.Spots.{IsSpot, AreSpots, kept};
+ghost use Rattle.ipg_query.specs.Picked.{Found, is_named, named, only};
+ghost use Rattle.ipg_query.specs.Spots.{IsSpot, AreSpots, kept, taken};
 
-use crate::all::push_all;
 use crate::below::push_below;
+use crate::deeper::push_own;
 use crate::names::is_named;
 use crate::spot::{Spot, push};
 use ipg_num::item_at;
@@ -76,8 +76,8 @@ fn push_only(spots: &mut Vec<Spot>, from: &[Spot], nth: u32) -> Result<(), Alloc
     }
 }
 
-/// Puts what a step takes of a spot behind the others.
-fn push_step<A: Allocator + Clone + Drop>(
+/// Puts what a step takes of a spot behind the others; of `**` that is the spot alone.
+pub fn push_taken<A: Allocator + Clone + Drop>(
     alloc: Global,
     p: &Parsed<'_, A>,
     spots: &mut Vec<Spot>,
@@ -87,7 +87,7 @@ fn push_step<A: Allocator + Clone + Drop>(
 ) -> Result<(), AllocError>
     ensures { (src : Source) (g : Grammar) (x : Found) (before : List Found) → StandFor p.now.parse.tables g → IsSpot src p.now.parse.store spot x
         → AreSpots src p.now.parse.store spots.old.items before
-        → OnOk result (AreSpots src p.now.parse.store spots.new.items (before ++ stepped g step.now x)) }
+        → OnOk result (AreSpots src p.now.parse.store spots.new.items (before ++ taken g step.now x)) }
 {
     match step {
         Step::Named(name) => push_each_named(p, spots, room, name.as_slice(), spot),
@@ -95,7 +95,7 @@ fn push_step<A: Allocator + Clone + Drop>(
             push_only(spots, &named(alloc, p, room, name.as_slice(), spot)?, *nth)
         }
         Step::Children => push_below(p, spots, spot),
-        Step::All => push_all(alloc, p, spots, spot),
+        Step::All => push_own(spots, spot),
     }
 }
 
@@ -114,22 +114,4 @@ fn push_each_named<A: Allocator + Clone + Drop>(
     room.clear();
     push_below(p, room, spot)?;
     push_named(p, spots, room, name)
-}
-
-/// What a step takes of each spot.
-pub fn stepped<A: Allocator + Clone + Drop>(
-    alloc: Global,
-    p: &Parsed<'_, A>,
-    step: &Step,
-    from: &[Spot],
-) -> Result<Vec<Spot>, AllocError>
-    ensures { (src : Source) (g : Grammar) (xs : List Found) → StandFor p.now.parse.tables g → AreSpots src p.now.parse.store from.now xs
-        → IfOk result (λ spots. AreSpots src p.now.parse.store spots.items (flat_map (stepped g step.now) xs)) }
-{
-    let mut spots = Vec::new(alloc);
-    let mut room = Vec::new(alloc);
-    for spot in from {
-        push_step(alloc, p, &mut spots, &mut room, step, *spot)?;
-    }
-    Ok(spots)
 }

@@ -1,7 +1,7 @@
 use Rattle.std.proofs.Common.{sym, ◌∙◌}
 use Rattle.std.proofs.lemmas.Result.{on_ok_weaker}
 use Rattle.ipg_query.proofs.Spreading.{put_none, put_own}
-use Rattle.ipg_query.proofs.all.push_own.Goals as goal
+use Rattle.ipg_query.proofs.deeper.push_own.Goals as goal
 
 pub returns-then-has_items : goal.returns-then-has_items
 returns-then-has_items c src st x before is made =

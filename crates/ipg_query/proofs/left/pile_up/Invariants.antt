@@ -1,10 +1,10 @@
 use Rattle.std.proofs.Common.{◌≡◌, ◌≤◌, ◌++◌, drop, length, map, reverse}
-use Rattle.ipg_query.specs.Spots.{spot_at}
-use Rattle.ipg_query.proofs.all.push_reversed.Given as goal
+use Rattle.ipg_query.specs.Spots.{seen, left_at}
+use Rattle.ipg_query.proofs.left.pile_up.Given as goal
 
 abbrev pub invariant-loop-left : goal.invariant-loop-left
 invariant-loop-left l =
-    (l.spots.items ≡ l.initial.spots.items ++ reverse (map (spot_at l.at) (drop l.left l.rows))) × (l.left ≤ length l.rows)
+    (seen l.pile.items ≡ seen l.initial.pile.items ++ reverse (map (left_at l.steps) (drop l.left l.spots))) × (l.left ≤ length l.spots)
 
 abbrev pub decreases-loop-left : goal.decreases-loop-left
 decreases-loop-left l = l.left
