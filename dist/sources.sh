@@ -1,7 +1,7 @@
-# shellcheck shell=bash disable=SC2154
+# shellcheck shell=bash disable=SC2154,SC2185
 # For `ipg`, `prove` and the checks: what a program is built from, and how. They set `top`, the repository's folder.
 program="$top/crates/ipg/out/ipg"
-# its time is when dist/ipg was last found to be built from the sources at hand
+# its time is when dist/ipg was last found to be built from the sources at hand; it lists the files and folders looked at
 note="$top/dist/out/kept"
 
 # own_crates NAME: a program's own crates, itself and all that it stands on, by their lines of crates.txt
@@ -42,15 +42,24 @@ is_kept() {
   local began=$((EPOCHSECONDS - 1))
   [ -x "$top/dist/ipg" ] && [ -f "$top/dist/SOURCES" ] && [ "$(sources)" = "$(cat "$top/dist/SOURCES")" ] || return 1
   # what can't be noted is summed again
-  { mkdir -p "${note%/*}" && : >"$note.$$" && touch -d "@$began" "$note.$$" && mv -f "$note.$$" "$note"; } 2>/dev/null || true
+  { mkdir -p "${note%/*}" && look -print0 >"$note.$$" && touch -d "@$began" "$note.$$" && mv -f "$note.$$" "$note"; } 2>/dev/null || true
+}
+
+# look TEST..: find, over the files and folders that a change of sources shows at
+look() {
+  (cd "$top" && find -L crates.txt dist/ipg dist/SOURCES dist/sources.sh crates \
+    -path 'crates/*/*' ! -path 'crates/*/*/*' ! -name src ! -name specs ! -name proofs -prune -o "$@")
 }
 
 # whether that was noted, and nothing that it rests on has changed since. A file's time of change is renewed by whatever is
 # done to it, also where its other time is set back; a folder's when a file comes into it or leaves.
 is_kept_still() {
-  [ -f "$note" ] && [ -x "$top/dist/ipg" ] && [ -f "$top/dist/SOURCES" ] || return 1
-  [ -z "$(cd "$top" && find -L crates.txt dist/ipg dist/SOURCES dist/sources.sh crates \
-    -path 'crates/*/*' ! -path 'crates/*/*/*' ! -name src ! -name specs ! -name proofs -prune -o -cnewer "$note" -print -quit 2>&1)" ]
+  local changed
+  [ -s "$note" ] && [ -x "$top/dist/ipg" ] && [ -f "$top/dist/SOURCES" ] || return 1
+  # a list is gone over in half the time of a walk; not each find reads one
+  changed=$(cd "$top" && find -L -files0-from "$note" -maxdepth 0 -cnewer "$note" -print -quit 2>/dev/null) ||
+    changed=$(look -cnewer "$note" -print -quit 2>&1)
+  [ -z "$changed" ]
 }
 
 # is_built [NAME]: whether a program, `ipg` if none is named, was built here, and no source is newer, nor a folder of
