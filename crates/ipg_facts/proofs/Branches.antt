@@ -8,7 +8,9 @@ use Rattle.ipg_facts.specs.declared.fact.Fact.{Fact}
 use Rattle.ipg_facts.specs.declared.fact.Fact.TheVariants.{All}
 use Rattle.ipg_facts.specs.Reading.{Scope, read}
 use Rattle.std.specs.Prelude.{slice_get}
-use Rattle.ipg_facts.specs.Members.{branches, takes, slot_members, is_whole, members, terms_members, passed, passed_all}
+use Rattle.ipg_facts.specs.Members.{takes, is_whole, terms_members, passed, passed_all}
+use Rattle.ipg_facts.specs.declared.aim.Aim.{Aim}
+use Rattle.ipg_facts.specs.Aim.{slot_for, branches_for, members_for, terms_for}
 use Rattle.std.proofs.Common.{Bool}
 use Rattle.ipg_core.specs.Grammar.{Grammar}
 use Rattle.ipg_core.specs.declared.grammar.CoreAlt.{CoreAlt}
@@ -19,20 +21,20 @@ use Rattle.ipg_facts.specs.declared.edition.Edition.{Edition}
 use Rattle.ipg_facts.specs.Keep.{opening, before, caller_facts}
 use Rattle.ipg_facts.proofs.Parts.{at_item}
 
-module _ (scope : Scope) (term : ℕ) (other : CoreSlot) where
+module _ (aim : Aim) (scope : Scope) (term : ℕ) (other : CoreSlot) where
   pub branches_more : (cases : List (CoreExpr × CoreSlot)) (i : ℕ) (c : CoreExpr × CoreSlot) (made earlier all : List Fact) → i < length cases
       → c ≡ get_or cases i c
-      → made ++ branches scope term earlier (drop i cases) other ≡ all
-      → (made ++ All (earlier ++ ((read scope c.0).holds ++ slot_members scope term c.1)) ∷ [])
-      ++ branches scope term (earlier ++ (read scope c.0).fails) (drop (i + 1) cases) other ≡ all
-  unfolding branches
+      → made ++ branches_for aim scope term earlier (drop i cases) other ≡ all
+      → (made ++ All (earlier ++ ((read scope c.0).holds ++ slot_for aim scope term c.1)) ∷ [])
+      ++ branches_for aim scope term (earlier ++ (read scope c.0).fails) (drop (i + 1) cases) other ≡ all
+  unfolding branches_for
   branches_more cases i c made earlier all within is h =
-      append_assoc made _ _ ∙ sym (ap (λ cs. made ++ branches scope term earlier cs other) (at_item cases i c is within)) ∙ h
+      append_assoc made _ _ ∙ sym (ap (λ cs. made ++ branches_for aim scope term earlier cs other) (at_item cases i c is within)) ∙ h
 
   pub branches_all : (cases : List (CoreExpr × CoreSlot)) (i : ℕ) (made earlier all : List Fact) → length cases ≤ i
-      → made ++ branches scope term earlier (drop i cases) other ≡ all → made ++ All (earlier ++ slot_members scope term other) ∷ [] ≡ all
-  unfolding branches
-  branches_all cases i made earlier all past h = sym (ap (λ cs. made ++ branches scope term earlier cs other) (drop_all i cases past)) ∙ h
+      → made ++ branches_for aim scope term earlier (drop i cases) other ≡ all → made ++ All (earlier ++ slot_for aim scope term other) ∷ [] ≡ all
+  unfolding branches_for
+  branches_all cases i made earlier all past h = sym (ap (λ cs. made ++ branches_for aim scope term earlier cs other) (drop_all i cases past)) ∙ h
 
 module _ (scope : Scope) (other : CoreSlot) where
   pub takes_here : (cases : List (CoreExpr × CoreSlot)) (i b : ℕ) (c : CoreExpr × CoreSlot) (made all : List Fact) → i < length cases → c ≡ get_or cases i c
@@ -64,17 +66,17 @@ at_nat xs i within =
     let next : suc i ≡ i + 1 = omega arith in
     drop-cons xs i 0 within ∙ ap (λ j. get_or xs i 0 ∷ drop j xs) next
 
-pub terms_more : (scope : Scope) (order : List ℕ) (i : ℕ) (made all : List Fact) → i < length order
-    → made ++ terms_members scope (drop i order) ≡ all → (made ++ members scope (get_or order i 0) (slice_get scope.terms (get_or order i 0)))
-    ++ terms_members (passed scope (get_or order i 0)) (drop (i + 1) order) ≡ all
-unfolding terms_members
-terms_more scope order i made all within h =
-    append_assoc made _ _ ∙ sym (ap (λ us. made ++ terms_members scope us) (at_nat order i within)) ∙ h
+pub terms_more : (aim : Aim) (scope : Scope) (order : List ℕ) (i : ℕ) (made all : List Fact) → i < length order
+    → made ++ terms_for aim scope (drop i order) ≡ all → (made ++ members_for aim scope (get_or order i 0) (slice_get scope.terms (get_or order i 0)))
+    ++ terms_for aim (passed scope (get_or order i 0)) (drop (i + 1) order) ≡ all
+unfolding terms_for
+terms_more aim scope order i made all within h =
+    append_assoc made _ _ ∙ sym (ap (λ us. made ++ terms_for aim scope us) (at_nat order i within)) ∙ h
 
-pub terms_all : (scope : Scope) (order : List ℕ) (i : ℕ) (made all : List Fact) → length order ≤ i → made ++ terms_members scope (drop i order) ≡ all
+pub terms_all : (aim : Aim) (scope : Scope) (order : List ℕ) (i : ℕ) (made all : List Fact) → length order ≤ i → made ++ terms_for aim scope (drop i order) ≡ all
     → made ≡ all
-unfolding terms_members
-terms_all scope order i made all past h = sym (append-nil made) ∙ sym (ap (λ us. made ++ terms_members scope us) (drop_all i order past)) ∙ h
+unfolding terms_for
+terms_all aim scope order i made all past h = sym (append-nil made) ∙ sym (ap (λ us. made ++ terms_for aim scope us) (drop_all i order past)) ∙ h
 
 pub passed_more : (scope all : Scope) (order : List ℕ) (i : ℕ) → i < length order
     → passed_all scope (drop i order) ≡ all → passed_all (passed scope (get_or order i 0)) (drop (i + 1) order) ≡ all

@@ -4,3 +4,4 @@ pub mod Words
 pub mod Tables
 pub mod Branches
 pub mod Inserted
+pub mod Aims

@@ -7,6 +7,9 @@ pub mod Members
 -- the conditions of an edge, over keys and then over numbers
 pub mod Keep
 pub mod Numbers
+-- the places that an alternative's slots leave out
+pub mod Gap
+pub mod Aim
 -- the conditions of several edges at one length
 pub mod Joint
 -- the table in which the code numbers variables

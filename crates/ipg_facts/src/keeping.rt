@@ -23,9 +23,9 @@ use std::alloc::{AllocError, Global};
 
 /// A grammar, and which of its rules must touch.
 #[derive(Clone, Copy)]
-struct Ground<'a> {
-    grammar: &'a Core,
-    marks: &'a [bool],
+pub struct Ground<'a> {
+    pub grammar: &'a Core,
+    pub marks: &'a [bool],
 }
 
 fn no_arrays(alloc: Global, count: usize) -> Result<Vec<Option<Bounds>>, AllocError>
@@ -40,7 +40,7 @@ fn no_arrays(alloc: Global, count: usize) -> Result<Vec<Option<Bounds>>, AllocEr
 
 /// An alternative none of whose arrays has run.
 #[tactic(auto, unfolding(crate::specs::Keep::opening))]
-fn opening<'a>(
+pub fn opening<'a>(
     alloc: Global,
     ground: Ground<'a>,
     edition: Edition,
@@ -59,7 +59,7 @@ fn opening<'a>(
     })
 }
 
-fn alt_of(rule: &CoreRule, alt: u32) -> Option<&CoreAlt>
+pub fn alt_of(rule: &CoreRule, alt: u32) -> Option<&CoreAlt>
     ensures { option_copied result ≡ slice_get rule.now.alts alt }
 {
     item_at(rule.alts.as_slice(), alt as usize)
@@ -131,8 +131,9 @@ fn put_held(
     }
 }
 
+/// What the holder puts, where the alternative mentions it.
 #[tactic(auto, unfolding(crate::specs::Keep::holder_facts, crate::specs::Keep::mentions_holder))]
-fn put_holder_facts(
+pub fn put_holder_facts(
     alloc: Global,
     out: &mut Vec<Fact>,
     ground: Ground,

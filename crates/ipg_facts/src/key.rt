@@ -14,6 +14,8 @@ use std::alloc::{AllocError, Global};
 pub const CALLER: u64 = 0;
 /// The side of the caller's holder.
 pub const HOLDER: u64 = 1;
+/// The side of a place that is missed.
+pub const POINT: u64 = 2;
 
 fn key(alloc: Global, numbers: &[u64]) -> Result<Key, AllocError>
     ensures { IfOk result (λ key. key ≡ numbers.now) }

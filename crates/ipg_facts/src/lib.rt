@@ -1,19 +1,24 @@
-//! The conditions under which a call keeps its caller's whole part, and their joining.
+//! The conditions under which a call keeps its caller's whole part, and their joining; those of a place that an alternative's
+//! slots leave out.
 #![tactic(auto)]
 
+mod aim;
 mod copying;
 mod edition;
 mod fact;
 mod form;
+mod gaps;
 mod joining;
 mod keeping;
 mod key;
 mod members;
+mod missing;
 mod numbers;
 mod put;
 mod reading;
 mod scope;
 mod touching;
 
+pub use gaps::gap;
 pub use joining::joint;
 pub use keeping::{keep, keep_before};

@@ -6,13 +6,17 @@ ghost use Rattle.ipg_facts.specs.Form as forms;
 ghost use Rattle.ipg_facts.specs.Key as keys;
 ghost use Rattle.ipg_facts.specs.Reading as reading;
 ghost use Rattle.ipg_facts.specs.Members as spec;
+ghost use Rattle.ipg_facts.specs.Gap as gaps;
+ghost use Rattle.ipg_facts.specs.Aim as aims;
 ghost use Rattle.ipg_facts.specs.View.{scope_of};
 
+use crate::aim::Aim;
 use crate::copying::copy_members;
 use crate::edition::Edition;
 use crate::fact::{Bounds, Fact, Form};
 use crate::form::variable;
 use crate::key::{attribute, loop_variable};
+use crate::missing::put_misses;
 use crate::put::{put_equal, put_leq, put_less};
 use crate::reading::{form_of, put_fails, put_holds};
 use crate::scope::{Scope, length_of, nought};
@@ -36,23 +40,65 @@ fn put_slot_members(
     put_on_interval(alloc, out, scope, &taken, &slot.sym)
 }
 
+/// What a slot puts, and that it misses the place.
+#[tactic(auto, using(crate::proofs::Puts::then, crate::proofs::Puts::then_last))]
+fn put_slot_gap(
+    alloc: Global,
+    out: &mut Vec<Fact>,
+    scope: &Scope,
+    term: u32,
+    slot: &CoreSlot,
+) -> Result<(), AllocError>
+    ensures { OnOk result (out.new.items ≡ out.old.items ++ gaps.slot_gap (scope_of scope.now) term slot.now) }
+{
+    let l = form_of(alloc, scope, &slot.from)?;
+    let r = form_of(alloc, scope, &slot.to)?;
+    let taken = Taken { term, l: &l, r: &r };
+    put_on_interval(alloc, out, scope, &taken, &slot.sym)?;
+    put_misses(alloc, out, &taken, &slot.sym)
+}
+
+/// A term that has run, and what its members are put for.
+#[derive(Clone, Copy)]
+struct Ran {
+    term: u32,
+    aim: Aim,
+}
+
+#[tactic(auto, unfolding(crate::specs::Aim::slot_for))]
+fn put_slot(
+    alloc: Global,
+    out: &mut Vec<Fact>,
+    scope: &Scope,
+    ran: Ran,
+    slot: &CoreSlot,
+) -> Result<(), AllocError>
+    ensures { OnOk result (out.new.items ≡ out.old.items ++ aims.slot_for ran.aim (scope_of scope.now) ran.term slot.now) }
+{
+    match ran.aim {
+        Aim::Keep => put_slot_members(alloc, out, scope, ran.term, slot),
+        Aim::Gap => put_slot_gap(alloc, out, scope, ran.term, slot),
+    }
+}
+
 /// The member of a branch: the conditions before it false, its own true, and what it puts as a slot.
 #[tactic(auto, using(crate::proofs::Puts::then, crate::proofs::Puts::then_last))]
 fn put_case(
     alloc: Global,
     out: &mut Vec<Fact>,
     scope: &Scope,
-    term: u32,
+    ran: Ran,
     earlier: &[Fact],
     case: &(CoreExpr, CoreSlot),
 ) -> Result<(), AllocError>
     ensures { OnOk result
         (out.new.items ≡ out.old.items
-        ++ Fact.All (earlier.now ++ ((reading.read (scope_of scope.now) case.now.0).holds ++ spec.slot_members (scope_of scope.now) term case.now.1)) ∷ []) }
+        ++ Fact.All (earlier.now
+        ++ ((reading.read (scope_of scope.now) case.now.0).holds ++ aims.slot_for ran.aim (scope_of scope.now) ran.term case.now.1)) ∷ []) }
 {
     let mut members = copy_members(alloc, earlier)?.into_vec();
     put_holds(alloc, &mut members, scope, &case.0)?;
-    put_slot_members(alloc, &mut members, scope, term, &case.1)?;
+    put_slot(alloc, &mut members, scope, ran, &case.1)?;
     out.push(Fact::All(List::from_vec(members)))?;
     Ok(())
 }
@@ -62,14 +108,15 @@ fn put_else(
     alloc: Global,
     out: &mut Vec<Fact>,
     scope: &Scope,
-    term: u32,
+    ran: Ran,
     earlier: Vec<Fact>,
     other: &CoreSlot,
 ) -> Result<(), AllocError>
-    ensures { OnOk result (out.new.items ≡ out.old.items ++ Fact.All (earlier.items ++ spec.slot_members (scope_of scope.now) term other.now) ∷ []) }
+    ensures { OnOk result
+        (out.new.items ≡ out.old.items ++ Fact.All (earlier.items ++ aims.slot_for ran.aim (scope_of scope.now) ran.term other.now) ∷ []) }
 {
     let mut members = earlier;
-    put_slot_members(alloc, &mut members, scope, term, other)?;
+    put_slot(alloc, &mut members, scope, ran, other)?;
     out.push(Fact::All(List::from_vec(members)))?;
     Ok(())
 }
@@ -78,19 +125,19 @@ fn put_else(
 fn branches(
     alloc: Global,
     scope: &Scope,
-    term: u32,
+    ran: Ran,
     cases: &[(CoreExpr, CoreSlot)],
     other: &CoreSlot,
 ) -> Result<Vec<Fact>, AllocError>
-    ensures { IfOk result (λ members. members.items ≡ spec.branches (scope_of scope.now) term [] cases.now other.now) }
+    ensures { IfOk result (λ members. members.items ≡ aims.branches_for ran.aim (scope_of scope.now) ran.term [] cases.now other.now) }
 {
     let mut members = Vec::new(alloc);
     let mut earlier = Vec::new(alloc);
     for case in cases {
-        put_case(alloc, &mut members, scope, term, earlier.as_slice(), case)?;
+        put_case(alloc, &mut members, scope, ran, earlier.as_slice(), case)?;
         put_fails(alloc, &mut earlier, scope, &case.0)?;
     }
-    put_else(alloc, &mut members, scope, term, earlier, other)?;
+    put_else(alloc, &mut members, scope, ran, earlier, other)?;
     Ok(members)
 }
 
@@ -98,13 +145,14 @@ fn put_switch(
     alloc: Global,
     out: &mut Vec<Fact>,
     scope: &Scope,
-    term: u32,
+    ran: Ran,
     cases: &[(CoreExpr, CoreSlot)],
     other: &CoreSlot,
 ) -> Result<(), AllocError>
-    ensures { OnOk result (out.new.items ≡ out.old.items ++ Fact.Any (spec.branches (scope_of scope.now) term [] cases.now other.now) ∷ []) }
+    ensures { OnOk result
+        (out.new.items ≡ out.old.items ++ Fact.Any (aims.branches_for ran.aim (scope_of scope.now) ran.term [] cases.now other.now) ∷ []) }
 {
-    let members = branches(alloc, scope, term, cases, other)?;
+    let members = branches(alloc, scope, ran, cases, other)?;
     out.push(Fact::Any(List::from_vec(members)))?;
     Ok(())
 }
@@ -124,18 +172,18 @@ fn put_set(
 }
 
 /// The members of a term that has run.
-#[tactic(auto, unfolding(crate::specs::Members::members))]
+#[tactic(auto, unfolding(crate::specs::Members::members, crate::specs::Aim::members_for))]
 fn put_term(
     alloc: Global,
     out: &mut Vec<Fact>,
     scope: &Scope,
-    number: u32,
+    ran: Ran,
     term: &CoreTerm,
 ) -> Result<(), AllocError>
-    ensures { OnOk result (out.new.items ≡ out.old.items ++ spec.members (scope_of scope.now) number (Some term.now)) }
+    ensures { OnOk result (out.new.items ≡ out.old.items ++ aims.members_for ran.aim (scope_of scope.now) ran.term (Some term.now)) }
 {
     match term {
-        CoreTerm::Slot(slot) => put_slot_members(alloc, out, scope, number, slot),
+        CoreTerm::Slot(slot) => put_slot(alloc, out, scope, ran, slot),
         CoreTerm::Set { attr, value } => put_set(alloc, out, scope, *attr, value),
         CoreTerm::Test(e) => put_holds(alloc, out, scope, e),
         CoreTerm::Repeat {
@@ -151,23 +199,23 @@ fn put_term(
             put_is_valid(alloc, out, scope, &l, &r)
         }
         CoreTerm::Pick { cases, other } => {
-            put_switch(alloc, out, scope, number, cases.as_slice(), other)
+            put_switch(alloc, out, scope, ran, cases.as_slice(), other)
         }
     }
 }
 
-#[tactic(auto, unfolding(crate::specs::Members::members))]
+#[tactic(auto, unfolding(crate::specs::Members::members, crate::specs::Aim::members_for))]
 fn put_members(
     alloc: Global,
     out: &mut Vec<Fact>,
     scope: &Scope,
-    number: u32,
+    ran: Ran,
 ) -> Result<(), AllocError>
-    ensures { OnOk result (out.new.items ≡ out.old.items ++ spec.members (scope_of scope.now) number (slice_get scope.now.terms.now number)) }
+    ensures { OnOk result (out.new.items ≡ out.old.items ++ aims.members_for ran.aim (scope_of scope.now) ran.term (slice_get scope.now.terms.now ran.term)) }
 {
-    match item_at(scope.terms, number as usize) {
+    match item_at(scope.terms, ran.term as usize) {
         None => Ok(()),
-        Some(term) => put_term(alloc, out, scope, number, term),
+        Some(term) => put_term(alloc, out, scope, ran, term),
     }
 }
 
@@ -250,6 +298,23 @@ fn pass(alloc: Global, scope: &mut Scope, term: u32) -> Result<(), AllocError>
     }
 }
 
+fn put_terms(
+    alloc: Global,
+    out: &mut Vec<Fact>,
+    scope: &mut Scope,
+    aim: Aim,
+    order: &[u32],
+) -> Result<(), AllocError>
+    ensures { OnOk result ((out.new.items ≡ out.old.items ++ aims.terms_for aim (scope_of scope.old) order.now)
+        × (scope_of scope.new ≡ spec.passed_all (scope_of scope.old) order.now)) }
+{
+    for term in order {
+        put_members(alloc, out, scope, Ran { term: *term, aim })?;
+        pass(alloc, scope, *term)?;
+    }
+    Ok(())
+}
+
 /// The members of terms that run one after another.
 pub fn put_terms_members(
     alloc: Global,
@@ -260,11 +325,19 @@ pub fn put_terms_members(
     ensures { OnOk result ((out.new.items ≡ out.old.items ++ spec.terms_members (scope_of scope.old) order.now)
         × (scope_of scope.new ≡ spec.passed_all (scope_of scope.old) order.now)) }
 {
-    for term in order {
-        put_members(alloc, out, scope, *term)?;
-        pass(alloc, scope, *term)?;
-    }
-    Ok(())
+    put_terms(alloc, out, scope, Aim::Keep, order)
+}
+
+/// The same, and of each slot that it misses the place.
+pub fn put_gap_terms(
+    alloc: Global,
+    out: &mut Vec<Fact>,
+    scope: &mut Scope,
+    order: &[u32],
+) -> Result<(), AllocError>
+    ensures { OnOk result (out.new.items ≡ out.old.items ++ gaps.gap_terms (scope_of scope.old) order.now) }
+{
+    put_terms(alloc, out, scope, Aim::Gap, order)
 }
 
 /// The call is made on the whole part.

@@ -28,7 +28,13 @@ pub mod Held
 pub mod Valuing
 pub mod Works
 pub mod Moments
+pub mod Holders
+pub mod Sides
 pub mod Solved
+pub mod Finished
+pub mod Seconds
+pub mod Misses
+pub mod Missed
 pub mod Parted
 pub mod Widths
 pub mod Cycles

@@ -16,12 +16,12 @@ use Rattle.ipg_facts.specs.declared.fact.Draft.{Draft}
 use Rattle.ipg_facts.specs.declared.fact.Fact.{Fact, roll-Fact, map-Fact, fold-roll-Fact, ind-Fact}
 use Rattle.ipg_facts.specs.declared.fact.Fact.TheOpen.{Fact-F}
 use Rattle.ipg_facts.specs.Key.{Key, whole, caller_side, holder_side}
-use Rattle.ipg_facts.specs.Numbers.{keys_in, keys_step, with_key, with_keys, keys_of, place, insert, numbered, formula_of, formula_step, bounds_of}
-use Rattle.ipg_facts_laws.specs.Valued.{Valuation, sum_of, so_step, is_so}
-use Rattle.ipg_facts_laws.specs.Laws.{IsInRange, FactsSolve}
+use Rattle.ipg_facts.specs.Numbers.{keys_in, keys_step, with_key, with_keys, keys_of, place, insert, numbered, formula_of, formula_step, bounds_of, all_of}
+use Rattle.ipg_facts_laws.specs.Valued.{Valuation, sum_of, so_step, is_so, are_so}
+use Rattle.ipg_facts_laws.specs.Laws.{IsInRange, Solves, FactsSolve}
 
 -- the key of a number
-abbrev key_at : List Key → ℕ → Key
+abbrev pub key_at : List Key → ℕ → Key
 key_at keys x = unwrap_or (slice_get keys x) []
 
 -- a key's number leads back to it
@@ -201,17 +201,23 @@ first_of : (b : Bool) (keys more : List Key) (m k : Key) → ((keys : List Key) 
 first_of true keys more m k f = f keys
 first_of false keys more m k f = f (keys ++ m ∷ [])
 
-first_stays : (more keys : List Key) (k : Key) → key_at (with_keys (k ∷ keys) more) 0 ≡ k
+pub first_stays : (more keys : List Key) (k : Key) → key_at (with_keys (k ∷ keys) more) 0 ≡ k
 first_stays [] keys k = refl
 first_stays (m ∷ more) keys k = first_of (list_any (bytes_eq m) (k ∷ keys)) keys more m k (λ keys. first_stays more keys k)
 
-pub facts_solve : FactsSolve
+-- the values by number solve the formula
+pub solved_by : (v : Valuation) (facts : List Fact) → IsInRange v → are_so v facts ≡ true → Solves (λ x. v (key_at (keys_of facts) x)) (all_of facts)
 unfolding keys_of
-facts_solve v facts r so =
+solved_by v facts r so =
     let keys : List Key = keys_of facts in
     let values : Assignment = λ x. v (key_at keys x) in
     let holds : holds_at values (formula.All (map (formula_of keys) facts)) ≡ true =
     ap (holds_at values) (sym (formula.rolls-All _)) ∙ fold-roll-Formula Bool (holds_step values) (Formula-F.All _)
     ∙ ap every (all_agree v values keys (λ key e. ap v (is_numbered keys key e)) facts (keys_have (whole caller_side ∷ []) (flat_map keys_in facts)))
     ∙ so in
-    (values, (lies v r keys, holds), ap v (first_stays (flat_map keys_in facts) [] (whole caller_side)))
+    (lies v r keys, holds)
+
+pub facts_solve : FactsSolve
+unfolding keys_of
+facts_solve v facts r so =
+    (λ x. v (key_at (keys_of facts) x), solved_by v facts r so, ap v (first_stays (flat_map keys_in facts) [] (whole caller_side)))

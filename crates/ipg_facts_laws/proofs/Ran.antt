@@ -29,15 +29,19 @@ use Rattle.ipg_facts_laws.proofs.Forms.{so_append, so_equal, so_leq, so_less, al
 use Rattle.ipg_facts_laws.proofs.Relate.{stands_nought, stands_key, stands_length, known}
 use Rattle.ipg_facts_laws.proofs.Slots.{so_slot, so_valid}
 
-or_true : (a b : Bool) → b ≡ true → a || b ≡ true
+pub or_true : (a b : Bool) → b ≡ true → a || b ≡ true
 or_true true b e = refl
 or_true false b e = e
 
+module _ (v : Valuation) where
+  pub one_so : (fs : List Fact) (rest : List Bool) → AreSo v fs → is_so v (facts.All fs) || some rest ≡ true
+  one_so fs rest h = ap (λ b. b || some rest) (all_is v fs ∙ h)
+
+  pub any_so : (fs : List Fact) → some (map (is_so v) fs) ≡ true → AreSo v (facts.Any fs ∷ [])
+  any_so fs h = rw (any_is v fs, h) refl
+
 module _ (v : Valuation) (scope : Scope) (env : Environment) (fits : Fits v scope env) where
   module _ (size : env.eoi ≤ 2 ^ 30) (number : ℕ) where
-    one_so : (fs : List Fact) (rest : List Bool) → AreSo v fs → is_so v (facts.All fs) || some rest ≡ true
-    one_so fs rest h = ap (λ b. b || some rest) (all_is v fs ∙ h)
-
     chosen_so : (zero : Bool) (earlier : List Fact) (c : CoreExpr × CoreSlot) (cases : List (CoreExpr × CoreSlot)) (other : CoreSlot) (x : ℤ)
         → eval c.0 env ≡ Val x → is_zero x ≡ zero → AreSo v earlier
         → Chosen zero (SlotRan scope.marks env number c.1) (PickRan scope.marks env number cases other)
@@ -46,7 +50,7 @@ module _ (v : Valuation) (scope : Scope) (env : Environment) (fits : Fits v scop
         → some (map (is_so v) (branches scope number earlier (c ∷ cases) other)) ≡ true
     unfolding branches
     chosen_so false earlier c cases other x e f h ran rest =
-        one_so (earlier ++ ((read scope c.0).holds ++ slot_members scope number c.1))
+        one_so v (earlier ++ ((read scope c.0).holds ++ slot_members scope number c.1))
         (map (is_so v) (branches scope number (earlier ++ (read scope c.0).fails) cases other))
         (so_append v earlier _ h (so_append v (read scope c.0).holds (slot_members scope number c.1) ((known v scope env fits c.0 x e).holds f)
         (so_slot v scope env fits size number c.1 ran)))
@@ -57,12 +61,9 @@ module _ (v : Valuation) (scope : Scope) (env : Environment) (fits : Fits v scop
         → some (map (is_so v) (branches scope number earlier cases other)) ≡ true
     unfolding branches
     branches_so [] other earlier h ran =
-        one_so (earlier ++ slot_members scope number other) []
+        one_so v (earlier ++ slot_members scope number other) []
         (so_append v earlier (slot_members scope number other) h (so_slot v scope env fits size number other ran))
     branches_so (c ∷ cases) other earlier h ran = chosen_so (is_zero ran.0) earlier c cases other ran.0 ran.1 refl h ran.2 (branches_so cases other)
-
-    any_so : (fs : List Fact) → some (map (is_so v) fs) ≡ true → AreSo v (facts.Any fs ∷ [])
-    any_so fs h = rw (any_is v fs, h) refl
 
     members_so : (term : CoreTerm) → TermRan scope.marks env number term → AreSo v (members scope number (Some term))
     unfolding members
@@ -76,7 +77,7 @@ module _ (v : Valuation) (scope : Scope) (env : Environment) (fits : Fits v scop
     members_so (Many item from to) ran =
         so_valid v scope env fits size (form scope from) (form scope to) ran.l ran.r (known v scope env fits from (pos ran.l) ran.is_left).form
         (known v scope env fits to (pos ran.r) ran.is_right).form ran.order ran.inside
-    members_so (Pick cases other) ran = any_so (branches scope number [] cases other) (branches_so cases other [] refl ran)
+    members_so (Pick cases other) ran = any_so v (branches scope number [] cases other) (branches_so cases other [] refl ran)
 
   whole_so : (from to : CoreExpr) → IsWholeCall env from to → AreSo v (is_whole scope from to)
   unfolding is_whole
@@ -191,7 +192,7 @@ module _ (v : Valuation) (scope : Scope) (env : Environment) (fits : Fits v scop
   bounds_fit Earlier u first last from to item e ran = fits
   bounds_fit Later u first last from to item e ran = array_fits u first last from to item e ran
 
-  passed_fits : (u : ℕ) (term : Option CoreTerm) → slice_get scope.terms u ≡ term → AtRan scope.marks env u term
+  pub passed_fits : (u : ℕ) (term : Option CoreTerm) → slice_get scope.terms u ≡ term → AtRan scope.marks env u term
       → Fits v (record scope { arrays = arrays_with scope u term }) env
   unfolding arrays_with
   passed_fits u None e ran = fits
@@ -202,13 +203,13 @@ module _ (v : Valuation) (scope : Scope) (env : Environment) (fits : Fits v scop
   passed_fits u (Some (Many item from to)) e ran = fits
   passed_fits u (Some (Pick cases other)) e ran = fits
 
-at_so : (v : Valuation) (scope : Scope) (env : Environment) → Fits v scope env → env.eoi ≤ 2 ^ 30 → (u : ℕ) (term : Option CoreTerm)
+pub at_so : (v : Valuation) (scope : Scope) (env : Environment) → Fits v scope env → env.eoi ≤ 2 ^ 30 → (u : ℕ) (term : Option CoreTerm)
     → AtRan scope.marks env u term → AreSo v (members scope u term)
 unfolding members
 at_so v scope env fits size u None ran = refl
 at_so v scope env fits size u (Some term) ran = members_so v scope env fits size u term ran
 
-passed_ran : (scope : Scope) (env : Environment) (u : ℕ) (order : List ℕ) → AllRan scope env order → AllRan (passed scope u) env order
+pub passed_ran : (scope : Scope) (env : Environment) (u : ℕ) (order : List ℕ) → AllRan scope env order → AllRan (passed scope u) env order
 unfolding passed
 passed_ran scope env u [] ran = tt
 passed_ran scope env u (w ∷ order) ran = (ran.0, passed_ran scope env u order ran.1)

@@ -10,6 +10,10 @@ pub mod Grows
 pub mod Reached
 -- what the laws say
 pub mod Laws
+-- alternatives whose terms have all run
+pub mod Finished
+-- places that their results miss
+pub mod Missed
 -- bounds of joints
 pub mod Bounded
 -- walks along the edges of a graph
@@ -26,3 +30,5 @@ pub mod Ends
 pub mod Before
 -- conditions leave no empty choice
 pub mod Offers
+-- the variables of a gap's formula
+pub mod Gapped

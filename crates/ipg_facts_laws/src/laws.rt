@@ -2,6 +2,9 @@
 
 ghost use Rattle.ipg_facts_laws.specs.Before.{JointsSolveBefore, KeepsSolveBefore, SolutionsHold};
 ghost use Rattle.ipg_facts_laws.specs.Bounded.{JointIsPart};
+ghost use Rattle.ipg_facts_laws.specs.Finished.{FinishedFit};
+ghost use Rattle.ipg_facts_laws.specs.Gapped.{GapsAreBounded};
+ghost use Rattle.ipg_facts_laws.specs.Missed.{AllMissedSolve};
 ghost use Rattle.ipg_facts_laws.specs.Offers.{ConditionsOffer, JointsOffer};
 ghost use Rattle.ipg_facts_laws.specs.Laws.{ConditionsAreParts, EdgesAreFew, EdgesAreInside, EdgesCall, FactsSolve, JointSolvesParts, MembersAreKnown};
 ghost use Rattle.ipg_facts_laws.specs.Laws.{OwnMembersAreKnown, PartsSolveJoint, ReachedCyclesSolve, ReachedEdgesSolve, SpellingsDiffer, TermsAreKnown};
@@ -116,6 +119,23 @@ pub fn reached_cycles_solve()
     touching_touches();
 }
 
+/// Where all terms of an alternative have run, on what it may be asked, there are values in range that fit the state that they
+/// led to, at which what its holder puts holds. A place on a side of its own may have any value among them.
+pub fn finished_fit()
+    ensures { FinishedFit }
+{
+    lies_within();
+    touching_touches();
+}
+
+/// Where each of its results misses a place of the part, the alternative's gap formula has a solution with that length and place.
+pub fn all_missed_solve()
+    ensures { AllMissedSolve }
+{
+    lies_within();
+    touching_touches();
+}
+
 /// Each Any of an edge's conditions has a member.
 pub fn conditions_offer()
     ensures { ConditionsOffer }
@@ -124,4 +144,9 @@ pub fn conditions_offer()
 /// Each Any of a joint has one, where that is so of its parts.
 pub fn joints_offer()
     ensures { JointsOffer }
+{}
+
+/// The formula of a gap has bounds for each of its variables, of which the second is the place.
+pub fn gaps_are_bounded()
+    ensures { GapsAreBounded }
 {}
