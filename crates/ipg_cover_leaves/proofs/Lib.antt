@@ -18,6 +18,8 @@ pub mod Seeing
 pub mod Sitting
 -- one answer
 pub mod Agreed
+-- places that leaves cover
+pub mod Covered
 -- numbers and their bytes
 pub mod Numbers
 -- a byte more on the page

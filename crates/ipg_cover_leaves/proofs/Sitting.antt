@@ -44,8 +44,13 @@ bytes_take zero xs h = tt
 bytes_take (suc n) [] h = h
 bytes_take (suc n) (x ∷ xs) h = (h.0, bytes_take n xs h.1)
 
-bytes_part : (xs : List ℕ) (from to : ℕ) → AreBytes xs → AreBytes (part xs from to)
+pub bytes_part : (xs : List ℕ) (from to : ℕ) → AreBytes xs → AreBytes (part xs from to)
 bytes_part xs from to h = bytes_take (to - from) (drop from xs) (bytes_drop from xs h)
+
+pub seen_append : (xs ys : List Seen) → leaves_seen (xs ++ ys) ≡ leaves_seen xs ++ leaves_seen ys
+seen_append [] ys = refl
+seen_append (x ∷ xs) ys =
+    ap (λ more. leaf_in x.at x.child ++ more) (seen_append xs ys) ∙ sym (append_assoc (leaf_in x.at x.child) (leaves_seen xs) (leaves_seen ys))
 
 module _ (s : List ℕ) where
   sits_take : (at n : ℕ) (these : List ℕ) → Sits s at these → Sits s at (take n these)
@@ -84,11 +89,6 @@ module _ (s : List ℕ) where
     | inl here ↦ leaf_sits leaf of.0 put here
     | inr more ↦ leaves_sit leaves of.1 put more
   ]
-
-  seen_append : (xs ys : List Seen) → leaves_seen (xs ++ ys) ≡ leaves_seen xs ++ leaves_seen ys
-  seen_append [] ys = refl
-  seen_append (x ∷ xs) ys =
-      ap (λ more. leaf_in x.at x.child ++ more) (seen_append xs ys) ∙ sym (append_assoc (leaf_in x.at x.child) (leaves_seen xs) (leaves_seen ys))
 
   mutual
     tree_of : (depth at : ℕ) (these : List ℕ) (one : Tree) → TreeHolds these one → Sits s at these → AreBytes these

@@ -6,5 +6,7 @@ pub mod Leaves
 pub mod Back
 -- laws
 pub mod Laws
+-- the places that they cover
+pub mod Covers
 -- what the page holds while they are put
 pub mod Page

@@ -1,0 +1,4 @@
+pub mod Flags
+pub mod Fixed
+pub mod Once
+pub mod Tried

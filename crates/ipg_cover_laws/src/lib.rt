@@ -1,0 +1,4 @@
+//! Laws of what the leaves of a tree cover of its input.
+#![tactic(auto)]
+
+pub mod laws;
