@@ -5,3 +5,6 @@ pub mod Fields
 pub mod Appended
 pub mod Sums
 pub mod Names
+pub mod Turns
+pub mod Alone
+pub mod Bodies

@@ -10,7 +10,7 @@ use Rattle.ipg_core.specs.declared.grammar.CoreAlt.{CoreAlt}
 use Rattle.ipg_core.specs.declared.grammar.CoreRule.{CoreRule}
 use Rattle.ipg_reader.specs.declared.fault.Fault.{Fault}
 use Rattle.ipg_reader.specs.declared.fault.Fault.TheVariants.{At, Memory}
-use Rattle.ipg_reader.specs.Found.{chain, tag_at, Ends, whole_of}
+use Rattle.ipg_reader.specs.Found.{Found, chain, tag_at, Ends, whole_of}
 use Rattle.ipg_reader.specs.Exact.{AreBytes, IsExact}
 use Rattle.ipg_reader.specs.Laws.{ShortAreExact, LongAreExact, SignedAreExact, TextsAreExact}
 use Rattle.ipg_reader.specs.Chains.{IsBehind, exact_tagged}
@@ -123,6 +123,17 @@ module _ (short_is : ShortAreExact) (long_is : LongAreExact) (signed_is : Signed
   unfolding body_at
   exact_bodies = of_parts (pair (many long_is (texts short_is texts_are)) (many long_is rules)) (λ x. record { names = x.0; rules = x.1 })
       FitsBody spelled (λ x is. is) (λ x is. refl) (λ body is. ((body.names, body.rules), is, refl))
+
+  -- ---- bytes are the body of one grammar
+
+  abbrev value_in : Body → Found Body → Body
+  value_in other (Ok found) = found.0
+  value_in other (Err left) = other
+
+  pub one_body : (text : List ℕ) (a b : Body) → IsBody a text → IsBody b text → a ≡ b
+  one_body text a b is_a is_b =
+      ap (value_in a)
+      (sym (exact_bodies.again a [] is_a.0) ∙ ap (λ t. body_at (t ++ [])) (sym is_a.1 ∙ is_b.1) ∙ exact_bodies.again b [] is_b.0)
 
   -- ---- what a reader of all bytes answers
 

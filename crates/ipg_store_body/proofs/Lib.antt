@@ -5,3 +5,4 @@ pub mod Exprs
 pub mod Bodies
 pub mod Written
 pub mod Bare
+pub mod Shallow

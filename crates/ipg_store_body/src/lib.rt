@@ -2,6 +2,7 @@
 #![tactic(auto)]
 
 mod body;
+pub mod laws;
 mod reading;
 mod tag;
 #[cfg(test)]

@@ -1,0 +1,5 @@
+pub mod Firsts
+pub mod Opened
+pub mod Once
+pub mod Saved
+pub mod Joined

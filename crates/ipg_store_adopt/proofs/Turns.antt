@@ -1,0 +1,14 @@
+-- One more item at a time, of what a list of items is made into.
+use Rattle.std.proofs.Common.{◌≡◌, ℕ, refl, sym, ap, ◌∙◌, arith, List, [], ◌∷◌, ◌++◌, append-nil, map, length}
+
+map_more : {X Y : Type 0} (f : X → Y) (xs : List X) (x : X) → map f (xs ++ x ∷ []) ≡ map f xs ++ f x ∷ []
+map_more f [] x = refl
+map_more f (y ∷ xs) x = ap (λ ys. f y ∷ ys) (map_more f xs x)
+
+pub map_turn : {X Y : Type 0} (f : X → Y) (xs : List X) (x : X) (made : List Y) (y : Y) → made ≡ map f xs → y ≡ f x → made ++ y ∷ [] ≡ map f (xs ++ x ∷ [])
+map_turn f xs x made y is one = ap (λ ms. ms ++ y ∷ []) is ∙ ap (λ z. map f xs ++ z ∷ []) one ∙ sym (map_more f xs x)
+
+-- where nothing is left, all items have come
+pub all_came : {X : Type 0} (came left all : List X) (count : ℕ) → came ++ left ≡ all → count ≡ length left → count ≡ 0 → came ≡ all
+all_came came [] all count is many none = sym (append-nil came) ∙ is
+all_came came (x ∷ left) all count is many none = absurd (omega (arith, many, none))

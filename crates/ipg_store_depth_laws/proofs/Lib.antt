@@ -1,0 +1,4 @@
+pub mod Nesting
+pub mod Names
+pub mod Lefts
+pub mod Whole
