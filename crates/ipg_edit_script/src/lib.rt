@@ -1,0 +1,12 @@
+//! Scripts of edits, and how they are read.
+#![tactic(auto)]
+
+pub mod laws;
+mod pos;
+mod reading;
+mod script;
+#[cfg(test)]
+mod tests;
+
+pub use reading::{ScriptFault, read};
+pub use script::Edit;

@@ -1,0 +1,125 @@
+//! Reads a script.
+ghost use Rattle.std.specs.Prelude.{◌≡◌, [], Some, None, IfOk, MatchResult, if◌then◌else◌};
+ghost use Rattle.std.specs.Prelude.{ℕ, List};
+ghost use Rattle.ipg_edit_script.specs.Scripts.{IsScript, IsFault};
+ghost use Rattle.ipg_edit_script.specs.Reader.{start, closed, step, ended};
+ghost use Rattle.ipg_edit_script.specs.Reading.{seen};
+ghost use Rattle.ipg_edit_script.specs.declared.script.Edit.{Edit as Asked};
+ghost use Rattle.ipg_edit_script.specs.declared.reading.ScriptFault.TheVariants.{Memory};
+
+use crate::pos::{Pos, Turn, turn_at};
+use crate::script::Edit;
+use ipg_num::List;
+use std::alloc::{AllocError, Global};
+use std::mem;
+
+/// Why a text is no script.
+#[derive(Clone, Copy, Debug, Drop, PartialEq, Eq)]
+pub enum ScriptFault {
+    /// No script goes on with the byte at this place, or the text ends here.
+    EditText { at: u64 },
+    Memory,
+}
+
+impl From<AllocError> for ScriptFault {
+    ghost from_gives = { λ _ fault. fault ≡ Memory };
+
+    fn from(_: AllocError) -> ScriptFault {
+        ScriptFault::Memory
+    }
+}
+
+/// The edits read so far, the bytes of the one at hand, and the place within its line.
+#[derive(Drop)]
+struct Reader {
+    alloc: Global,
+    edits: Vec<Edit>,
+    with: Vec<u8>,
+    at: Pos,
+}
+
+impl Reader {
+    fn new(alloc: Global) -> Reader
+        ensures { seen result ≡ start }
+    {
+        Reader {
+            alloc,
+            edits: Vec::new(alloc),
+            with: Vec::new(alloc),
+            at: Pos::Line,
+        }
+    }
+
+    /// Hands out the bytes at hand, and begins others.
+    fn take_bytes(&mut self) -> List<u8>
+        ensures bytes { result ≡ (seen self.old).with }
+        ensures rest { seen self.new ≡ record (seen self.old) { with = [] } }
+    {
+        let with = mem::replace(&mut self.with, Vec::new(self.alloc));
+        List::from_vec(with)
+    }
+
+    /// Puts the edit at hand behind the others, and begins another line.
+    fn close(&mut self, from: u32, to: u32) -> Result<(), AllocError>
+        ensures { IfOk result (λ _. seen self.new ≡ closed from to (seen self.old)) }
+    {
+        let with = self.take_bytes();
+        self.edits.push(Edit { from, to, with })?;
+        self.at = Pos::Line;
+        Ok(())
+    }
+
+    /// Takes a byte, if a script goes on with it.
+    fn take(&mut self, b: u8) -> Result<bool, AllocError>
+        ensures { IfOk result (λ on. step (seen self.old) b ≡ (if on then Some (seen self.new) else None)) }
+    {
+        match turn_at(self.at, b) {
+            Turn::Stuck => Ok(false),
+            Turn::To(at) => {
+                self.at = at;
+                Ok(true)
+            }
+            Turn::Add(byte, at) => {
+                self.with.push(byte)?;
+                self.at = at;
+                Ok(true)
+            }
+            Turn::End(from, to) => {
+                self.close(from, to)?;
+                Ok(true)
+            }
+        }
+    }
+
+    /// The edits, where a script may end here.
+    fn finish(self) -> Option<List<Edit>>
+        ensures { result ≡ ended (seen self) }
+    {
+        match self.at {
+            Pos::Line => Some(List::from_vec(self.edits)),
+            _ => None,
+        }
+    }
+}
+
+/// The edits that a text is a script of.
+///
+/// # Errors
+/// `EditText` has the first byte that no script goes on with, or the text's length where it ends too early.
+pub fn read(alloc: Global, text: &[u8]) -> Result<List<Edit>, ScriptFault>
+    ensures is { MatchResult result (λ edits. IsScript edits text.now) (λ fault. IsFault text.now fault) }
+    ensures back { (edits : List Asked) → IsScript edits text.now → MatchResult result (λ found. found ≡ edits) (λ fault. fault ≡ Memory) }
+{
+    let mut reader = Reader::new(alloc);
+    let mut next = 0;
+    while next < text.len() {
+        if !reader.take(text[next])? {
+            return Err(ScriptFault::EditText { at: next as u64 });
+        }
+        next += 1;
+    }
+    match reader.finish() {
+        Some(edits) => Ok(edits),
+        None => Err(ScriptFault::EditText { at: next as u64 }),
+    }
+}
