@@ -1,8 +1,8 @@
-"""Rows worked by hand: words, a grammar, an input, and what the program answers.
+"""Rows worked by hand, and cases made by independent implementations: words, a grammar, an input, and what the program answers.
 
   rows.py COMMAND..
 
-A row has a name, the words, a status and what is known of the text: all of it (`stdout`), its first line (`head`), its last
+A row has a name, the words, a status and what is known of the text: all of it (`stdout`, `stdout_hex`), its first line (`head`), its last
 lines (`tail`), one line by its number (`line`), or how many there are (`count`). `files` are further files in hexadecimal,
 `input_zeros` an input of so many zeros, `grammar_parts` a grammar of texts so often repeated, `path_parts` a path of such, the
 last of the words. With `prefixes` each prefix of
@@ -17,7 +17,14 @@ import sys
 import tempfile
 from concurrent.futures import ThreadPoolExecutor
 
-ROWS = os.path.join(os.path.dirname(os.path.abspath(__file__)), "vectors", "rows.json")
+HERE = os.path.dirname(os.path.abspath(__file__))
+# what each file of rows is
+ROWS = {
+    "rows": "rows worked by hand",
+    "loads": "table files and inputs of independent implementations",
+    "covers": "grammars of independent implementations",
+    "rebuilds": "grammars and inputs of independent implementations",
+}
 
 
 def call(command, words, folder):
@@ -43,6 +50,8 @@ def joined(parts):
 def text_differs(row, text):
     """What of the text is not as the row has it, or None."""
     if "stdout" in row and text != row["stdout"].encode("latin-1"):
+        return "the text"
+    if "stdout_hex" in row and text != bytes.fromhex(row["stdout_hex"]):
         return "the text"
     lines = text.decode("latin-1").split("\n")
     known = {"head": lines[0], "count": len(lines) - 1}
@@ -88,17 +97,24 @@ def differs(command, row):
         return what and f"{what}: {text[:300]!r}"
 
 
-def main():
-    command = [os.path.abspath(sys.argv[1])] + sys.argv[2:]
-    with open(ROWS) as file:
-        rows = json.load(file)
+def differ(command, rows, kind, what):
+    """Tells which rows of a file differ, and gives 1 where one does."""
     with ThreadPoolExecutor(2) as pool:
         found = list(pool.map(lambda row: differs(command, row), rows))
-    differing = [(row["name"], what) for row, what in zip(rows, found) if what is not None]
-    for name, what in differing:
-        print(f"rows: {name}: {what}")
-    print(f"rows: {len(rows)} rows worked by hand, {len(differing)} differ")
+    differing = [(row["name"], why) for row, why in zip(rows, found) if why is not None]
+    for name, why in differing:
+        print(f"{kind}: {name}: {why}")
+    print(f"{kind}: {len(rows)} {what}, {len(differing)} differ")
     return 1 if differing else 0
+
+
+def main():
+    command = [os.path.abspath(sys.argv[1])] + sys.argv[2:]
+    failed = 0
+    for name, what in ROWS.items():
+        with open(os.path.join(HERE, "vectors", name + ".json")) as file:
+            failed |= differ(command, json.load(file), name, what)
+    return failed
 
 
 if __name__ == "__main__":

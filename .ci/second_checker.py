@@ -674,25 +674,39 @@ def match(certificate, edges):
         raise Mismatch(len(certificate.dead) + len(certificate.cycles))
 
 
+def unsound_entry(grammar, certificate):
+    """The first entry whose refutation doesn't check, or None; entries have to be those that are due."""
+    edges = edges_of(grammar)
+    match(certificate, edges)
+    marks = grammar.must_touch()
+    entries = [([edge], steps) for edge, steps in certificate.dead] + certificate.cycles
+    for entry, (path, steps) in enumerate(entries):
+        if not is_refuted(steps, [keep(grammar, marks, edges[n]) for n in path]):
+            return entry
+    return None
+
+
+def faulty_entry(grammar, certificate):
+    """The entry at fault, or None."""
+    try:
+        return unsound_entry(grammar, certificate)
+    except Mismatch as fault:
+        return fault.args[0]
+
+
 def verdict(grammar, certificate):
     """What `verify` says of the two texts, and its status."""
     try:
         grammar = Grammar(Text(grammar).grammar())
         certificate = Certificate(certificate)
-        edges = edges_of(grammar)
-        match(certificate, edges)
+        entry = unsound_entry(grammar, certificate)
     except (NotGrammar, Refused):
         return 2, "not a grammar\n"
     except CertText as fault:
         return 9, "refused C1 CertText %d\n" % fault.args
     except Mismatch as fault:
         return 9, "refused C2 Mismatch %d\n" % fault.args
-    marks = grammar.must_touch()
-    entries = [([edge], steps) for edge, steps in certificate.dead] + certificate.cycles
-    for entry, (path, steps) in enumerate(entries):
-        if not is_refuted(steps, [keep(grammar, marks, edges[n]) for n in path]):
-            return 9, "refused C3 Unsound %d\n" % entry
-    return 0, "verified\n"
+    return (0, "verified\n") if entry is None else (9, "refused C3 Unsound %d\n" % entry)
 
 
 def content(name):

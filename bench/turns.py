@@ -1,10 +1,11 @@
 """Two commands that take turns: the least time of 25 runs of each, or of five where a run takes half a second and more, its
 peak of memory, and how many times as long the first takes as the second.
 
-  turns.py [--goal TIMES] [--memory-goal TIMES] [--most-ms MS] [--most-mib MIB] [--per-line BYTES] NAME FIRST.. -- SECOND..
+  turns.py [--goal TIMES] [--memory-goal TIMES] [--most-ms MS] [--most-mib MIB] [--per-line BYTES] [--any-status] NAME FIRST.. -- SECOND..
 
 The goals are for TIMES, of time and of memory, and for the FIRST's time, its memory, and its memory for each line that it prints, beside the file
-that is its fourth word. A goal that is missed is said to be, and ends nothing; a command that doesn't end with status 0 does.
+that is its fourth word. A goal that is missed is said to be, and ends nothing; a command that doesn't end with status 0 does, but with
+--any-status one that ends by itself is timed.
 """
 
 import argparse
@@ -17,12 +18,12 @@ import time
 SHORT = 500  # milliseconds
 
 
-def timed(words):
+def timed(words, any_status):
     """Milliseconds."""
     begun = time.monotonic()
     done = subprocess.run(words, stdout=subprocess.DEVNULL, stderr=subprocess.DEVNULL)
     took = time.monotonic() - begun
-    if done.returncode:
+    if done.returncode and not (any_status and done.returncode > 0):
         sys.exit(f"{words}: status {done.returncode}")
     return took * 1000
 
@@ -53,6 +54,7 @@ def parsed():
     reader = argparse.ArgumentParser(usage=__doc__)
     for name in ("--goal", "--memory-goal", "--most-ms", "--most-mib", "--per-line"):
         reader.add_argument(name, type=float)
+    reader.add_argument("--any-status", action="store_true")
     reader.add_argument("name")
     reader.add_argument("words", nargs=argparse.REMAINDER)
     return reader.parse_args()
@@ -62,8 +64,9 @@ def main():
     asked = parsed()
     at = asked.words.index("--")
     first, second = asked.words[:at], asked.words[at + 1:]
-    rounds = [(timed(first), timed(second))]
-    rounds += [(timed(first), timed(second)) for _ in range(24 if rounds[0][0] < SHORT else 4)]
+    both = lambda: (timed(first, asked.any_status), timed(second, asked.any_status))
+    rounds = [both()]
+    rounds += [both() for _ in range(24 if rounds[0][0] < SHORT else 4)]
     ours, theirs = (min(taken) for taken in zip(*rounds))
     most = peak(first)
     row = [asked.name, held(ours, asked.most_ms, "ms"), held(most, asked.most_mib, "MiB")]

@@ -39,7 +39,7 @@ complete_by_bash() {
   bash -c '. editors/completions/ipg.bash; COMP_WORDS=("$@"); COMP_CWORD=$(($# - 1)); _ipg; echo "${COMPREPLY[*]}"' bash "$@"
 }
 expect 'parse' complete_by_bash ipg p
-expect 'check cert' complete_by_bash ipg c
+expect 'check cert cover' complete_by_bash ipg c
 expect '@gif' complete_by_bash ipg parse @g
 expect 'formats/png.ipg' complete_by_bash ipg parse formats/png
 expect '--memo' complete_by_bash ipg parse @gif x --m

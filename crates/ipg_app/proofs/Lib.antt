@@ -7,6 +7,9 @@ pub mod OneCheck
 pub mod OneVerdict
 pub mod OneParse
 pub mod Meant
+pub mod Nesting
 pub mod Hits
 pub mod Verified
+pub mod Pieces
+pub mod Rebuilt
 pub mod OneReply

@@ -25,10 +25,12 @@ use Rattle.ipg_mach_nodes.specs.Stored.{Source}
 use Rattle.ipg_query.specs.Hits.{IsTree}
 use Rattle.ipg_tree.specs.Shares as printed
 use Rattle.ipg_app.specs.declared.task.Show.{Show}
-use Rattle.ipg_app.specs.Queried.{shown}
-use Rattle.ipg_app.specs.Answered.{Answers, Fails, PutsTree}
+use Rattle.ipg_cover_leaves.specs.Leaves as leaves
+use Rattle.ipg_app.specs.Shown.{Shows}
+use Rattle.ipg_app.specs.Answered.{Answers, Fails, PutsText, PutsTree}
 use Rattle.ipg_app.specs.Measured.{IsSize}
 use Rattle.ipg_app.specs.declared.answering.Given.{Given}
+use Rattle.ipg_app.specs.declared.answering.Given.TheVariants as given
 use Rattle.ipg_app.specs.declared.answering.AnswerFault.{AnswerFault}
 use Rattle.ipg_app.specs.declared.answering.AnswerFault.TheVariants as fault
 use Rattle.ipg_app.specs.declared.measuring.Size.{Size}
@@ -87,30 +89,36 @@ printable parse src g one h = record {
 
 module _ (show : Show) (g : Grammar) (input : List ℕ) (answer : Result Tree Stop) (means : Means g input answer) (one : Tree) (is_one : answer ≡ Ok one)
     (before : Option Output) (counted : ℕ) (after : Option Output) (counts : ℕ) where
-  -- what is shown of the input, by another name of its bytes
-  renamed : (bytes : List ℕ) (r : Result Given AnswerFault) → bytes ≡ input → PutsTree r (shown show g bytes one) before counted after counts
-      → PutsTree r (shown show g input one) before counted after counts
-  renamed bytes r e h = subst (λ b. PutsTree r (shown show g b one) before counted after counts) e h
-
-  given : (r : Result Given AnswerFault) → PutsTree r (shown show g input one) before counted after counts
+  pub given_of : (r : Result Given AnswerFault) → PutsTree show g input one r before counted after counts
       → IfOk r (λ x. Answers show g input x before counted after counts)
-  given (Ok x) h = subst (λ x. Answers show g input x before counted after counts) (sym h.0)
-      (record { answer = answer; means = means; is = (one, is_one, h.1) })
-  given (Err x) h = tt
+  given_of (Ok x) h = record { answer = Ok one; means = subst (Means g input) is_one means; is = h }
+  given_of (Err x) h = tt
 
-  failed : (r : Result Given AnswerFault) → PutsTree r (shown show g input one) before counted after counts
+  pub fault_of : (r : Result Given AnswerFault) → PutsTree show g input one r before counted after counts
       → IfErr r (λ x. Fails show g input x before counted after counts)
-  failed (Ok x) h = tt
-  failed (Err fault.Memory) h = h
-  failed (Err fault.Write) h = record { tree = one; means = subst (Means g input) is_one means; part = h }
+  fault_of (Ok x) h = tt
+  fault_of (Err fault.Memory) h = h
+  fault_of (Err fault.Write) h = record { tree = one; means = subst (Means g input) is_one means; text = h.0; shows = h.1; part = h.2 }
 
-  pub given_of : (bytes : List ℕ) (r : Result Given AnswerFault) → bytes ≡ input → PutsTree r (shown show g bytes one) before counted after counts
-      → IfOk r (λ x. Answers show g input x before counted after counts)
-  given_of bytes r e h = given r (renamed bytes r e h)
+-- a text that is what is shown of a tree
+pub puts_of : (show : Show) (g : Grammar) (input : List ℕ) (one : Tree) (text : List ℕ) (r : Result Given AnswerFault) (before : Option Output) (counted : ℕ)
+    (after : Option Output) (counts : ℕ) → Shows show g input one text → PutsText r text before counted after counts
+    → PutsTree show g input one r before counted after counts
+puts_of show g input one text (Ok given.Tree) before counted after counts shows h = (one, refl, text, shows, h.1)
+puts_of show g input one text (Ok given.NoTree) before counted after counts shows h = absurd (let e = h.0 in cc)
+puts_of show g input one text (Ok given.Range) before counted after counts shows h = absurd (let e = h.0 in cc)
+puts_of show g input one text (Ok (given.Gap at)) before counted after counts shows h = absurd (let e = h.0 in cc)
+puts_of show g input one text (Err fault.Memory) before counted after counts shows h = h
+puts_of show g input one text (Err fault.Write) before counted after counts shows h = (text, shows, h)
 
-  pub fault_of : (bytes : List ℕ) (r : Result Given AnswerFault) → bytes ≡ input → PutsTree r (shown show g bytes one) before counted after counts
-      → IfErr r (λ x. Fails show g input x before counted after counts)
-  fault_of bytes r e h = failed r (renamed bytes r e h)
+-- its leaves can be listed
+pub leafy : (parse : Parse) (src : Source) (g : Grammar) (one : Tree) → IsTree parse src g one → leaves.IsTree parse src one
+leafy parse src g one h = record {
+  source = record { syms = h.shares.syms; input = h.shares.input };
+  stands = h.stands;
+  within = h.within;
+  small = h.small;
+}
 
 -- ---- how large a tree is
 

@@ -16,17 +16,23 @@ use Rattle.ipg_query_path.specs.declared.path.Query as paths
 use Rattle.ipg_query_path.specs.Laws.{OnePath}
 use Rattle.ipg_query_path.specs.Paths.{IsPath, IsFirstFault}
 use Rattle.ipg_app_words.specs.Request as words
-use Rattle.ipg_app_words.specs.Request.{Request, Use, Fmt, Trial, Query, request_of}
+use Rattle.ipg_app_words.specs.Request.{Request, Use, Fmt, Trial, Query, Load, request_of}
 use Rattle.ipg_app.specs.declared.task.Show.{Show}
-use Rattle.ipg_app.specs.declared.task.Show.TheVariants.{Lines, Picked}
+use Rattle.ipg_app.specs.declared.task.Show.TheVariants.{Lines, Picked, Bytes}
 use Rattle.ipg_app.specs.Certificate.{Reads, Judges, cert_text, proof_said}
 use Rattle.ipg_app.specs.Checks.{Checks}
 use Rattle.ipg_app.specs.CoreOf.{CoreOf, grammar_in}
 use Rattle.ipg_app.specs.Laws.{OneCore, OneCheck, OneParse, OneReply, HasOneReply}
 use Rattle.ipg_app.specs.Order.{Order, Answers, says, finds, reads, only, have}
 use Rattle.ipg_app.specs.Path.{ReadsPath, query_syntax}
-use Rattle.ipg_app.specs.Reply.{Task, Parse, Check, Cert, Verify, text_by, core_of, accepted, input_in, parse_input, judge, formatted}
-use Rattle.ipg_app.specs.Reply.{order_by, order_on, use_order, Parses}
+use Rattle.ipg_app.specs.Reply.{Task, Parse, Check, Cert, Verify, Table, Cover, text_by, core_of, accepted, input_in, parse_input, judge, formatted}
+use Rattle.ipg_app.specs.Reply.{order_by, order_on, use_order, load_in, Parses}
+use Rattle.ipg_app.specs.Covering.{CoverSays, may_gap}
+use Rattle.ipg_cover.specs.Laws.{CoveredHasNoGap, OneGap}
+use Rattle.ipg_app.specs.Tables.{Loads, load_said}
+use Rattle.ipg_store.specs.declared.fault.LoadFault.{LoadFault}
+use Rattle.ipg_store.specs.declared.fault.LoadFault.TheVariants as none
+use Rattle.ipg_store.specs.Laws.{LoadOnce}
 use Rattle.ipg_read_tokens.specs.Shaped.{canonical_text}
 use Rattle.std.specs.Prelude.{codes}
 use Rattle.ipg_app.specs.Said.{Said, done, done_line, usage, read_fault}
@@ -93,6 +99,30 @@ path_same one_path text (Ok a) (Err said) p q = absurd (q.fault.whole a p)
 path_same one_path text (Err said) (Ok b) p q = absurd (p.fault.whole b q)
 path_same one_path text (Err one) (Err other) p q = ap Err (p.is ∙ ap query_syntax (one_path_fault text p.at q.at p.fault q.fault) ∙ sym q.is)
 
+unloaded : (fault : LoadFault) (said : Said) → fault ≡ none.Memory → load_said fault ≡ Some said → ⊥
+unloaded fault said e is = let none = sym (ap load_said e) ∙ is in absurd (cc)
+
+load_same : (fault other : LoadFault) (one two : Said) → fault ≡ other → load_said fault ≡ Some one → load_said other ≡ Some two → one ≡ two
+load_same fault other one two e p q = let both : Some one ≡ Some two = sym p ∙ ap load_said e ∙ q in cc
+
+loads_same : LoadOnce → (file : List ℕ) (x y : Result Grammar Said) → Loads file x → Loads file y → x ≡ y
+loads_same once file (Ok g) (Ok h) p q = elim (once file (Ok g) (Ok h) p q) [
+  | inl e ↦ absurd (cc)
+  | inr more ↦ elim more [ inl e ↦ absurd (cc) | inr e ↦ cc ]
+]
+loads_same once file (Ok g) (Err said) p q = elim (once file (Ok g) (Err q.fault) p q.holds) [
+  | inl e ↦ absurd (cc)
+  | inr more ↦ elim more [ inl e ↦ absurd (unloaded q.fault said (cc) q.is) | inr e ↦ absurd (cc) ]
+]
+loads_same once file (Err said) (Ok h) p q = elim (once file (Err p.fault) (Ok h) p.holds q) [
+  | inl e ↦ absurd (unloaded p.fault said (cc) p.is)
+  | inr more ↦ elim more [ inl e ↦ absurd (cc) | inr e ↦ absurd (cc) ]
+]
+loads_same once file (Err one) (Err other) p q = elim (once file (Err p.fault) (Err q.fault) p.holds q.holds) [
+  | inl e ↦ absurd (unloaded p.fault one (cc) p.is)
+  | inr more ↦ elim more [ inl e ↦ absurd (unloaded q.fault other (cc) q.is) | inr e ↦ ap Err (load_same p.fault q.fault one other (cc) p.is q.is) ]
+]
+
 unsaid : (why : ProofWhy) (said : Said) → why ≡ Memory → proof_said why ≡ Some said → ⊥
 unsaid why said e is = let none = sym (ap proof_said e) ∙ is in absurd (cc)
 
@@ -108,6 +138,14 @@ judged_same no_fault is_one g c one other (inr f) (inr h) = elim (is_one g c f.w
   | inr more ↦ elim more [ inl e ↦ absurd (unsaid h.why other e h.is) | inr e ↦ said_same f.why h.why one other e f.is h.is ]
 ]
 
+covers_same : CoveredHasNoGap → OneGap → (g : Grammar) (one other : Said) → CoverSays g one → CoverSays g other → one ≡ other
+covers_same no_gap one_gap g one other (inl p) (inl q) = p.is ∙ sym q.is
+covers_same no_gap one_gap g one other (inl p) (inr q) = absurd (no_gap g p.refutations q.place q.at q.eoi p.covers q.gap)
+covers_same no_gap one_gap g one other (inr p) (inl q) = absurd (no_gap g q.refutations p.place p.at p.eoi q.covers p.gap)
+covers_same no_gap one_gap g one other (inr p) (inr q) =
+    let same = one_gap g p.place q.place p.at p.eoi q.at q.eoi p.gap q.gap in
+    p.is ∙ ap (λ place. may_gap g place p.at p.eoi) same.0 ∙ ap (λ at. may_gap g q.place at p.eoi) same.1 ∙ ap (may_gap g q.place q.at) same.2 ∙ sym q.is
+
 -- ---- orders that say one thing
 
 abbrev IsNoCert : Task → Type 0
@@ -115,6 +153,8 @@ IsNoCert (Parse show input) = Unit {0}
 IsNoCert Check = Unit {0}
 IsNoCert Cert = ⊥
 IsNoCert (Verify certificate) = Unit {0}
+IsNoCert Table = ⊥
+IsNoCert Cover = Unit {0}
 
 module _ (told : List ℕ → Told) where
   abbrev IsOne : Order → Type 0
@@ -154,6 +194,7 @@ module _ (told : List ℕ → Told) where
   one_text None name next known each = one_read name next known each
 
   module _ (one_core : OneCore) (one_check : OneCheck) (one_parse : OneParse) (one_path : OnePath) (no_fault : ProvesIsNoFault) (is_one : FaultIsOne)
+      (load_once : LoadOnce) (no_gap : CoveredHasNoGap) (one_gap : OneGap)
       (known : (name : List ℕ) → told name ≢ untold) where
     one_accepted : (g : Grammar) (next : Grammar → Order) → ((same : Grammar) → IsOne (next same)) → IsOne (accepted g next)
     one_accepted g next each =
@@ -175,6 +216,11 @@ module _ (told : List ℕ → Told) where
         one_read input (λ bytes. have (input_in bytes) (λ these. says (Parses show g these))) (known input)
         (λ bytes. one_bytes bytes (λ these. says (Parses show g these)) (one_parse show g))
 
+    one_load : (file input : List ℕ) → IsOne (load_in input file)
+    one_load file input =
+        one_found (Loads file) (λ answer. have answer (parse_input Lines input)) (loads_same load_once file)
+        (λ answer. one_have answer (parse_input Lines input) (one_parse_of Lines input))
+
     one_task : (task : Task) (g : Grammar) → IsNoCert task → IsOne (order_by task g)
     one_task (Parse show input) g settled = one_accepted g (parse_input show input) (one_parse_of show input)
     one_task Check g settled = one_accepted g (λ same. only (done_line (codes "accepted"))) (λ same. one_only (done_line (codes "accepted")))
@@ -182,6 +228,8 @@ module _ (told : List ℕ → Told) where
     one_task (Verify certificate) g settled =
         one_read certificate (λ bytes. have (input_in bytes) (λ text. judge text g)) (known certificate)
         (λ bytes. one_bytes bytes (λ text. judge text g) (λ text. one_judge text g))
+    one_task Table g settled = absurd settled
+    one_task Cover g settled = one_accepted g (λ same. says (CoverSays same)) (λ same. covers_same no_gap one_gap same)
 
     one_use : (grammar : List ℕ) (task : Task) → IsNoCert task → IsOne (use_order grammar task)
     one_use grammar task settled =
@@ -194,6 +242,12 @@ module _ (told : List ℕ → Told) where
     one_request (Some (Use grammar words.Check)) settled = one_use grammar Check tt
     one_request (Some (Use grammar words.Cert)) settled = absurd settled
     one_request (Some (Use grammar (words.Verify certificate))) settled = one_use grammar (Verify certificate) tt
+    one_request (Some (Use grammar words.Table)) settled = absurd settled
+    one_request (Some (Use grammar words.Cover)) settled = one_use grammar Cover tt
+    one_request (Some (Use grammar (words.Rebuild input))) settled = one_use grammar (Parse Bytes input) tt
+    one_request (Some (Load table input)) settled =
+        one_read table (λ bytes. have (input_in bytes) (load_in input)) (known table)
+        (λ bytes. one_bytes bytes (load_in input) (λ file. one_load file input))
     one_request (Some (Fmt grammar)) settled =
         one_text (kind_of grammar) grammar (λ text. have (grammar_in text) formatted) (known grammar)
         (λ text. one_have (grammar_in text) formatted (λ g. one_only (done (canonical_text g))))
@@ -202,6 +256,6 @@ module _ (told : List ℕ → Told) where
         one_found (ReadsPath path) (λ read. have read (λ query. use_order grammar (Parse (Picked query) input))) (path_same one_path path)
         (λ read. one_have read (λ query. use_order grammar (Parse (Picked query) input)) (λ query. one_use grammar (Parse (Picked query) input) tt))
 
-pub one_reply : OneCore → OneCheck → OneParse → OnePath → ProvesIsNoFault → FaultIsOne → OneReply
-one_reply one_core one_check one_parse one_path no_fault is_one told words one other known plain =
-    one_request told one_core one_check one_parse one_path no_fault is_one known (request_of words) plain one other
+pub one_reply : OneCore → OneCheck → OneParse → OnePath → ProvesIsNoFault → FaultIsOne → LoadOnce → CoveredHasNoGap → OneGap → OneReply
+one_reply one_core one_check one_parse one_path no_fault is_one load_once no_gap one_gap told words one other known plain =
+    one_request told one_core one_check one_parse one_path no_fault is_one load_once no_gap one_gap known (request_of words) plain one other

@@ -12,7 +12,8 @@ use Rattle.ipg_app.specs.Order.{Order, says, finds, reads, Answers, Turn, have}
 use Rattle.ipg_formats.specs.declared.Kind.{Kind}
 use Rattle.ipg_formats.specs.Names.{kind_of}
 use Rattle.ipg_formats.specs.Text.{text_of}
-use Rattle.ipg_app.specs.Reply.{input_in, text_by, grammar_of, core_of, grammar_under, core_under, accepted, path_in, max_input}
+use Rattle.ipg_app.specs.Reply.{input_in, text_by, grammar_of, core_of, grammar_under, core_under, accepted, path_in, held_in, max_input}
+use Rattle.ipg_app.specs.Tables.{Loads}
 use Rattle.ipg_query_path.specs.declared.path.Query.{Query}
 use Rattle.ipg_app.specs.Path.{ReadsPath}
 use Rattle.ipg_app.specs.Run.{Settles}
@@ -74,6 +75,15 @@ module _ (told : List ℕ → Told) (before after : List ℕ → ℕ) where
 
   pub no_path : (text : List ℕ) (next : Query → Order) (said : Said) → ReadsPath text (Err said) → Settled (path_in text next) said
   no_path text next said h = inl (Err said, h, refl)
+
+  -- the grammar of a table file leads on
+  pub held_goes_on : (file : List ℕ) (next : Grammar → Order) (said : Said) (g : Grammar) → Loads file (Ok g) → Settled (next g) said
+      → Settled (held_in file next) said
+  held_goes_on file next said g h (inl a) = inl (Ok g, h, a)
+  held_goes_on file next said g h (inr f) = inr (record { name = f.name; turn = (Ok g, h, f.turn); rose = f.rose; is = f.is })
+
+  pub none_held : (file : List ℕ) (next : Grammar → Order) (said : Said) → Loads file (Err said) → Settled (held_in file next) said
+  none_held file next said h = inl (Err said, h, refl)
 
   -- a step settles what is said
   pub settles_by : {A : Type 0} (r : Result A Said) (next : A → Order) (said x : Said) → r ≡ Err x → said ≡ x → Settled (have r next) said
@@ -172,9 +182,15 @@ input_too_long bytes h = ap (λ b. cond b (Ok bytes) (Err too_large)) (let e : n
 input_fits : (bytes : List ℕ) → length bytes ≤ max_input → input_in bytes ≡ Ok bytes
 input_fits bytes h = ap (λ b. cond b (Ok bytes) (Err too_large)) (let e : nat_le (length bytes) max_input ≡ true = grind (arith, nat_tests) in e)
 
+-- what a file holds that isn't too long leads on
+pub read_goes_on : (told : List ℕ → Told) (before after : List ℕ → ℕ) (name : List ℕ) (next : List ℕ → Order) (said : Said) (bytes : List ℕ)
+    → MayHold (told name) bytes → length bytes ≤ max_input → Settles told before after (next bytes) said
+    → Settles told before after (reads name (λ b. have (input_in b) next)) said
+read_goes_on told before after name next said bytes held fits h =
+    goes_on told before after name (λ b. have (input_in b) next) said bytes held
+    (subst (λ r. Settles told before after (have r next) said) (sym (input_fits bytes fits)) h)
+
 pub read_on : (told : List ℕ → Told) (before after : List ℕ → ℕ) (name : List ℕ) (next : List ℕ → Order) (said : Said) (bytes : List ℕ)
     → MayHold (told name) bytes → length bytes ≤ max_input → Answers told (next bytes) said
     → Settles told before after (reads name (λ b. have (input_in b) next)) said
-read_on told before after name next said bytes held fits a =
-    goes_on told before after name (λ b. have (input_in b) next) said bytes held
-    (inl (subst (λ r. Answers told (have r next) said) (sym (input_fits bytes fits)) a))
+read_on told before after name next said bytes held fits a = read_goes_on told before after name next said bytes held fits (inl a)

@@ -1,9 +1,15 @@
 -- What holds of core grammars and refusals.
-use Rattle.std.specs.Prelude.{◌≡◌, ◌≢◌, ◌≤◌, ℕ, List, length, Option, Some, None}
+use Rattle.std.specs.Prelude.{◌≡◌, ◌≢◌, ◌≤◌, ℕ, List, length, Option, Some, None, Ok}
 use Rattle.ipg_outside.specs.Files.{Told, untold, holds}
 use Rattle.ipg_core.specs.Grammar.{Grammar}
 use Rattle.ipg_app_words.specs.Request as words
-use Rattle.ipg_app_words.specs.Request.{Request, Use, Fmt, Trial, Query, request_of}
+use Rattle.ipg_app_words.specs.Request.{Request, Use, Fmt, Trial, Query, Load, request_of}
+use Rattle.ipg_core.specs.Good.{Good}
+use Rattle.ipg_core.specs.Grown.{IsInput}
+use Rattle.ipg_core.specs.Meaning.{Means}
+use Rattle.ipg_core.specs.Tree.{Tree}
+use Rattle.ipg_app.specs.Covering.{IsCovered}
+use Rattle.ipg_app.specs.declared.task.Show.TheVariants.{Bytes}
 use Rattle.ipg_app.specs.Said.{Said, done}
 use Rattle.ipg_app.specs.Order.{Answers}
 use Rattle.ipg_app.specs.declared.task.Show.{Show}
@@ -34,16 +40,25 @@ abbrev pub CertIsVerified : Type 0
 CertIsVerified = (g : Grammar) (text : List ℕ) → Certifies g (done text) → length text ≤ max_input
     → (told : List ℕ → Told) (name : List ℕ) (said : Said) → told name ≡ holds text → Answers told (verify name g) said → said ≡ verified
 
--- `cert` may write the text of any certificate that proves the grammar, and of a trial no such law is known
+-- `cert` and `table` may write any certificate that proves the grammar, and of a trial no such law is known
 abbrev pub HasOneReply : Option Request → Type 0
 HasOneReply None = Unit {0}
 HasOneReply (Some (Use grammar (words.Parse input memo mib))) = Unit {0}
 HasOneReply (Some (Use grammar words.Check)) = Unit {0}
 HasOneReply (Some (Use grammar words.Cert)) = ⊥
 HasOneReply (Some (Use grammar (words.Verify certificate))) = Unit {0}
+HasOneReply (Some (Use grammar words.Table)) = ⊥
+HasOneReply (Some (Use grammar words.Cover)) = Unit {0}
+HasOneReply (Some (Use grammar (words.Rebuild input))) = Unit {0}
 HasOneReply (Some (Fmt grammar)) = Unit {0}
 HasOneReply (Some (Trial kind n)) = ⊥
 HasOneReply (Some (Query grammar input path)) = Unit {0}
+HasOneReply (Some (Load table input)) = Unit {0}
+
+-- where `cover` says that a grammar leaves no byte out, `rebuild` says of an input that has a tree just that input
+abbrev pub CoveredIsRebuilt : Type 0
+CoveredIsRebuilt = (g : Grammar) (input : List ℕ) (tree : Tree) (covered said : Said) → Good g → IsInput input → IsCovered g covered
+    → Means g input (Ok tree) → Parses Bytes g input said → said ≡ done input
 
 -- to other words the program says one thing, where something is told of each file
 abbrev pub OneReply : Type 0

@@ -7,12 +7,17 @@ pub mod CoreOf
 -- whether parsing by it ends, and certificates that it does
 pub mod Checks
 pub mod Certificate
+-- table files
+pub mod Tables
+-- grammars that leave no byte out
+pub mod Covering
 -- what is answered of an input, and how large its tree is
 pub mod Answered
 pub mod Measured
 -- paths, and what is shown of a tree
 pub mod Path
 pub mod Queried
+pub mod Shown
 -- a trial on a sample
 pub mod Trial
 -- in which order it answers, and what it does outside

@@ -11,15 +11,17 @@ use Rattle.ipg_query_path.specs.declared.path.Query as paths
 use Rattle.ipg_formats.specs.Names.{kind_of}
 use Rattle.ipg_formats.specs.Text.{text_of}
 use Rattle.ipg_app_words.specs.Request as words
-use Rattle.ipg_app_words.specs.Request.{Request, Use, Fmt, Trial, Query, request_of}
+use Rattle.ipg_app_words.specs.Request.{Request, Use, Fmt, Trial, Query, Load, request_of}
 use Rattle.ipg_app.specs.declared.task.Show.{Show}
-use Rattle.ipg_app.specs.declared.task.Show.TheVariants.{Lines, Picked}
+use Rattle.ipg_app.specs.declared.task.Show.TheVariants.{Lines, Picked, Bytes}
 use Rattle.ipg_app.specs.Said.{Said, done, done_line, usage, no_parse, range, too_large}
 use Rattle.ipg_app.specs.CoreOf.{grammar_in, CoreOf}
 use Rattle.ipg_app.specs.Checks.{Checks}
 use Rattle.ipg_app.specs.Certificate.{Certifies, Reads, Judges}
+use Rattle.ipg_app.specs.Tables.{Tables, Loads}
+use Rattle.ipg_app.specs.Covering.{CoverSays}
 use Rattle.ipg_app.specs.Path.{ReadsPath}
-use Rattle.ipg_app.specs.Queried.{shown}
+use Rattle.ipg_app.specs.Shown.{TreeSays}
 use Rattle.ipg_app.specs.Trial.{Tries, kind_by, parts_in}
 use Rattle.ipg_app.specs.Order.{Order, Step, says, only, found, have, contents, ◌>>=◌}
 
@@ -68,17 +70,17 @@ abbrev pub input_in : List ℕ → Result (List ℕ) Said
 input_in bytes = if nat_le (length bytes) max_input then Ok bytes else Err too_large
 
 -- what is said of a parse, by what is to be shown of a tree; nothing of one that has no answer
-abbrev pub parse_said : Show → Grammar → List ℕ → Result Tree Stop → Option Said
-parse_said show g input (Ok tree) = Some (done (shown show g input tree))
-parse_said show g input (Err NoTree) = Some no_parse
-parse_said show g input (Err OutOfRange) = Some range
-parse_said show g input (Err Deep) = None
+abbrev pub ParseSays : Show → Grammar → List ℕ → Result Tree Stop → Said → Type 0
+ParseSays show g input (Ok tree) said = TreeSays show g input tree said
+ParseSays show g input (Err NoTree) said = said ≡ no_parse
+ParseSays show g input (Err OutOfRange) said = said ≡ range
+ParseSays show g input (Err Deep) said = ⊥
 
 -- what is said of the parse of an input by a grammar
 pub record Parses (show : Show) (g : Grammar) (input : List ℕ) (said : Said) : Type 0 where
   pub answer : Result Tree Stop
   pub means : Means g input answer
-  pub is : parse_said show g input answer ≡ Some said
+  pub is : ParseSays show g input answer said
 
 -- Q1
 abbrev pub path_in : List ℕ → Step paths.Query
@@ -110,6 +112,16 @@ cert g = do
   same ← accepted g
   says (Certifies same)
 
+abbrev pub table : Grammar → Order
+table g = do
+  same ← accepted g
+  says (Tables same)
+
+abbrev pub cover : Grammar → Order
+cover g = do
+  same ← accepted g
+  says (CoverSays same)
+
 -- C1, then C2 and C3
 abbrev pub judge : List ℕ → Grammar → Order
 judge text g = do
@@ -122,6 +134,26 @@ verify name g = do
   bytes ← contents name
   text ← have (input_in bytes)
   judge text g
+
+-- ---- the command that reads a table file
+
+-- L1 to L6
+abbrev pub held_in : List ℕ → Step Grammar
+held_in file next = do
+  answer ← found (Loads file)
+  g ← have answer
+  next g
+
+abbrev pub load_in : List ℕ → List ℕ → Order
+load_in input file = do
+  g ← held_in file
+  parse_input Lines input g
+
+abbrev pub load : (table input : List ℕ) → Order
+load table input = do
+  bytes ← contents table
+  file ← have (input_in bytes)
+  load_in input file
 
 -- ---- the command that tries a built-in grammar
 
@@ -160,6 +192,8 @@ pub data Task : Type 0 where
   Check : Task
   Cert : Task
   Verify : (certificate : List ℕ) → Task
+  Table : Task
+  Cover : Task
 
 -- neither the memo nor the size of the heap has a part in what is said
 abbrev pub task_of : words.Task → Task
@@ -167,12 +201,17 @@ task_of (words.Parse input memo mib) = Parse Lines input
 task_of words.Check = Check
 task_of words.Cert = Cert
 task_of (words.Verify certificate) = Verify certificate
+task_of words.Table = Table
+task_of words.Cover = Cover
+task_of (words.Rebuild input) = Parse Bytes input
 
 abbrev pub order_by : Task → Grammar → Order
 order_by (Parse show input) g = parse show input g
 order_by Check g = check g
 order_by Cert g = cert g
 order_by (Verify certificate) g = verify certificate g
+order_by Table g = table g
+order_by Cover g = cover g
 
 abbrev pub use_order : List ℕ → Task → Order
 use_order grammar task = do
@@ -190,6 +229,7 @@ order_on (Some (Use grammar task)) = use_order grammar (task_of task)
 order_on (Some (Fmt grammar)) = fmt grammar
 order_on (Some (Trial kind n)) = trial kind n
 order_on (Some (Query grammar input path)) = query grammar input path
+order_on (Some (Load table input)) = load table input
 order_on None = only usage
 
 abbrev pub order_of : List (List ℕ) → Order

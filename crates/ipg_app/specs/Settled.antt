@@ -1,8 +1,5 @@
 -- What functions promise each other of a reply: that it is settled, and that it goes out.
 use Rattle.std.specs.Prelude.{◌≡◌, ℕ, ◌≤◌, ◌⊎◌, ⊤, List, length, Option, Some, Result}
-use Rattle.ipg_core.specs.Grammar.{Grammar}
-use Rattle.ipg_core.specs.Tree.{Tree}
-use Rattle.ipg_core.specs.Run.{Stop}
 use Rattle.ipg_outside.specs.Faults.{Rose}
 use Rattle.ipg_outside.specs.Files.{Told}
 use Rattle.ipg_outside.specs.Sink.{Output, Breaks, Tells}
@@ -12,12 +9,11 @@ use Rattle.ipg_app.specs.declared.answering.AnswerFault.{AnswerFault}
 use Rattle.ipg_app.specs.declared.answering.AnswerFault.TheVariants as fault
 use Rattle.ipg_app.specs.Said.{Said, read_fault, too_large}
 use Rattle.ipg_app.specs.Order.{Order}
-use Rattle.ipg_app.specs.Reply.{Parses, parse_said, max_input, Task, Parse, Check, Cert, Verify}
+use Rattle.ipg_app.specs.Reply.{Parses, max_input, Task, Parse, Check, Cert, Verify, Table, Cover}
 use Rattle.ipg_app.specs.Run.{Settles, Writes}
 use Rattle.ipg_app.specs.Lines.{said_of}
 use Rattle.ipg_app.specs.declared.reply.Reply.{Reply}
 use Rattle.ipg_app.specs.declared.reply.Reply.TheVariants as reply
-use Rattle.ipg_app.specs.declared.task.Show.{Show}
 use Rattle.ipg_app.specs.declared.task.Task as code
 use Rattle.ipg_app.specs.declared.task.Task.TheVariants as task
 use Rattle.ipg_mach.specs.declared.machine.Remember.{Remember}
@@ -38,6 +34,8 @@ task_seen (task.Parse input room show) = Parse show input.now
 task_seen task.Check = Check
 task_seen task.Cert = Cert
 task_seen (task.Verify certificate) = Verify certificate.now
+task_seen task.Table = Table
+task_seen task.Cover = Cover
 
 -- ---- what is settled
 
@@ -74,13 +72,6 @@ GoesOut said before counted after counts s =
 abbrev pub Replies : (Said → Type 0) → Option Output → ℕ → Option Output → ℕ → Status → Type 0
 Replies P before counted after counts s =
     ((said : Said) × P said × GoesOut said before counted after counts s) ⊎ ((s ≡ status.Memory) × (after ≡ before))
-
--- what is said of an answer
-pub record Concludes (show : Show) (g : Grammar) (input : List ℕ) (answer : Result Tree Stop) (before : Option Output) (counted : ℕ)
-    (after : Option Output) (counts : ℕ) (s : Status) : Type 0 where
-  pub said : Said
-  pub is : parse_said show g input answer ≡ Some said
-  pub goes : GoesOut said before counted after counts s
 
 abbrev pub fault_status : AnswerFault → Status
 fault_status fault.Memory = status.Memory

@@ -1,4 +1,4 @@
-//! An input is parsed, and its tree printed.
+//! An input is parsed, and what is to be shown of its tree is written.
 
 ghost use Rattle.std.specs.Prelude.{◌≡◌, ◌≤◌, ◌^◌, length, IfOk, IfErr, Result};
 ghost use Rattle.ipg_core.specs.Grammar.{Grammar};
@@ -9,12 +9,14 @@ ghost use Rattle.ipg_core.specs.Tree.{Tree};
 ghost use Rattle.ipg_mach_nodes.specs.Stored.{Source};
 ghost use Rattle.ipg_query.specs.Hits.{IsTree};
 ghost use Rattle.ipg_query.specs.Picked.{picked};
-ghost use Rattle.ipg_app.specs.Answered.{Answers, Fails, PutsTree};
-ghost use Rattle.ipg_app.specs.Queried.{picks_text, shown};
+ghost use Rattle.ipg_app.specs.Answered.{Answers, Fails, PutsText, PutsTree};
+ghost use Rattle.ipg_app.specs.Queried.{picks_text};
+ghost use Rattle.ipg_app.specs.declared.task.Show.TheVariants as show;
 
 use crate::querying::put_hits;
 use crate::task::Show;
 use ipg_core::accepted::Checked;
+use ipg_cover_leaves::{PutFault, leaves, put_back};
 use ipg_mach::{Outcome, Parsed, Remember, parse};
 use ipg_outside::Sink;
 use ipg_query::select;
@@ -41,6 +43,8 @@ pub enum Given {
     NoTree,
     /// A value left 64 bits.
     Range,
+    /// The leaves of its tree put no byte at this place, the least such one.
+    Gap { at: u32 },
 }
 
 /// Why the answer is not given whole.
@@ -77,7 +81,7 @@ fn put_lines<A: Allocator + Clone + Drop, S: Sink>(
     out: &mut S,
 ) -> Result<Given, AnswerFault>
     ensures { (src : Source) (g : Grammar) (one : Tree) → IsTree parsed.old.parse src g one
-        → PutsTree result (lines g one 0) (S.output out.old) (S.faults out.old) (S.output out.new) (S.faults out.new) }
+        → PutsText result (lines g one 0) (S.output out.old) (S.faults out.old) (S.output out.new) (S.faults out.new) }
 {
     match print(parsed, out) {
         Ok(()) => Ok(Given::Tree),
@@ -93,7 +97,7 @@ fn put_picked<A: Allocator + Clone + Drop, S: Sink>(
     out: &mut S,
 ) -> Result<Given, AnswerFault>
     ensures { (src : Source) (g : Grammar) (one : Tree) → IsTree parsed.now.parse src g one
-        → PutsTree result (picks_text (picked g parsed.now.parse.input query.now one)) (S.output out.old) (S.faults out.old)
+        → PutsText result (picks_text (picked g parsed.now.parse.input query.now one)) (S.output out.old) (S.faults out.old)
         (S.output out.new) (S.faults out.new) }
 {
     let hits = select(alloc, query, parsed)?;
@@ -103,19 +107,52 @@ fn put_picked<A: Allocator + Clone + Drop, S: Sink>(
     }
 }
 
-/// Writes what is to be shown of a parsed tree.
-fn put<A: Allocator + Clone + Drop, S: Sink>(
+/// Writes a text at once.
+fn put_text<S: Sink>(text: &[u8], out: &mut S) -> Result<Given, AnswerFault>
+    ensures { PutsText result text.now (S.output out.old) (S.faults out.old) (S.output out.new) (S.faults out.new) }
+{
+    match out.write(text) {
+        Ok(()) => Ok(Given::Tree),
+        Err(_) => Err(AnswerFault::Write),
+    }
+}
+
+/// Writes the bytes that the leaves of a parsed tree put back, where they leave none out. The leaves of a tree agree
+/// (`ipg_cover_leaves::laws::leaves_agree`), so no other fault of theirs comes than a gap.
+fn put_bytes<A: Allocator + Clone + Drop, S: Sink>(
     alloc: Global,
-    show: &Show,
+    input: &[u8],
     parsed: &mut Parsed<'_, A>,
     out: &mut S,
 ) -> Result<Given, AnswerFault>
+    requires { length input.now ≤ 2 ^ 30 }
     ensures { (src : Source) (g : Grammar) (one : Tree) → IsTree parsed.old.parse src g one
-        → PutsTree result (shown show.now g parsed.old.parse.input one) (S.output out.old) (S.faults out.old) (S.output out.new) (S.faults out.new) }
+        → PutsTree show.Bytes g input.now one result (S.output out.old) (S.faults out.old) (S.output out.new) (S.faults out.new) }
+{
+    let leaves = leaves(alloc, parsed)?;
+    match put_back(alloc, &leaves, input.len() as u32) {
+        Ok(bytes) => put_text(&bytes, out),
+        Err(PutFault::Gap { at }) => Ok(Given::Gap { at }),
+        Err(_) => Err(AnswerFault::Memory),
+    }
+}
+
+/// Writes what is to be shown of the parsed tree of an input.
+fn put<A: Allocator + Clone + Drop, S: Sink>(
+    alloc: Global,
+    show: &Show,
+    input: &[u8],
+    parsed: &mut Parsed<'_, A>,
+    out: &mut S,
+) -> Result<Given, AnswerFault>
+    requires { length input.now ≤ 2 ^ 30 }
+    ensures { (src : Source) (g : Grammar) (one : Tree) → IsTree parsed.old.parse src g one → parsed.old.parse.input ≡ input.now
+        → PutsTree show.now g input.now one result (S.output out.old) (S.faults out.old) (S.output out.new) (S.faults out.new) }
 {
     match show {
         Show::Lines => put_lines(parsed, out),
         Show::Picked(query) => put_picked(alloc, query, parsed, out),
+        Show::Bytes => put_bytes(alloc, input, parsed, out),
     }
 }
 
@@ -139,7 +176,7 @@ pub fn answer<S: Sink>(
     let heap = LocalHeap::new(alloc, room.mib as usize * BYTES_PER_MIB)?;
     has_answer(grammar, input);
     match parse(&heap, &tables, input, room.remember)? {
-        Outcome::Tree(mut parsed) => put(alloc, show, &mut parsed, out),
+        Outcome::Tree(mut parsed) => put(alloc, show, input, &mut parsed, out),
         Outcome::NoTree(_) => Ok(Given::NoTree),
         Outcome::Range(_) => Ok(Given::Range),
     }

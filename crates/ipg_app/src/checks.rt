@@ -1,11 +1,13 @@
 //! Checks that parsing by a core grammar ends.
 ghost use Rattle.std.specs.Prelude.{◌≡◌, Ok, Err, IfOk, MatchResult};
+ghost use Rattle.std.specs.List.{AllByRecursion};
+ghost use Rattle.ipg_store_body.specs.Fits.{NestsRule};
 ghost use Rattle.ipg_proof.specs.Proves.{Proves};
-ghost use Rattle.ipg_proof.specs.Texts.{text_of, IsSpeakable};
+ghost use Rattle.ipg_proof.specs.Texts.{IsSpeakable};
 ghost use Rattle.ipg_term.specs.Loops.{IsReason};
 ghost use Rattle.ipg_app.specs.Said.{done};
 ghost use Rattle.ipg_app.specs.Checks.{Checks, IsLoop};
-ghost use Rattle.ipg_app.specs.Reply.{check, cert};
+ghost use Rattle.ipg_app.specs.Reply.{check, cert, table};
 ghost use Rattle.ipg_app.specs.Found.{Says};
 ghost use Rattle.ipg_app.specs.Lines.{said_of};
 
@@ -15,6 +17,7 @@ use crate::status::Status;
 use ipg_core::accepted::{Checked, Core};
 use ipg_proof::laws::proves_is_speakable;
 use ipg_proof::{Certificate, cert_text, is_typed};
+use ipg_store::save;
 use ipg_term::{TermFault, TermWhy, check};
 use std::alloc::{AllocError, Global};
 
@@ -61,7 +64,22 @@ pub fn say_cert(alloc: Global, core: Core) -> Result<Settled, AllocError>
     match accepted(alloc, core)? {
         Ok((grammar, certificate)) => {
             is_speakable(&grammar, &certificate);
-            written(alloc, &certificate)
+            let text = cert_text(alloc, &certificate)?;
+            written(alloc, text)
+        }
+        Err(settled) => Ok(settled),
+    }
+}
+
+/// What `table` says of a grammar whose expressions a table file can hold.
+pub fn say_table(alloc: Global, core: Core) -> Result<Settled, AllocError>
+    requires { AllByRecursion NestsRule core.rules }
+    ensures { IfOk result (λ settled. Says (table core) (said_of settled)) }
+{
+    match accepted(alloc, core)? {
+        Ok((grammar, certificate)) => {
+            let file = save(alloc, &grammar, &certificate)?;
+            written(alloc, file)
         }
         Err(settled) => Ok(settled),
     }
@@ -76,10 +94,9 @@ fn is_speakable(grammar: &Checked, certificate: &Certificate)
     proves_is_speakable();
 }
 
-fn written(alloc: Global, certificate: &Certificate) -> Result<Settled, AllocError>
-    ensures { IfOk result (λ settled. said_of settled ≡ done (text_of certificate.now)) }
+fn written(alloc: Global, text: Vec<u8>) -> Result<Settled, AllocError>
+    ensures { IfOk result (λ settled. said_of settled ≡ done text.items) }
 {
-    let text = cert_text(alloc, certificate)?;
     Ok(Settled {
         status: Status::Done,
         lines: vec![in alloc; text]?,

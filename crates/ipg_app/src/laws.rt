@@ -1,11 +1,15 @@
 //! What holds of core grammars, the contract of a function that does nothing.
 
-ghost use Rattle.ipg_app.specs.Laws.{CertIsVerified, OneCore, OneCheck, OneParse, OneReply, OneVerdict};
+ghost use Rattle.ipg_app.specs.Laws.{CertIsVerified, CoveredIsRebuilt, OneCore, OneCheck, OneParse, OneReply, OneVerdict};
 
 use ipg_core::laws::heights_agree;
+use ipg_cover::laws::{covered_has_no_gap, one_gap};
+use ipg_cover_laws::laws::covered_comes_back;
+use ipg_cover_leaves::laws::answers_are_one;
 use ipg_order::laws::{good_is_not_stuck, orders_once, stuck_once};
 use ipg_proof::laws::{fault_is_one, proves_is_no_fault};
 use ipg_query_path::laws::one_path;
+use ipg_store::laws::load_once;
 use ipg_term::laws::{loops_arent_accepted, one_loops};
 use ipg_touch::laws::one_limit;
 
@@ -32,6 +36,7 @@ pub fn one_parse()
     ensures { OneParse }
 {
     heights_agree();
+    answers_are_one();
 }
 
 /// Of a file of which something is told `check` says one thing.
@@ -49,7 +54,15 @@ pub fn cert_is_verified()
     one_limit();
 }
 
-/// To words that ask for no certificate and no trial, and files of each of which something is told, the program says one
+/// Where `cover` says that a grammar leaves no byte out, `rebuild` gives back each input that has a tree.
+pub fn covered_is_rebuilt()
+    ensures { CoveredIsRebuilt }
+{
+    one_parse();
+    covered_comes_back();
+}
+
+/// To words that ask for no certificate, no table file and no trial, and files of each of which something is told, the program says one
 /// thing: one status and one text.
 pub fn one_reply()
     ensures { OneReply }
@@ -60,4 +73,7 @@ pub fn one_reply()
     one_path();
     proves_is_no_fault();
     fault_is_one();
+    load_once();
+    covered_has_no_gap();
+    one_gap();
 }

@@ -4,9 +4,11 @@
 mod answering;
 mod checks;
 mod core_of;
+mod covering;
 mod formatting;
 mod grammar;
 pub mod laws;
+mod loading;
 mod looping;
 mod measuring;
 mod parse;

@@ -1,11 +1,13 @@
 //! What is to be said, settled before anything is written.
 ghost use Rattle.std.specs.Prelude.{◌≡◌, ◌≤◌, ℕ, List, map, Ok, Err, IfOk, MatchResult};
 ghost use Rattle.std.specs.String.{string_bytes};
+ghost use Rattle.std.specs.List.{AllByRecursion};
 ghost use Rattle.ipg_ast.specs.Shape.{IsFlat};
 ghost use Rattle.ipg_names.specs.Readable.{IsReadable};
 ghost use Rattle.ipg_formats.specs.Text.{text_of};
 ghost use Rattle.ipg_app.specs.CoreOf.{CoreOf};
-ghost use Rattle.ipg_app.specs.Reply.{grammar_of, core_of, formatted, parse_input, parse, verify, fmt, query, use_order, order_by, order_of, task_of};
+ghost use Rattle.ipg_store_body.specs.Fits.{NestsRule};
+ghost use Rattle.ipg_app.specs.Reply.{grammar_of, core_of, formatted, parse_input, parse, verify, fmt, query, load, load_in, use_order, order_by, order_of, task_of};
 ghost use Rattle.ipg_app.specs.Run.{Settles};
 ghost use Rattle.ipg_app_words.specs.Seen as words;
 ghost use Rattle.ipg_app.specs.Found.{Found, FoundCore, Says, grammar_in_file, core_in_file, silence};
@@ -13,10 +15,12 @@ ghost use Rattle.ipg_app.specs.Lines.{said_of};
 ghost use Rattle.ipg_app.specs.Settled.{IsSettled, IsUnread, remember_of, task_seen};
 
 use crate::answering::Room;
-use crate::checks::{accepted, say_cert, say_check};
+use crate::checks::{accepted, say_cert, say_check, say_table};
 use crate::core_of::{core_in_text, core_of};
+use crate::covering::say_cover;
 use crate::formatting::format;
 use crate::grammar::grammar_in;
+use crate::loading::held_in;
 use crate::path::path_in;
 use crate::refusal::refusal;
 use crate::reply::{Due, Reply};
@@ -32,13 +36,15 @@ use ipg_formats::{Kind, kind_named, text};
 use ipg_mach::Remember;
 use ipg_outside::{FileFault, Files};
 use ipg_read_tokens::ReadFault;
+use ipg_store_depth_laws::laws::text_is_shallow;
 use std::alloc::{AllocError, Global};
 
 const MAX_TEXT: u64 = 1 << 20;
 
 const MAX_INPUT: u64 = 1 << 30;
 
-const QUERY_ROOM: Room = Room {
+/// Where the words say nothing of the memo and the heap.
+const TREE_ROOM: Room = Room {
     remember: Remember::Answers,
     mib: 512,
 };
@@ -56,6 +62,7 @@ pub fn settle<F: Files>(alloc: Global, words: &[String], files: &mut F) -> Resul
                 path,
             },
         ) => settle_query(alloc, grammar, input, path, files),
+        Some(Asked::Load { table, input }) => settle_load(alloc, table, input, files),
         Some(Asked::Fmt { grammar }) => Ok(Reply::Text(settle_fmt(alloc, grammar, files)?)),
         Some(Asked::Trial { kind, count }) => Ok(Reply::Text(trial(alloc, kind, count)?)),
         None => Ok(Reply::Text(usage(alloc)?)),
@@ -75,9 +82,16 @@ fn task_of(task: Wanted<'_>) -> Task<'_>
             },
             show: Show::Lines,
         },
+        Wanted::Rebuild { input } => Task::Parse {
+            input,
+            room: TREE_ROOM,
+            show: Show::Bytes,
+        },
         Wanted::Check => Task::Check,
         Wanted::Cert => Task::Cert,
         Wanted::Verify { certificate } => Task::Verify { certificate },
+        Wanted::Table => Task::Table,
+        Wanted::Cover => Task::Cover,
     }
 }
 
@@ -95,11 +109,40 @@ fn settle_query<F: Files>(
         Ok(path) => {
             let task = Task::Parse {
                 input,
-                room: QUERY_ROOM,
+                room: TREE_ROOM,
                 show: Show::Picked(path),
             };
             settle_use(alloc, grammar, task, files)
         }
+        Err(settled) => Ok(Reply::Text(settled)),
+    }
+}
+
+fn settle_load<F: Files>(
+    alloc: Global,
+    table: &str,
+    input: &str,
+    files: &mut F,
+) -> Result<Reply, AllocError>
+    ensures { IfOk result (IsSettled (F.told files.old) (F.faults files.old) (F.faults files.new) (load table.now input.now)) }
+{
+    match files.read_all(alloc, table, MAX_INPUT) {
+        Ok(file) => load_in(alloc, &file, input, files),
+        Err(fault) => Ok(Reply::Text(unread(alloc, fault)?)),
+    }
+}
+
+/// An input is parsed by the grammar of a table file.
+fn load_in<F: Files>(
+    alloc: Global,
+    file: &[u8],
+    input: &str,
+    files: &mut F,
+) -> Result<Reply, AllocError>
+    ensures { IfOk result (IsSettled (F.told files.old) (F.faults files.old) (F.faults files.new) (load_in input.now file.now)) }
+{
+    match held_in(alloc, file)? {
+        Ok(grammar) => parse_input(alloc, grammar, input, TREE_ROOM, Show::Lines, files),
         Err(settled) => Ok(Reply::Text(settled)),
     }
 }
@@ -126,6 +169,7 @@ fn use_built_in<F: Files>(
 ) -> Result<Reply, AllocError>
     ensures { IfOk result (IsSettled (F.told files.old) (F.faults files.old) (F.faults files.new) (core_of (text_of kind) (order_by (task_seen task.entry)))) }
 {
+    text_is_shallow();
     match core_in_text(alloc, text(kind))? {
         Ok(core) => settle_task(alloc, core, task, files),
         Err(settled) => Ok(Reply::Text(settled)),
@@ -140,6 +184,7 @@ fn use_file<F: Files>(
 ) -> Result<Reply, AllocError>
     ensures { IfOk result (IsSettled (F.told files.old) (F.faults files.old) (F.faults files.new) (core_in_file name.now (order_by (task_seen task.entry)))) }
 {
+    text_is_shallow();
     match core_in_file(alloc, name, files)? {
         Ok(core) => settle_task(alloc, core, task, files),
         Err(settled) => Ok(Reply::Text(settled)),
@@ -218,6 +263,7 @@ fn settle_task<F: Files>(
     task: Task<'_>,
     files: &mut F,
 ) -> Result<Reply, AllocError>
+    requires { AllByRecursion NestsRule core.rules }
     ensures { IfOk result (IsSettled (F.told files.old) (F.faults files.old) (F.faults files.new) (order_by (task_seen task.entry) core)) }
 {
     match task {
@@ -227,6 +273,8 @@ fn settle_task<F: Files>(
         Task::Verify { certificate } => {
             Ok(Reply::Text(verify_by(alloc, core, certificate, files)?))
         }
+        Task::Table => Ok(Reply::Text(say_table(alloc, core)?)),
+        Task::Cover => Ok(Reply::Text(say_cover(alloc, core)?)),
     }
 }
 

@@ -10,6 +10,8 @@ pub enum Show {
     Lines,
     /// What a path picks of it.
     Picked(Query),
+    /// The bytes that its leaves put back.
+    Bytes,
 }
 
 /// What is done with a core grammar.
@@ -26,4 +28,6 @@ pub enum Task<'a> {
     Verify {
         certificate: &'a str,
     },
+    Table,
+    Cover,
 }

@@ -53,8 +53,8 @@ fn refused(alloc: Global, why: ProofWhy) -> Result<Settled, AllocError>
     }
 }
 
-/// A refusal of a certificate, which ends with a place or an entry's number.
-fn bad_proof(alloc: Global, words: &[u8], at: u64) -> Result<Settled, AllocError>
+/// A refusal of a certificate or a table file, which ends with a place or an entry's number.
+pub fn bad_proof(alloc: Global, words: &[u8], at: u64) -> Result<Settled, AllocError>
     ensures { IfOk result (λ settled. said_of settled ≡ line_said BadProof (words.now ++ decimal at)) }
 {
     let mut buffer = Buffer::new();

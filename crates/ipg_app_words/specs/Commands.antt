@@ -28,6 +28,18 @@ cert = on_grammar (codes "cert")
 abbrev pub verify : App
 verify = with_rule (on_grammar (codes "verify")) (required (codes "CERT"))
 
+abbrev pub table : App
+table = on_grammar (codes "table")
+
+abbrev pub load : App
+load = with_rule (with_rule (new_app (codes "load")) (required (codes "T"))) (required (codes "FILE"))
+
+abbrev pub cover : App
+cover = on_grammar (codes "cover")
+
+abbrev pub rebuild : App
+rebuild = with_rule (on_grammar (codes "rebuild")) (required (codes "FILE"))
+
 abbrev pub query : App
 query = with_rule (with_rule (on_grammar (codes "query")) (required (codes "FILE"))) (required (codes "PATH"))
 

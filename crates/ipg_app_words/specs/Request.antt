@@ -18,12 +18,16 @@ pub data Task : Type 0 where
   Check : Task
   Cert : Task
   Verify : (certificate : Text) → Task
+  Table : Task
+  Cover : Task
+  Rebuild : (input : Text) → Task
 
 pub data Request : Type 0 where
   Use : (grammar : Text) → Task → Request
   Fmt : (grammar : Text) → Request
   Trial : (kind : Text) (count : ℕ) → Request
   Query : (grammar input path : Text) → Request
+  Load : (table input : Text) → Request
 
 abbrev pub parse_task : List Row → Option Task
 parse_task rows = do
@@ -36,6 +40,11 @@ abbrev pub verify_task : List Row → Option Task
 verify_task rows = do
   certificate ← first_of (codes "CERT") rows
   Some (Verify certificate)
+
+abbrev pub rebuild_task : List Row → Option Task
+rebuild_task rows = do
+  input ← first_of (codes "FILE") rows
+  Some (Rebuild input)
 
 abbrev pub use_by : List Row → Option Task → Option Request
 use_by rows task = do
@@ -62,6 +71,12 @@ query_by rows = do
   path ← first_of (codes "PATH") rows
   Some (Query grammar input path)
 
+abbrev pub load_by : List Row → Option Request
+load_by rows = do
+  table ← first_of (codes "T") rows
+  input ← first_of (codes "FILE") rows
+  Some (Load table input)
+
 -- the command, where it takes the words, and what it wants the grammar for
 abbrev pub use_words : App → (List Row → Option Task) → List Text → Option Request
 use_words command task words = do
@@ -83,6 +98,11 @@ query_words words = do
   rows ← taken command.query words
   query_by rows
 
+abbrev pub load_words : List Text → Option Request
+load_words words = do
+  rows ← taken command.load words
+  load_by rows
+
 -- the words from the command's name on
 abbrev pub request_by : Text → List Text → Option Request
 request_by name words = if bytes_eq name (codes "parse") then use_words command.parse parse_task words
@@ -92,7 +112,11 @@ request_by name words = if bytes_eq name (codes "parse") then use_words command.
     else (if bytes_eq name (codes "fmt") then fmt_words words
     else (if bytes_eq name (codes "trial") then trial_words words
     else (if bytes_eq name (codes "query") then query_words words
-    else None))))))
+    else (if bytes_eq name (codes "table") then use_words command.table (λ rows. Some Table) words
+    else (if bytes_eq name (codes "load") then load_words words
+    else (if bytes_eq name (codes "cover") then use_words command.cover (λ rows. Some Cover) words
+    else (if bytes_eq name (codes "rebuild") then use_words command.rebuild rebuild_task words
+    else None))))))))))
 
 -- nothing where the words are no command's
 abbrev pub request_of : List Text → Option Request

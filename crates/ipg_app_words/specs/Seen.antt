@@ -1,6 +1,6 @@
 -- What the words ask for, as the code has it.
 use Rattle.std.specs.Prelude.{ℕ, List, Bool, not, ◌==◌, ◌&&◌, slice_index}
-use Rattle.ipg_app_words.specs.Request.{Task, Parse, Check, Cert, Verify, Request, Use, Fmt, Trial, Query}
+use Rattle.ipg_app_words.specs.Request.{Task, Parse, Check, Cert, Verify, Table, Cover, Rebuild, Request, Use, Fmt, Trial, Query, Load}
 use Rattle.ipg_app_words.specs.declared.asking.Asked.{Asked}
 use Rattle.ipg_app_words.specs.declared.asking.Asked.TheVariants as asked
 use Rattle.ipg_app_words.specs.declared.asking.Wanted.{Wanted}
@@ -11,12 +11,16 @@ task_seen (wanted.Parse input memo mib) = Parse input.now memo mib
 task_seen wanted.Check = Check
 task_seen wanted.Cert = Cert
 task_seen (wanted.Verify certificate) = Verify certificate.now
+task_seen wanted.Table = Table
+task_seen wanted.Cover = Cover
+task_seen (wanted.Rebuild input) = Rebuild input.now
 
 abbrev pub seen : Asked → Request
 seen (asked.Use grammar task) = Use grammar.now (task_seen task)
 seen (asked.Fmt grammar) = Fmt grammar.now
 seen (asked.Trial kind count) = Trial kind.now count
 seen (asked.Query grammar input path) = Query grammar.now input.now path.now
+seen (asked.Load table input) = Load table.now input.now
 
 -- neither `0` nor `+` stands first
 abbrev pub is_plain_first : List ℕ → Bool

@@ -19,6 +19,14 @@ pub enum Wanted<'a> {
     Verify {
         certificate: &'a str,
     },
+    /// Its table file.
+    Table,
+    /// Whether it leaves no byte out.
+    Cover,
+    /// An input again, from the leaves of its tree.
+    Rebuild {
+        input: &'a str,
+    },
 }
 
 /// A command, with the name of its grammar or format.
@@ -41,5 +49,10 @@ pub enum Asked<'a> {
         grammar: &'a str,
         input: &'a str,
         path: &'a str,
+    },
+    /// An input is parsed by the grammar of a table file.
+    Load {
+        table: &'a str,
+        input: &'a str,
     },
 }

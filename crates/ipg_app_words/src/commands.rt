@@ -54,6 +54,20 @@ pub fn trial<'a>(alloc: Global) -> Result<Command<'a>, AllocError>
         .arg(required(alloc, "N"))
 }
 
+pub fn load<'a>(alloc: Global) -> Result<Command<'a>, AllocError>
+    ensures { IfOk result (λ command. app_of command ≡ spec.load) }
+{
+    Command::new(alloc, "load")
+        .arg(required(alloc, "T"))?
+        .arg(required(alloc, "FILE"))
+}
+
+pub fn rebuild<'a>(alloc: Global) -> Result<Command<'a>, AllocError>
+    ensures { IfOk result (λ command. app_of command ≡ spec.rebuild) }
+{
+    on_grammar(alloc, "rebuild")?.arg(required(alloc, "FILE"))
+}
+
 pub fn verify<'a>(alloc: Global) -> Result<Command<'a>, AllocError>
     ensures { IfOk result (λ command. app_of command ≡ spec.verify) }
 {

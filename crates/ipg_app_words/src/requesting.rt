@@ -4,11 +4,11 @@ ghost use Rattle.std.specs.String.{string_bytes};
 ghost use Rattle.clap.specs.Words.{rows_of, found_of};
 ghost use Rattle.ipg_app_words.specs.Commands as command;
 ghost use Rattle.ipg_app_words.specs.Request as spec;
-ghost use Rattle.ipg_app_words.specs.Request.{request_of, request_by, parse_task, verify_task};
+ghost use Rattle.ipg_app_words.specs.Request.{request_of, request_by, parse_task, rebuild_task, verify_task};
 ghost use Rattle.ipg_app_words.specs.Seen.{seen, task_seen};
 
 use crate::asking::{Asked, Wanted};
-use crate::commands::{on_grammar, parse, query, trial, verify};
+use crate::commands::{load, on_grammar, parse, query, rebuild, trial, verify};
 use crate::matching::{taken, value};
 use crate::settings::{count, memo, mib};
 use clap::ArgMatches;
@@ -39,6 +39,10 @@ fn request_by<'a>(
         "fmt" => fmt_request(alloc, words),
         "trial" => trial_request(alloc, words),
         "query" => query_request(alloc, words),
+        "table" => grammar_request(alloc, "table", Wanted::Table, words),
+        "load" => load_request(alloc, words),
+        "cover" => grammar_request(alloc, "cover", Wanted::Cover, words),
+        "rebuild" => rebuild_request(alloc, words),
         _ => Ok(None),
     }
 }
@@ -57,6 +61,15 @@ fn verify_request<'a>(alloc: Global, words: &'a [String]) -> Result<Option<Asked
 {
     match taken(verify(alloc)?, words)? {
         Some(matches) => Ok(use_of(&matches, verify_wanted(&matches))),
+        None => Ok(None),
+    }
+}
+
+fn rebuild_request<'a>(alloc: Global, words: &'a [String]) -> Result<Option<Asked<'a>>, AllocError>
+    ensures { IfOk result (λ asked. option_map seen asked ≡ spec.use_words command.rebuild rebuild_task (map string_bytes words.now)) }
+{
+    match taken(rebuild(alloc)?, words)? {
+        Some(matches) => Ok(use_of(&matches, rebuild_wanted(&matches))),
         None => Ok(None),
     }
 }
@@ -104,6 +117,15 @@ fn query_request<'a>(alloc: Global, words: &'a [String]) -> Result<Option<Asked<
     }
 }
 
+fn load_request<'a>(alloc: Global, words: &'a [String]) -> Result<Option<Asked<'a>>, AllocError>
+    ensures { IfOk result (λ asked. option_map seen asked ≡ spec.load_words (map string_bytes words.now)) }
+{
+    match taken(load(alloc)?, words)? {
+        Some(matches) => Ok(load_of(&matches)),
+        None => Ok(None),
+    }
+}
+
 fn use_of<'a>(matches: &ArgMatches<'a>, task: Option<Wanted<'a>>) -> Option<Asked<'a>>
     ensures { option_map seen result ≡ spec.use_by (rows_of (found_of matches.now)) (option_map task_seen task.entry) }
 {
@@ -137,6 +159,15 @@ fn query_of<'a>(matches: &ArgMatches<'a>) -> Option<Asked<'a>>
     })
 }
 
+fn load_of<'a>(matches: &ArgMatches<'a>) -> Option<Asked<'a>>
+    ensures { option_map seen result ≡ spec.load_by (rows_of (found_of matches.now)) }
+{
+    Some(Asked::Load {
+        table: value(matches, "T")?,
+        input: value(matches, "FILE")?,
+    })
+}
+
 fn parse_wanted<'a>(matches: &ArgMatches<'a>) -> Option<Wanted<'a>>
     ensures { option_map task_seen result ≡ parse_task (rows_of (found_of matches.now)) }
 {
@@ -144,6 +175,14 @@ fn parse_wanted<'a>(matches: &ArgMatches<'a>) -> Option<Wanted<'a>>
     let memo = memo(value(matches, "memo"))?;
     let mib = mib(value(matches, "arena"))?;
     Some(Wanted::Parse { input, memo, mib })
+}
+
+fn rebuild_wanted<'a>(matches: &ArgMatches<'a>) -> Option<Wanted<'a>>
+    ensures { option_map task_seen result ≡ rebuild_task (rows_of (found_of matches.now)) }
+{
+    Some(Wanted::Rebuild {
+        input: value(matches, "FILE")?,
+    })
 }
 
 fn verify_wanted<'a>(matches: &ArgMatches<'a>) -> Option<Wanted<'a>>

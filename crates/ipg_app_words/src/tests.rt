@@ -56,7 +56,7 @@ fn reads_settings(rt: HostRuntime) -> anyhow::Result<()> {
     Ok(())
 }
 
-const REFUSED: [&[&str]; 42] = [
+const REFUSED: [&[&str]; 46] = [
     &[],
     &["parse"],
     &["parse", "g"],
@@ -88,6 +88,10 @@ const REFUSED: [&[&str]; 42] = [
     &["check", "g", "f"],
     &["check", "g", "--memo", "on"],
     &["verify", "g"],
+    &["table", "g", "f"],
+    &["load", "t"],
+    &["cover", "g", "f"],
+    &["rebuild", "g"],
     &["fmt", "g", "f"],
     &["cert", "--help"],
     &["trial"],

@@ -13,8 +13,8 @@ returns-in-Tree-clause-given g c =
     let all = c.in_ok-parsed.ensures grammar meant.0 c.in_ok-tables.ensures meant.1 in
     let is = subst (λ w. IsOutcome t input w meant.0 all.0) c.in-Tree.is all.2 in
     let tree = showable t grammar input c.in-Tree.parsed is.0 c.in_ok-tables.ensures c.requires is.2 in
-    given_of c.args.show.now grammar input meant.0 meant.1 is.0 is.1 _ _ _ _ c.in-Tree.parsed.parse.input c.put.result is.2.bytes
-    (c.put.ensures (source t input) grammar is.0 tree)
+    given_of c.args.show.now grammar input meant.0 meant.1 is.0 is.1 _ _ _ _ c.put.result
+    (c.put.ensures (source t input) grammar is.0 tree is.2.bytes)
 
 pub returns-in-Tree-clause-fault : goal.returns-in-Tree-clause-fault
 returns-in-Tree-clause-fault g c =
@@ -25,5 +25,5 @@ returns-in-Tree-clause-fault g c =
     let all = c.in_ok-parsed.ensures grammar meant.0 c.in_ok-tables.ensures meant.1 in
     let is = subst (λ w. IsOutcome t input w meant.0 all.0) c.in-Tree.is all.2 in
     let tree = showable t grammar input c.in-Tree.parsed is.0 c.in_ok-tables.ensures c.requires is.2 in
-    fault_of c.args.show.now grammar input meant.0 meant.1 is.0 is.1 _ _ _ _ c.in-Tree.parsed.parse.input c.put.result is.2.bytes
-    (c.put.ensures (source t input) grammar is.0 tree)
+    fault_of c.args.show.now grammar input meant.0 meant.1 is.0 is.1 _ _ _ _ c.put.result
+    (c.put.ensures (source t input) grammar is.0 tree is.2.bytes)

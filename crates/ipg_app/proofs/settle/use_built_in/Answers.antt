@@ -4,9 +4,15 @@ use Rattle.ipg_formats.specs.Text.{text_of}
 use Rattle.ipg_app.specs.CoreOf.{CoreOf}
 use Rattle.ipg_app.specs.Reply.{core_of, order_by}
 use Rattle.ipg_app.specs.Settled.{IsSettled, task_seen}
+use Rattle.ipg_app.proofs.Nesting.{core_nests}
 use Rattle.ipg_app.proofs.Settling.{core_goes_on}
 use Rattle.ipg_app.proofs.Replying.{settled_on}
 use Rattle.ipg_app.proofs.settle.use_built_in.Goals as goal
+
+pub settle_task-requires : goal.settle_task-requires
+settle_task-requires g c =
+    let is : CoreOf (text_of c.args.kind) (Ok c.in-Ok.core) = rw c.text.ensures.value at (rw c.in-Ok.is at c.in_ok-core.ensures) in
+    core_nests c.text_is_shallow.ensures.nests (text_of c.args.kind) c.in-Ok.core is
 
 pub returns-in-Ok : goal.returns-in-Ok
 returns-in-Ok g c =

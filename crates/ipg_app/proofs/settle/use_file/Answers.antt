@@ -4,9 +4,15 @@ use Rattle.ipg_app.specs.Run.{Settles}
 use Rattle.ipg_app.specs.Found.{FoundCore, core_in_file, silence}
 use Rattle.ipg_app.specs.Lines.{said_of}
 use Rattle.ipg_app.specs.Settled.{IsSettled, task_seen}
+use Rattle.ipg_app.proofs.Nesting.{core_nests}
 use Rattle.ipg_app.proofs.Settling.{core_on, no_core_on, settles_then}
 use Rattle.ipg_app.proofs.Replying.{settled_on}
 use Rattle.ipg_app.proofs.settle.use_file.Goals as goal
+
+pub settle_task-requires : goal.settle_task-requires
+settle_task-requires g c =
+    let found : FoundCore (g.F.Files.told c.args.files.now c.args.name.now) c.in-Ok.core = rw c.in-Ok.is at c.in_ok-core.ensures.found in
+    core_nests c.text_is_shallow.ensures.nests found.text c.in-Ok.core found.core
 
 pub returns-in-Ok : goal.returns-in-Ok
 returns-in-Ok g c =

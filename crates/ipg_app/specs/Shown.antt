@@ -1,0 +1,33 @@
+-- What is shown of the tree of an input, and what is said of it.
+use Rattle.std.specs.Prelude.{◌≡◌, ◌⊎◌, ℕ, List, ◌++◌, length, codes, decimal}
+use Rattle.ipg_core.specs.Grammar.{Grammar}
+use Rattle.ipg_core.specs.Lines.{lines}
+use Rattle.ipg_core.specs.Tree.{Tree}
+use Rattle.ipg_cover_leaves.specs.declared.fault.PutFault.TheVariants.{Gap}
+use Rattle.ipg_cover_leaves.specs.Back.{IsBack, IsPutFault}
+use Rattle.ipg_cover_leaves.specs.Leaves.{leaves_of}
+use Rattle.ipg_query.specs.Picked.{picked}
+use Rattle.ipg_app.specs.declared.task.Show.{Show}
+use Rattle.ipg_app.specs.declared.task.Show.TheVariants as show
+use Rattle.ipg_app.specs.Said.{Said, done, refused}
+use Rattle.ipg_app.specs.Queried.{picks_text}
+
+-- the text that is shown: the tree's lines, what a path picks of it, or the bytes that its leaves put back
+abbrev pub Shows : Show → Grammar → List ℕ → Tree → List ℕ → Type 0
+Shows show.Lines g input tree text = text ≡ lines g tree 0
+Shows (show.Picked query) g input tree text = text ≡ picks_text (picked g input query tree)
+Shows show.Bytes g input tree text = IsBack (leaves_of tree) (length input) text
+
+-- they put no byte at this place of the input, which is the least such place
+abbrev pub Misses : Show → List ℕ → Tree → ℕ → Type 0
+Misses show.Lines input tree at = ⊥
+Misses (show.Picked query) input tree at = ⊥
+Misses show.Bytes input tree at = IsPutFault (leaves_of tree) (length input) (Gap at)
+
+-- V4
+abbrev pub gap_said : ℕ → Said
+gap_said at = refused (codes "V4 Gap " ++ decimal at)
+
+abbrev pub TreeSays : Show → Grammar → List ℕ → Tree → Said → Type 0
+TreeSays show g input tree said =
+    ((text : List ℕ) × Shows show g input tree text × (said ≡ done text)) ⊎ ((at : ℕ) × Misses show input tree at × (said ≡ gap_said at))
