@@ -7,7 +7,6 @@ use crate::dead::dead_edges;
 use crate::fault::{TermFault, TermWhy};
 use ipg_core::accepted::{Checked, Core};
 use ipg_facts_edges::edges;
-use ipg_facts_laws::laws::edges_are_few;
 use ipg_proof::laws::{accepts_is_total, live_cycles_are_cycles, loops_are_live};
 use ipg_proof::{Calls, Certificate};
 use ipg_touch::must_touch;
@@ -37,12 +36,11 @@ fn accepted(g: Core) -> Checked
     Checked::new(g)
 }
 
-/// A certificate of the grammar: its dead edges, and then each cycle of the others.
+/// A certificate of the grammar: its dead edges on cycles, and then each cycle of the others.
 fn examined(alloc: Global, g: &Core) -> Result<Certificate, TermWhy>
     ensures accepted { MatchResult result (λ _. Accepts g.now) (λ why. IsReason g.now why) }
     ensures proved { MatchResult result (λ c. Proves g.now c) (λ _. Unit) }
 {
-    edges_are_few();
     live_cycles_are_cycles();
     loops_are_live();
     g.rules();

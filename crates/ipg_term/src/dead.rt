@@ -1,11 +1,14 @@
 //! Edges whose own conditions can't hold.
 
-ghost use Rattle.std.specs.Prelude.{◌+◌, ◌<◌, ◌^◌, length, IfOk, IfSome, OnOk, IsTrue};
+ghost use Rattle.std.specs.Prelude.{◌≡◌, ◌+◌, ◌<◌, length, IfOk, IfSome, OnOk, IsTrue};
+ghost use Rattle.ipg_facts_edges.specs.Edges.{edges_of};
 ghost use Rattle.ipg_proof.specs.Calls.{edge_checks};
 ghost use Rattle.ipg_proof.specs.Seen.{seen};
 ghost use Rattle.ipg_term.specs.Refuted.{AreDead};
 
 use ipg_cert::Refutation;
+use ipg_facts_laws::laws::{edges_are_few, edges_are_inside};
+use ipg_graph_parts::edges_on_cycles;
 use ipg_num::List;
 use ipg_proof::{Calls, keep_of};
 use ipg_solve::{Decision, decide};
@@ -39,14 +42,21 @@ fn put_dead(
     }
 }
 
-/// The edges that the solver refutes by themselves, by rising number, each with its refutation.
+/// The edges on cycles that the solver refutes by themselves, by rising number, each with its refutation. An edge that lies
+/// on no cycle needs none, however hard it is to decide.
 pub fn dead_edges(alloc: Global, calls: Calls) -> Result<List<(u32, Refutation)>, AllocError>
-    requires { length calls.edges.now < 2 ^ 32 }
+    requires { calls.edges.now ≡ edges_of calls.grammar.now }
     ensures { IfOk result (AreDead (seen calls.entry) (length calls.entry.edges.now)) }
 {
+    edges_are_inside();
+    edges_are_few();
+    let rules = calls.grammar.rules().len() as u32;
+    let on_cycles = edges_on_cycles(alloc, rules, calls.edges)?;
     let mut dead = List::new(alloc);
     for edge in 0..calls.edges.len() as u32 {
-        put_dead(alloc, &mut dead, calls, edge)?;
+        if on_cycles[edge as usize] {
+            put_dead(alloc, &mut dead, calls, edge)?;
+        }
     }
     Ok(dead)
 }
