@@ -2,7 +2,7 @@
 use Rattle.std.proofs.Common.{◌≡◌, ℕ, ◌+◌, ◌<◌, ◌≤◌, ◌^◌, List, Option, Some, None, length, get_or, set, sym, subst, inl, inr, arith, get_or-set_same, get_or-set_other, length-set}
 use Rattle.std.specs.List.{All}
 use Rattle.std.proofs.lemmas.Bool.{cases_eq}
-use Rattle.ipg_graph_parts.specs.Chain.{Keys, key, left_from, IsBefore, IsPlace, IsFirst, IsLinked}
+use Rattle.ipg_graph_parts.specs.Chain.{Keys, key, left_from, IsPlace, IsFirst, IsLinked}
 
 -- the place at hand has another key
 first-lower : (k : Keys) (v low : ℕ) (place : Option ℕ) → (key k low ≡ v → ⊥) → IsFirst k v (low + 1) place → IsFirst k v low place

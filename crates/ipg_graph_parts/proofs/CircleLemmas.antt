@@ -1,5 +1,5 @@
 -- The edges of circles are those with both ends in one part.
-use Rattle.std.proofs.Common.{◌≡◌, ℕ, zero, suc, ◌+◌, ◌<◌, ◌≤◌, List, [], ◌∷◌, ◌++◌, Option, Some, None, Bool, true, false, length, get_or, refl, sym, ap, subst, ◌∙◌, inl, inr, arith}
+use Rattle.std.proofs.Common.{◌≡◌, ℕ, zero, suc, ◌<◌, List, [], ◌∷◌, ◌++◌, Option, Bool, true, false, length, get_or, refl, sym, ap, subst, ◌∙◌, inl, inr, arith}
 use Rattle.std.specs.List.{All}
 use Rattle.std.proofs.lemmas.List.{get_or_past, get_or_push, get_or_append_left, length_push}
 use Rattle.std.proofs.lemmas.List.Elements.{All-nil, All-cons, All-head, All-tail, All-get_or, All-weaker}
@@ -32,12 +32,12 @@ flag-more g names flags flag at len set unset h = record {
     | inl last ↦ subst (λ x. label names (caller g x) ≡ label names (callee g x)) (sym last)
         (set (sym (get_or_push flags flag false e (len ∙ sym last)) ∙ is))
     | inr ne ↦ let before : e < length flags = omega (arith, below, len, ne, length_push flags flag) in
-      h.set e before (sym (get_or_append_left flags (flag ∷ []) false e before) ∙ is)
+        h.set e before (sym (get_or_append_left flags (flag ∷ []) false e before) ∙ is)
   ];
   unset = λ e below same. elim (cases_eq e at) [
     | inl last ↦ get_or_push flags flag false e (len ∙ sym last) ∙ unset (subst (λ x. label names (caller g x) ≡ label names (callee g x)) last same)
     | inr ne ↦ let before : e < length flags = omega (arith, below, len, ne, length_push flags flag) in
-      get_or_append_left flags (flag ∷ []) false e before ∙ h.unset e before same
+        get_or_append_left flags (flag ∷ []) false e before ∙ h.unset e before same
   ];
 }
 

@@ -1,10 +1,10 @@
 -- A label that spreads along edges.
-use Rattle.std.proofs.Common.{◌≡◌, ℕ, zero, suc, ◌+◌, ◌*◌, ◌<◌, ◌≤◌, ◌⊎◌, List, [], ◌∷◌, ◌++◌, Option, Some, None, if◌then◌else◌, length, replicate}
+use Rattle.std.proofs.Common.{◌≡◌, ℕ, zero, suc, ◌+◌, ◌<◌, ◌≤◌, ◌⊎◌, List, [], ◌∷◌, ◌++◌, Option, Some, None, if◌then◌else◌, length}
 use Rattle.std.proofs.Common.{get_or, set, refl, sym, ap, subst, ◌∙◌, inl, inr, arith, get_or-set_same, get_or-set_other, length-set}
-use Rattle.std.specs.List.{All, Contains}
-use Rattle.std.proofs.lemmas.List.Elements.{All-push, All-nil, All-pop, All-weaker, All-contains, Contains-push, Contains-push_cases, Contains-append_left}
+use Rattle.std.specs.List.{Contains}
+use Rattle.std.proofs.lemmas.List.Elements.{All-push, All-nil, All-pop, All-weaker, Contains-push, Contains-push_cases, Contains-append_left}
 use Rattle.std.proofs.lemmas.List.{length_push, get_or_past}
-use Rattle.std.proofs.lemmas.Option.{none-some, same_Some}
+use Rattle.std.proofs.lemmas.Option.{none-some}
 use Rattle.std.proofs.lemmas.Bool.{cases_eq, cases_lt, eq-eqb, ne_eqb}
 use Rattle.ipg_graph.specs.Graph.{Graph, caller, callee, IsLive, IsWhole}
 use Rattle.ipg_graph_parts.specs.Chain.{Keys, key, IsFirst, IsPlace, callers_of, callees_of}
@@ -187,8 +187,10 @@ put f labels waiting rule edge u live from to free below h = record {
   where
     new : List (Option ℕ)
     new = set labels u (Some f.root)
+
     kept : (v : ℕ) → IsLabelled labels f.root v → IsLabelled (set labels u (Some f.root)) f.root v
     kept v is = labelled-kept labels f.root u v is
+
     way : Leads f.graph f.root (callee f.graph edge)
     way = over f.graph f.root rule (callee f.graph edge) (h.only rule h.here).1 (along f.graph edge rule live from)
 

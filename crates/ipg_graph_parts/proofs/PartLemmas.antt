@@ -1,12 +1,11 @@
 -- A part of rules, made whole.
-use Rattle.std.proofs.Common.{◌≡◌, ℕ, ◌+◌, ◌<◌, ◌≤◌, ◌⊎◌, List, [], ◌∷◌, Option, Some, None, length, replicate, refl, sym, subst, ◌∙◌, inl, inr, arith}
-use Rattle.std.proofs.Common.{get_or}
+use Rattle.std.proofs.Common.{◌≡◌, ℕ, ◌<◌, List, [], ◌∷◌, Option, Some, None, replicate, refl, sym, subst, ◌∙◌, inl, inr}
 use Rattle.std.proofs.lemmas.List.{get_or_past, get_or-replicate, length-replicate}
 use Rattle.std.proofs.lemmas.Option.{none-some, same_Some}
 use Rattle.std.proofs.lemmas.Bool.{cases_lt}
-use Rattle.ipg_graph.specs.Graph.{Graph, caller, callee, IsLive, IsWhole}
+use Rattle.ipg_graph.specs.Graph.{Graph, caller, callee, IsWhole}
 use Rattle.ipg_graph_parts.specs.Way.{IsWay, Leads, IsTied, turned}
-use Rattle.ipg_graph_parts.specs.Labels.{Field, label, IsLabelled, IsOpen, Keeps, IsFilled}
+use Rattle.ipg_graph_parts.specs.Labels.{Field, label, IsLabelled, Keeps, IsFilled}
 use Rattle.ipg_graph_parts.specs.Parts.{AreParts, IsIn, Stays, IsParted}
 use Rattle.ipg_graph_parts.proofs.WayLemmas.{to_self, over, along, back, tied-back, tied-over}
 

@@ -1,5 +1,5 @@
 -- Ways, put together and turned.
-use Rattle.std.proofs.Common.{◌≡◌, ℕ, ◌<◌, ◌^◌, List, [], ◌∷◌, ◌++◌, refl, sym, subst, ◌∙◌}
+use Rattle.std.proofs.Common.{◌≡◌, ℕ, ◌<◌, ◌^◌, List, [], ◌∷◌, ◌++◌, refl, sym, subst}
 use Rattle.ipg_graph.specs.Graph.{Graph, caller, callee, IsLive, IsWhole}
 use Rattle.ipg_graph_parts.specs.Way.{IsWay, Leads, IsTied, turned}
 

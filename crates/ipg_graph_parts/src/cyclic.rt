@@ -20,11 +20,7 @@ fn is_inside(names: &[Option<u32>], edge: Edge) -> bool
 
 /// Whether each edge lies on a circle of edges, each of which leads into the next. It takes the time of some walks over
 /// the edges, however many circles there are.
-pub fn edges_on_cycles(
-    alloc: Global,
-    rules: u32,
-    edges: &[Edge],
-) -> Result<Vec<bool>, AllocError>
+pub fn edges_on_cycles(alloc: Global, rules: u32, edges: &[Edge]) -> Result<Vec<bool>, AllocError>
     requires few { length edges.now < 2 ^ 32 }
     requires inside { All (IsInside rules) edges.now }
     ensures one_each { IfOk result (λ flags. length flags.items ≡ length edges.now) }

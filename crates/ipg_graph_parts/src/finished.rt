@@ -73,8 +73,7 @@ impl Walk {
         links.rules();
         let mut next = links.callers().first(rule);
         while let Some(edge) = next {
-            self.moves
-                .push(Move::Enter(links.callees().key(edge)))?;
+            self.moves.push(Move::Enter(links.callees().key(edge)))?;
             next = links.callers().next(edge);
         }
         Ok(())

@@ -90,8 +90,7 @@ impl Labels {
         ensures new { result ≡ true → IsOpen (field_of search.entry) rule × ¬ IsLabelled self.now.of.items search.entry.root rule }
         ensures old { result ≡ false → IsOpen (field_of search.entry) rule → IsLabelled self.now.of.items search.entry.root rule }
     {
-        search.fence[rule as usize] == search.open
-            && self.of[rule as usize] != Some(search.root)
+        search.fence[rule as usize] == search.open && self.of[rule as usize] != Some(search.root)
     }
 
     fn put(&mut self, rule: u32, label: u32) -> Result<(), AllocError>

@@ -25,9 +25,20 @@ fn flags_of(alloc: Global, rules: u32, edges: &[Edge]) -> Result<Vec<bool>, Fail
 
 #[test]
 fn edges_between_parts_lie_on_no_cycle(rt: HostRuntime) -> Result<(), Fail> {
-    let edges = [edge(0, 1), edge(1, 0), edge(1, 2), edge(2, 3), edge(3, 2), edge(3, 3), edge(0, 4)];
+    let edges = [
+        edge(0, 1),
+        edge(1, 0),
+        edge(1, 2),
+        edge(2, 3),
+        edge(3, 2),
+        edge(3, 3),
+        edge(0, 4),
+    ];
     let flags = flags_of(rt.alloc(), 5, &edges)?;
-    assert_eq!(rt; flags.as_slice(), [true, true, false, true, true, true, false].as_slice());
+    assert_eq!(rt;
+        flags.as_slice(),
+        [true, true, false, true, true, true, false].as_slice()
+    );
     Ok(())
 }
 

@@ -1,4 +1,4 @@
-use Rattle.std.proofs.Common.{◌≡◌, ◌+◌, ◌<◌, inl, inr, sym, subst, arith}
+use Rattle.std.proofs.Common.{inl, inr, sym, subst, arith}
 use Rattle.std.proofs.lemmas.Bool.{cases_eq}
 use Rattle.ipg_graph_parts.specs.Parts.{IsIn, IsParted}
 use Rattle.ipg_graph_parts.proofs.PartLemmas.{parted}

@@ -21,5 +21,5 @@ loop-at-preserved c =
     let up : c.loop-at.at ≡ at + 1 = omega (arith, c.loop-at-test.true) in (
       omega (arith, c.loop-at.invariant.0),
       subst (λ o. IsLinked k (set firsts v (Some at)) (set nexts at o) at) first_is
-      (linked-at k firsts nexts at v below is inside (subst (IsLinked k firsts nexts) up linked)),
+          (linked-at k firsts nexts at v below is inside (subst (IsLinked k firsts nexts) up linked)),
     )

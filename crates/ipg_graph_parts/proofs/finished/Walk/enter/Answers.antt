@@ -34,9 +34,9 @@ returns c =
       walk = c.enter_next.ensures.walk;
       less = on_ok_both _ _ _ c.enter_next.result
           (λ seen few.
-              subst (λ s. length new.moves.items + unseen s * (edges + 2) ≤ length old.moves.items + unseen old.seen.items * (edges + 2)) (sym seen)
-              (entered edges (length old.moves.items) (length new.moves.items) (unseen old.seen.items) (unseen now)
-              (unseen-set old.seen.items c.args.rule fresh below)
-              (omega (arith, few, ap length c.in_ok-push.ensures.items, length_push old.moves.items (Leave c.args.rule)))))
+          subst (λ s. length new.moves.items + unseen s * (edges + 2) ≤ length old.moves.items + unseen old.seen.items * (edges + 2)) (sym seen)
+          (entered edges (length old.moves.items) (length new.moves.items) (unseen old.seen.items) (unseen now)
+          (unseen-set old.seen.items c.args.rule fresh below)
+          (omega (arith, few, ap length c.in_ok-push.ensures.items, length_push old.moves.items (Leave c.args.rule)))))
           c.enter_next.ensures.seen c.enter_next.ensures.few;
     }

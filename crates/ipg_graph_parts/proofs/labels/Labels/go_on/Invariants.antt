@@ -1,4 +1,4 @@
-use Rattle.std.proofs.Common.{◌≤◌, ◌-◌, length, Some, None}
+use Rattle.std.proofs.Common.{◌≤◌, length}
 use Rattle.ipg_graph_parts.specs.Labels.{field_of, work, IsSpreading, Keeps}
 use Rattle.ipg_graph_parts.specs.Chain.{IsPlace, left_from}
 use Rattle.ipg_graph_parts.proofs.labels.Labels.go_on.Given as goal

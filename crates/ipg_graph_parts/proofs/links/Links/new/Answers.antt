@@ -1,7 +1,7 @@
 use Rattle.std.proofs.Common.{◌≡◌, ◌<◌, ap, sym, subst, ◌∙◌, arith, [], length}
 use Rattle.std.specs.List.{All}
 use Rattle.std.proofs.lemmas.List.Elements.{All-weaker}
-use Rattle.ipg_graph.specs.Graph.{ends, graph_of, IsInside, IsWhole}
+use Rattle.ipg_graph.specs.Graph.{ends, IsInside}
 use Rattle.ipg_graph_parts.proofs.GraphLemmas.{ends-done, all-ends, length-ends, whole}
 use Rattle.ipg_graph_parts.proofs.links.Links.new.Goals as goal
 

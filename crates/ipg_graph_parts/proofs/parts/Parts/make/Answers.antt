@@ -1,11 +1,11 @@
-use Rattle.std.proofs.Common.{◌≡◌, ◌∙◌, sym, ap, subst, length, None, Some}
+use Rattle.std.proofs.Common.{◌∙◌, sym, ap, subst, length, None, Some}
 use Rattle.ipg_graph_parts.specs.Way.{turned}
 use Rattle.ipg_graph_parts.specs.Labels.{label, IsFilled}
 use Rattle.ipg_graph_parts.specs.declared.labels.Search as code
 use Rattle.ipg_graph_parts.proofs.Both.{on_ok_both}
 use Rattle.ipg_graph_parts.proofs.WayLemmas.{whole-turned}
 use Rattle.ipg_graph_parts.proofs.LabelLemmas.{search-of, field-is}
-use Rattle.ipg_graph_parts.proofs.PartLemmas.{is-free, into, out, no-name, not-found, one-more, still, now}
+use Rattle.ipg_graph_parts.proofs.PartLemmas.{is-free, into, no-name, not-found, one-more, still, now}
 use Rattle.ipg_graph_parts.proofs.parts.Parts.make.Goals as goal
 
 pub fill-requires : goal.fill-requires
