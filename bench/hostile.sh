@@ -28,7 +28,7 @@ row() {
   read -r status seconds megabytes < <(run "$@")
   if ! awk -v a="$seconds" -v b="$most" 'BEGIN { exit !(a <= b) }' || [ "$megabytes" -gt "$room" ]; then says=past; fi
   case $answer-$status in
-  *-0 | *-3 | *-2 | any-7) ;;
+  *-0 | *-2 | *-9 | any-7) ;;
   *) says=past ;;
   esac
   [ $says = ok ] || past=1
@@ -44,11 +44,11 @@ done < <(python3 bench/hostile_texts.py "$work")
 # a certificate of 300 MB, each entry of which is short: 8 bytes of memory for each of its own
 printf 'S -> U8 ;\n' >"$work/small.ipg"
 {
-  printf 'ipgcert 2\ndead 50000000\n'
-  head -n 50000000 < <(yes '0 c 0')
+  printf 'ipgcert 2\ndead 30000000\n'
+  head -n 30000000 < <(yes '0 c 1 0 0')
   printf 'cycles 0\n'
 } >"$work/long"
-row '`verify` of 50,000,000 short entries' "$(stat -c %s "$work/long")" 30 2400 answer verify "$work/small.ipg" "$work/long"
+row '`verify` of 30,000,000 short entries' "$(stat -c %s "$work/long")" 30 2400 answer verify "$work/small.ipg" "$work/long"
 rm "$work/long"
 
 # the built-in grammars together, the least of 25 rounds

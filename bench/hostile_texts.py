@@ -29,14 +29,14 @@ def and_or(count):
 
 
 def choices(count, called="S"):
-    test = within(count, "EOI > 9", "((%(inner)s) ? EOI > %(more)d : EOI < %(less)d)")
+    test = within(count, "EOI > 9", "(%(inner)s ? EOI > %(more)d : EOI < %(less)d)")
     return f'S -> ?({test}) {called}[1, EOI] / "" ;\n' + ("A -> U8 ;\n" if called == "A" else "")
 
 
 def greatest(count):
-    """The greatest of `count` + 1 values, by conditionals within one another."""
-    value = functools.reduce(lambda inner, k: f"U8.val > {k} ? {inner} : {k}", range(count), "EOI")
-    return f'S -> U8 {{ most = {value} }} S[most, EOI] / "" ;\n'
+    """The greatest of `count` + 1 values, each time by a conditional that has the one before it twice."""
+    values = "".join(f" {{ m{k} = m{k - 1} > {k} ? m{k - 1} : {k} }}" for k in range(1, count + 1))
+    return f'S -> {{ m0 = EOI }}{values} S[m{count} + 1, EOI] / "" ;\n'
 
 
 # -- conditions over many values
@@ -54,7 +54,7 @@ def weights(count):
 
 
 def parity():
-    return 'S -> U8[0, 1] U16LE[0, 2] ?(2 * U16LE.val == 2 * U8.val + 1) S[0, EOI] / "" ;\n'
+    return 'S -> U16LE[0, 2] ?(2 * U16LE.val == 2 * EOI + 1) S[0, EOI] / "" ;\n'
 
 
 # -- many calls
@@ -127,7 +127,7 @@ def many_then_switch():
 
 
 ROWS = [
-    *((f"`((w || b) && c)` nested {n}", and_or(n), 10, 1200, "any") for n in (16, 18, 31)),
+    *((f"`((w || b) && c)` nested {n}", and_or(n), 10, 1200, "any") for n in (16, 18, 20)),
     *((f"`(w ? a : b)` nested {n}", choices(n), 10, 1200, "any") for n in (20, 22, 31)),
     ("`(w ? a : b)` nested 20, on no cycle", choices(20, "A"), 0.1, 1200, "answer"),
     ("a parity of 32 bits, on no cycle", 'S -> U32LE A[2 * U32LE.val + 1 - 2 * EOI, EOI] / "" ;\nA -> U8 ;\n', 0.1, 100, "answer"),
