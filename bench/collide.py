@@ -1,9 +1,9 @@
-"""A GIF whose blocks' places are chosen by the memo's hash, which has a fixed seed, so that its entries pile up: the time of
-`parse` with the memo and without, and of the same on as many blocks of one size.
+"""A GIF whose blocks' places are chosen by the numbers with which the memo mixes keys, so that its entries pile up under few heads:
+the time of `parse` with the memo and without, and of the same on as many blocks of one size.
 
-  collide.py [BLOCKS]
+  collide.py [BLOCKS [SHARE]]
 
-IPG may name another program than ./ipg.
+The blocks' keys take one in SHARE of the heads (4). IPG may name another program than ./ipg.
 """
 
 import os
@@ -12,34 +12,22 @@ import sys
 import tempfile
 import time
 
-MASK = 2**64 - 1
-SEED, MULTIPLIER = 0x243F6A8885A308D3, 0x9E3779B97F4A7C15 ^ 8
+OF_FROM, OF_TO, OF_RULE = 11400714819323198485, 15485907386658061715, 14029467366897019727  # crates/ipg_memo/src/places.rt
 RULE = 9  # of `Sub` among the rules of the GIF grammar
 HEAD = b"GIF89a" + b"\x01\0\x01\0\0\0\0" + b"!\xfe"
-GROUP = 9  # entries in a group of the table, on average, before the table grows
-SHARE = 4  # the blocks take one in so many of the groups
 
 
-def fold(state, value):
-    product = (state ^ value ^ value << 32) * MULTIPLIER
-    return product & MASK ^ product >> 64
+def high(rule, start, end):
+    """What a key's numbers are mixed to: a place among 2^32, which says how far among the heads it begins."""
+    return (start * OF_FROM + end * OF_TO + rule * OF_RULE >> 32) % 2**32
 
 
-def place(state, end):
-    """The low half of a key's hash."""
-    last = fold(state, end)
-    return (last ^ last >> 32) & 0xFFFFFFFF
-
-
-def sizes(blocks, end):
-    """How many bytes each block takes, so that the next one begins where its entry comes to lie among the first groups."""
-    groups = 1
-    while groups * GROUP < blocks:
-        groups *= 2
-    rule, at = fold(SEED, RULE), len(HEAD)
+def sizes(blocks, end, share):
+    """How many bytes each block takes, so that the next one begins where its key has one of the first heads."""
+    at = len(HEAD)
     for _ in range(blocks):
         size = 2
-        while size < 255 and place(fold(rule, at + size), end) & (groups - 1) >= groups // SHARE:
+        while size < 255 and high(RULE, at + size, end) >= 2**32 // share:
             size += 1
         at += size
         yield size
@@ -64,10 +52,10 @@ def timed(command, data, memo):
 
 
 def main():
-    blocks = int(sys.argv[1]) if len(sys.argv) > 1 else 147000
+    blocks, share = (int(word) for word in (sys.argv[1:] + ["147000", "4"][len(sys.argv) - 1 :])[:2])
     command = os.environ.get("IPG", "./ipg")
-    length = len(HEAD) + 6 * blocks + 2
-    files = {"chosen": gif(sizes(blocks, length), length), "of one size": gif([4] * blocks, length)}
+    length = len(HEAD) + (share + 2) * blocks + 2
+    files = {"chosen": gif(sizes(blocks, length, share), length), "of one size": gif([4] * blocks, length)}
     for what, data in files.items():
         told = ", ".join(f"memo {memo} {timed(command, data, memo)}" for memo in ("on", "off"))
         print(f"{blocks} blocks, {what}, {length} bytes: {told}", flush=True)

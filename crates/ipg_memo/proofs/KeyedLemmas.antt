@@ -1,18 +1,19 @@
 -- The map that a hash map's entries make, in the keys' order.
-use Rattle.std.proofs.Common.{◌≡◌, ℕ, ◌+◌, Bool, false, cond, ◌&&◌, List, [], ◌∷◌, length, refl, sym, ap, ◌∙◌, arith, nat_eq}
+use Rattle.std.proofs.Common.{◌≡◌, ℕ, ◌+◌, false, cond, ◌&&◌, List, [], ◌∷◌, length, refl, ap, ◌∙◌, arith}
 use Rattle.std.specs.Prelude.{Option, None, Some, is_some}
 use Rattle.std.specs.declared.cmp.Ordering.{Ordering}
 use Rattle.std.specs.declared.cmp.Ordering.TheVariants.{Less, Equal, Greater}
 use Rattle.std.specs.Ordering.{nat_cmp, ordering_then, is_eq, eq_by_cmp}
-use Rattle.std.specs.Cmp.{IsTotalOrder, nat_cmp_total, eq_by_cmp_equiv, unsigned_tied}
+use Rattle.std.specs.Cmp.{IsTotalOrder, nat_cmp_total, unsigned_tied}
 use Rattle.std.specs.List.{AllByRecursion, IsDistinct}
 use Rattle.std.specs.Map.{lookup, keys_of}
-use Rattle.std.specs.FinMap.{find, get, insert, len, from_entries, get-from_entries, get-insert, len-insert, len-empty, same_map}
+use Rattle.std.specs.FinMap.{find, get, len, from_entries, get-from_entries, len-insert, len-empty}
 use Rattle.std.proofs.lemmas.Cmp.{on_total, then_total}
 use Rattle.std.proofs.lemmas.Map.Lookups.{CmpEqualImpliesEq, exact_pairs, exact_unsigned}
 use Rattle.ipg_memo.specs.declared.memo.Key.{Key}
 use Rattle.ipg_memo.specs.declared.memo.Entry.{Entry}
 use Rattle.ipg_memo.specs.Keyed.{key_cmp}
+use Rattle.ipg_memo.specs.Ways.{same_key}
 
 -- keys that compare alike are one
 pub exact_keys : CmpEqualImpliesEq key_cmp
@@ -25,45 +26,32 @@ exact_keys a b h =
 pub keys_total : IsTotalOrder key_cmp
 keys_total = then_total (on_total (λ k. k.rule) nat_cmp_total) (then_total (on_total (λ k. k.from) nat_cmp_total) (on_total (λ k. k.to) nat_cmp_total))
 
--- the test of two keys that the hash map makes
-abbrev pub key_eq : Key → Key → Bool
-key_eq a b = nat_eq a.rule b.rule && (nat_eq a.from b.from && nat_eq a.to b.to)
-
 is_eq-then : (r s : Ordering) → is_eq (ordering_then r s) ≡ (is_eq r && is_eq s)
 is_eq-then Less s = refl
 is_eq-then Equal s = refl
 is_eq-then Greater s = refl
 
-pub same_test : (a b : Key) → eq_by_cmp key_cmp a b ≡ key_eq a b
+pub same_test : (a b : Key) → eq_by_cmp key_cmp a b ≡ same_key a b
 same_test a b =
     is_eq-then (nat_cmp a.rule b.rule) (ordering_then (nat_cmp a.from b.from) (nat_cmp a.to b.to))
     ∙ ap (λ t. is_eq (nat_cmp a.rule b.rule) && t) (is_eq-then (nat_cmp a.from b.from) (nat_cmp a.to b.to))
     ∙ (λ i. unsigned_tied a.rule b.rule i && (unsigned_tied a.from b.from i && unsigned_tied a.to b.to i))
 
-find_key : (es : List (Key × Entry)) (q : Key) → find key_cmp q es ≡ lookup (key_eq q) es
+pub find_key : (es : List (Key × Entry)) (q : Key) → find key_cmp q es ≡ lookup (same_key q) es
 find_key [] q = refl
-find_key (e ∷ es) q = ap (cond (eq_by_cmp key_cmp q e.0) (Some e.1)) (find_key es q) ∙ ap (λ b. cond b (Some e.1) (lookup (key_eq q) es)) (same_test q e.0)
+find_key (e ∷ es) q = ap (cond (eq_by_cmp key_cmp q e.0) (Some e.1)) (find_key es q) ∙ ap (λ b. cond b (Some e.1) (lookup (same_key q) es)) (same_test q e.0)
 
 -- what the map that the entries make has at a key
-pub get_key : (es : List (Key × Entry)) (q : Key) → get (from_entries {R = key_cmp} es) q ≡ lookup (key_eq q) es
+pub get_key : (es : List (Key × Entry)) (q : Key) → get (from_entries {R = key_cmp} es) q ≡ lookup (same_key q) es
 get_key es q = get-from_entries keys_total es q ∙ find_key es q
 
--- entries that differ at one key make maps that differ there
-pub one_put : (es fs : List (Key × Entry)) (k : Key) (v : Entry)
-    → ((q : Key) → lookup (key_eq q) fs ≡ cond (key_eq k q) (Some v) (lookup (key_eq q) es))
-    → from_entries {R = key_cmp} fs ≡ insert (from_entries es) k v
-one_put es fs k v h = same_map keys_total exact_keys _ _ (λ q.
-    get_key fs q ∙ h q
-    ∙ ap (λ b. cond b (Some v) (lookup (key_eq q) es)) (sym (same_test k q) ∙ (eq_by_cmp_equiv keys_total).symm k q)
-    ∙ sym (get-insert keys_total (from_entries es) k v q ∙ ap (cond (eq_by_cmp key_cmp q k) (Some v)) (get_key es q)))
-
 -- no key of distinct ones is among those after it
-not_among : (es : List (Key × Entry)) (k : Key) → AllByRecursion (λ y. key_eq k y ≡ false) (keys_of es) → lookup (key_eq k) es ≡ None
+not_among : (es : List (Key × Entry)) (k : Key) → AllByRecursion (λ y. same_key k y ≡ false) (keys_of es) → lookup (same_key k) es ≡ None
 not_among [] k h = refl
-not_among (e ∷ es) k h = ap (λ b. cond b (Some e.1) (lookup (key_eq k) es)) h.0 ∙ not_among es k h.1
+not_among (e ∷ es) k h = ap (λ b. cond b (Some e.1) (lookup (same_key k) es)) h.0 ∙ not_among es k h.1
 
 -- entries at distinct keys are as many as the map has
-pub len_distinct : (es : List (Key × Entry)) → IsDistinct key_eq (keys_of es) → len (from_entries {R = key_cmp} es) ≡ length es
+pub len_distinct : (es : List (Key × Entry)) → IsDistinct same_key (keys_of es) → len (from_entries {R = key_cmp} es) ≡ length es
 unfolding IsDistinct
 len_distinct [] h = len-empty key_cmp Entry
 len_distinct (e ∷ es) h =

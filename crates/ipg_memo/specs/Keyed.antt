@@ -1,5 +1,5 @@
 -- What a memo holds: a finite map from keys to entries, in the keys' order by rule, then from, then to.
-use Rattle.std.specs.Prelude.{◌≡◌, ℕ, Option, None, Some, refl}
+use Rattle.std.specs.Prelude.{◌≡◌, ℕ, List, Option, None, Some, refl}
 use Rattle.std.specs.declared.cmp.Ordering.{Ordering}
 use Rattle.std.specs.Ordering.{nat_cmp, ordering_then}
 use Rattle.std.specs.FinMap as map
@@ -14,6 +14,10 @@ key_cmp a b = ordering_then (nat_cmp a.rule b.rule) (ordering_then (nat_cmp a.fr
 -- what contracts see of a memo
 abbrev pub Entries : Type 0
 Entries = map.FinMap key_cmp Entry
+
+-- the entries in a list of rows
+abbrev pub of_rows : List (Key × Entry) → Entries
+of_rows rows = map.from_entries {R = key_cmp} rows
 
 -- a key is stored as its three numbers
 abbrev pub key_code : Coded Key

@@ -1,7 +1,11 @@
 //! The answers of calls already made, by rule and interval, seen as a finite map.
 #![tactic(auto)]
 
+mod index;
+mod link;
 mod memo;
+mod places;
+mod reached;
 #[cfg(test)]
 mod tests;
 

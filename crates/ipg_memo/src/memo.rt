@@ -1,11 +1,22 @@
-ghost use Rattle.std.specs.Prelude.{◌≡◌, OnOk, OnErr};
+ghost use Rattle.std.specs.Prelude.{◌≡◌, ◌<◌, ◌≤◌, Option, None, OnOk, OnErr, IfOk, length};
 ghost use Rattle.std.specs.FinMap as map;
+ghost use Rattle.ipg_memo.specs.Keyed.{Entries, of_rows};
+ghost use Rattle.ipg_memo.specs.Moved as edits;
+ghost use Rattle.ipg_memo.specs.Moved.{IsMovable, AreMovable, IsMoved};
+ghost use Rattle.ipg_memo.specs.Table.{Table};
+ghost use Rattle.ipg_memo.specs.Ways as ways;
+ghost use Rattle.ipg_memo.specs.Ways.{Finds};
 
+use crate::index::{Index, row_at};
+use crate::reached::Reached;
 use ipg_region::RunId;
 use std::alloc::{AllocError, Allocator};
-use std::collections::HashMap;
-use std::hash::{BuildHasherDefault, FoldHasher};
 use std::marker::Model;
+
+/// So many heads has the smallest index, and so many the largest.
+const LEAST_HEADS: u32 = 16;
+
+const MOST_HEADS: usize = u32::MAX as usize;
 
 /// A call: the number of a rule, and the interval of the file that it was called on.
 #[derive(Clone, Copy, Debug, PartialEq, Eq, Hash)]
@@ -25,18 +36,139 @@ pub enum Entry {
 /// The answers so far, by their keys.
 #[derive(Drop)]
 pub struct Memo<A: Allocator> {
-    entries: HashMap<Key, Entry, BuildHasherDefault<FoldHasher>, A>,
+    rows: Vec<(Key, Entry), A>,
+    index: Option<Index<A>>,
 }
 
 impl<A: Allocator> Model for Memo<A> {
     ghost use Rattle.std.specs.FinMap as map;
-    ghost use Rattle.ipg_memo.specs.Keyed.{Entries, key_code, entry_code};
+    ghost use Rattle.ipg_memo.specs.Keyed.{Entries, key_code, entry_code, of_rows};
 
     ghost Value = { Entries };
 
     ghost coded = { map.code key_code entry_code };
 
-    ghost view = { λ a. map.from_entries a.entries.entries };
+    ghost use Rattle.ipg_memo.specs.Ways.{IsIndexed};
+
+    ghost view = { λ a. of_rows a.rows.items };
+
+    ghost invariant = { λ a. IsIndexed a.rows.items a.index };
+}
+
+/// The entry of the row that a way ended at.
+#[inline(always)]
+fn entry_of(rows: &[(Key, Entry)], end: Reached) -> Option<Entry>
+    ensures { result ≡ ways.entry_at rows.now end }
+{
+    match end {
+        Reached::Row(row) => match row_at(rows, row) {
+            Some(known) => Some(known.1),
+            None => None,
+        },
+        Reached::Vacant(_) | Reached::Bare(..) | Reached::Lost => None,
+    }
+}
+
+/// A row more, of the key whose way ended so.
+fn append<A: Allocator + Clone + Drop>(
+    rows: &mut Vec<(Key, Entry), A>,
+    index: &mut Index<A>,
+    end: Reached,
+    key: Key,
+    entry: Entry,
+) -> Result<(), AllocError>
+    requires finds { Finds rows.old.items index.old (length rows.old.items) }
+    requires ends { ways.reached (ways.key_at rows.old.items) index.old key ≡ end }
+    ensures finds { Finds rows.new.items index.new (length rows.new.items) }
+    ensures ok { OnOk result (of_rows rows.new.items ≡ map.insert (of_rows rows.old.items) key entry) }
+    ensures err { OnErr result (rows.new.items ≡ rows.old.items) }
+{
+    rows.reserve(1)?;
+    index.add(end, rows.len())?;
+    rows.push_reserved((key, entry));
+    Ok(())
+}
+
+/// Gives a key this entry.
+fn enter<A: Allocator + Clone + Drop>(
+    rows: &mut Vec<(Key, Entry), A>,
+    index: &mut Index<A>,
+    key: Key,
+    entry: Entry,
+) -> Result<(), AllocError>
+    requires finds { Finds rows.old.items index.old (length rows.old.items) }
+    ensures finds { Finds rows.new.items index.new (length rows.new.items) }
+    ensures ok { OnOk result (of_rows rows.new.items ≡ map.insert (of_rows rows.old.items) key entry) }
+    ensures err { OnErr result (rows.new.items ≡ rows.old.items) }
+{
+    let end = index.reach(rows, &key);
+    if let Reached::Row(row) = end {
+        rows[row] = (key, entry);
+        return Ok(());
+    }
+    append(rows, index, end, key, entry)
+}
+
+/// A key behind an edit, at its new place.
+fn raised(from: u32, to: u32, with: u32, key: Key) -> Key
+    requires ordered { from ≤ to }
+    requires behind { to ≤ key.from }
+    requires movable { IsMovable from to with key }
+    ensures { result ≡ edits.raised from to with key }
+{
+    let gone = to - from;
+    Key {
+        rule: key.rule,
+        from: key.from - gone + with,
+        to: key.to - gone + with,
+    }
+}
+
+/// Carries an entry over an edit, if it doesn't lie across it.
+fn carry_one<A: Allocator + Clone + Drop>(
+    new: &mut Memo<A>,
+    from: u32,
+    to: u32,
+    with: u32,
+    known: &(Key, Entry),
+) -> Result<(), AllocError>
+    requires ordered { from ≤ to }
+    requires movable { to ≤ known.now.0.from → from < known.now.0.to → IsMovable from to with known.now.0 }
+    ensures { OnOk result ((old : Entries) → map.get old known.now.0 ≡ None → AreMovable from to with old → IsMoved from to with old new.old
+        → IsMoved from to with (map.insert old known.now.0 known.now.1) new.new) }
+{
+    let (key, entry) = *known;
+    if key.to <= from {
+        return new.put(key, entry);
+    }
+    if key.from < to {
+        return Ok(());
+    }
+    let at = raised(from, to, with, key);
+    if new.get(at).is_some() {
+        return Ok(());
+    }
+    new.put(at, entry)
+}
+
+/// Carries the entries of rows over an edit.
+fn carry_all<A: Allocator + Clone + Drop>(
+    new: &mut Memo<A>,
+    from: u32,
+    to: u32,
+    with: u32,
+    rows: &[(Key, Entry)],
+) -> Result<(), AllocError>
+    requires ordered { from ≤ to }
+    requires movable { AreMovable from to with (of_rows rows.now) }
+    requires indexed { (index : Option Table) × ways.IsIndexed rows.now index }
+    requires empty { new.old ≡ map.empty }
+    ensures { OnOk result (IsMoved from to with (of_rows rows.now) new.new) }
+{
+    for known in rows {
+        carry_one(new, from, to, with, known)?;
+    }
+    Ok(())
 }
 
 impl<A: Allocator + Clone + Drop> Memo<A> {
@@ -45,7 +177,8 @@ impl<A: Allocator + Clone + Drop> Memo<A> {
         ensures { result ≡ map.empty }
     {
         Memo {
-            entries: HashMap::new(alloc),
+            rows: Vec::new(alloc),
+            index: None,
         }
     }
 
@@ -53,7 +186,10 @@ impl<A: Allocator + Clone + Drop> Memo<A> {
     pub fn get(&self, key: Key) -> Option<Entry>
         ensures { result ≡ map.get self.now key }
     {
-        self.entries.get(&key).copied()
+        match &self.index {
+            Some(index) => entry_of(&self.rows, index.reach(&self.rows, &key)),
+            None => None,
+        }
     }
 
     /// Gives a key this entry, in place of the one that it had, if any. Where memory runs out, nothing changes.
@@ -61,14 +197,61 @@ impl<A: Allocator + Clone + Drop> Memo<A> {
         ensures ok { OnOk result (self.new ≡ map.insert self.old key entry) }
         ensures err { OnErr result (self.new ≡ self.old) }
     {
-        self.entries.insert(key, entry)?;
-        Ok(())
+        match &mut self.index {
+            Some(index) => {
+                if index.is_full(&self.rows) {
+                    *index = Index::over(&self.rows, index.more_heads(), self.rows.allocator())?;
+                }
+                enter(&mut self.rows, index, key, entry)
+            }
+            None => {
+                let mut index = Index::over(&self.rows, LEAST_HEADS, self.rows.allocator())?;
+                enter(&mut self.rows, &mut index, key, entry)?;
+                self.index = Some(index);
+                Ok(())
+            }
+        }
     }
 
     /// How many keys have an entry.
     pub fn len(&self) -> usize
         ensures { result ≡ map.len self.now }
     {
-        self.entries.len()
+        self.rows.len()
+    }
+
+    /// Takes all entries away.
+    pub fn clear(&mut self)
+        ensures { self.new ≡ map.empty }
+    {
+        self.rows.clear();
+        self.index = None;
+    }
+
+    /// A memo without entries, with room for as many as there are rows.
+    fn with_room(rows: &Vec<(Key, Entry), A>) -> Result<Memo<A>, AllocError>
+        ensures { IfOk result (λ memo. memo ≡ map.empty) }
+    {
+        let alloc = rows.allocator();
+        let heads = (rows.len().min(MOST_HEADS) as u32).saturating_mul(2);
+        let none = Vec::with_capacity(alloc.clone()?, rows.len())?;
+        let index = Index::over(&none, heads.max(LEAST_HEADS), alloc)?;
+        Ok(Memo {
+            rows: none,
+            index: Some(index),
+        })
+    }
+
+    /// The entries after an edit that put `with` bytes in place of those from `from` to `to`. The entry of a key that
+    /// ends at or before the edit stays. Each other of a key that begins at or behind its end moves, unless its new key
+    /// has an entry already.
+    pub fn moved(&self, from: u32, to: u32, with: u32) -> Result<Memo<A>, AllocError>
+        requires ordered { from ≤ to }
+        requires movable { AreMovable from to with self.now }
+        ensures { IfOk result (λ new. IsMoved from to with self.now new) }
+    {
+        let mut new = Memo::with_room(&self.rows)?;
+        carry_all(&mut new, from, to, with, &self.rows)?;
+        Ok(new)
     }
 }

@@ -23,6 +23,9 @@ fn puts_and_gets<A: Allocator + Clone + Drop>(alloc: A, rt: &impl Abort) -> Resu
         .is_none()
     );
     assert_eq!(rt; memo.len(), 1);
+    memo.clear();
+    assert!(rt; memo.get(key).is_none());
+    assert_eq!(rt; memo.len(), 0);
     Ok(())
 }
 
@@ -74,6 +77,30 @@ fn a_full_heap_answers_as_before(rt: HostRuntime) -> Result<(), Fail> {
                     None
                 }
         );
+    }
+    Ok(())
+}
+
+/// Keys whose numbers agree in their low bits, so that their ways part late.
+#[test]
+fn keys_that_differ_in_high_bits(rt: HostRuntime) -> Result<(), Fail> {
+    let mut memo = Memo::new(rt.alloc());
+    for high in 0..4096u32 {
+        let key = Key {
+            rule: 1,
+            from: high * 0x4_0000,
+            to: 0x4000_0000 - high * 0x4_0000,
+        };
+        memo.put(key, Entry::Node(RunId { place: high }))?;
+    }
+    assert_eq!(rt; memo.len(), 4096);
+    for high in 0..4096u32 {
+        let found = memo.get(Key {
+            rule: 1,
+            from: high * 0x4_0000,
+            to: 0x4000_0000 - high * 0x4_0000,
+        });
+        assert_eq!(rt; found, Some(Entry::Node(RunId { place: high })));
     }
     Ok(())
 }
