@@ -6,7 +6,7 @@ use Rattle.ipg_memo.specs.declared.memo.Key.{Key}
 use Rattle.ipg_memo.specs.declared.memo.Entry.{Entry}
 use Rattle.ipg_memo.specs.Keyed.{Entries, key_cmp}
 use Rattle.ipg_memo.specs.Ways.{same_key}
-use Rattle.ipg_memo.specs.Moved.{raised, IsMovable, IsMoved, IsThere, CameFrom}
+use Rattle.ipg_memo.specs.Moved.{raised, IsBehind, IsMoved, IsThere, IsThereOrPut, CameFrom}
 use Rattle.ipg_memo.proofs.KeyedLemmas.{keys_total, same_test}
 use Rattle.ipg_memo.proofs.WayLemmas.{same_self, same_means}
 use Rattle.ipg_memo.proofs.RowLemmas.{same_some}
@@ -46,7 +46,6 @@ module _ (from to with : ℕ) (old new : Entries) (key : Key) (entry : Entry) (f
   still_came q x c = record {
     was = c.was;
     behind = c.behind;
-    past = c.past;
     here = c.here;
     had = get_other old key entry c.was (has_differs old key c.was x fresh c.had) ∙ c.had;
   }
@@ -58,9 +57,9 @@ module _ (from to with : ℕ) (old new : Entries) (key : Key) (entry : Entry) (f
       | inl s ↦ ap (get (insert new key entry)) s.0 ∙ get_here new key entry ∙ ap Some s.1
       | inr o ↦ get_other new key entry q o.0 ∙ is.kept q x o.1 le
     ];
-    moved = λ q x h a b. elim (inserted old key entry q x h) [
-      | inl s ↦ let e : q.to ≡ key.to = ap (λ (k : Key). k.to) s.0 in absurd (omega (arith, e, ends, b))
-      | inr o ↦ elim (is.moved q x o.1 a b) [
+    moved = λ q x h b. elim (inserted old key entry q x h) [
+      | inl s ↦ let e : q.to ≡ key.to = ap (λ (k : Key). k.to) s.0 in let past = b.past in absurd (omega (arith, e, ends, past))
+      | inr o ↦ elim (is.moved q x o.1 b) [
         | inl m ↦ elim (same_or (raised from to with q) key) [
           | inl s ↦ inr (record {
             ends = subst (λ (k : Key). k.to ≤ from) (sym s) ends;
@@ -88,16 +87,16 @@ module _ (from to with : ℕ) (old new : Entries) (key : Key) (entry : Entry) (f
   }
 
   -- the entry moves, to where the new map has none
-  pub moves_one : from < key.to → to ≤ key.from → get new (raised from to with key) ≡ None
+  pub moves_one : IsBehind from to with key → get new (raised from to with key) ≡ None
       → IsMoved from to with (insert old key entry) (insert new (raised from to with key) entry)
-  moves_one past behind free = record {
+  moves_one behind free = record {
     kept = λ q x h le. elim (inserted old key entry q x h) [
-      | inl s ↦ let e : q.to ≡ key.to = ap (λ (k : Key). k.to) s.0 in absurd (omega (arith, e, past, le))
+      | inl s ↦ let e : q.to ≡ key.to = ap (λ (k : Key). k.to) s.0 in let past = behind.past in absurd (omega (arith, e, past, le))
       | inr o ↦ let m = is.kept q x o.1 le in get_other new at entry q (has_differs new at q x free m) ∙ m
     ];
-    moved = λ q x h a b. elim (inserted old key entry q x h) [
+    moved = λ q x h b. elim (inserted old key entry q x h) [
       | inl s ↦ inl (ap (λ (k : Key). get (insert new at entry) (raised from to with k)) s.0 ∙ get_here new at entry ∙ ap Some s.1)
-      | inr o ↦ elim (is.moved q x o.1 a b) [
+      | inr o ↦ elim (is.moved q x o.1 b) [
         | inl m ↦ inl (get_other new at entry (raised from to with q) (has_differs new at (raised from to with q) x free m) ∙ m)
         | inr t ↦ inr (record {
           ends = t.ends;
@@ -111,7 +110,6 @@ module _ (from to with : ℕ) (old new : Entries) (key : Key) (entry : Entry) (f
       | inl s ↦ inr (record {
         was = key;
         behind = behind;
-        past = past;
         here = sym s.0;
         had = get_here old key entry ∙ ap Some s.1;
       })
@@ -125,16 +123,16 @@ module _ (from to with : ℕ) (old new : Entries) (key : Key) (entry : Entry) (f
     at = raised from to with key
 
   -- the new map stays: the entry lies across the edit, or its key has one at its new place
-  pub leaves_one : from < key.to → (to ≤ key.from → IsThere from (raised from to with key) old new) → IsMoved from to with (insert old key entry) new
+  pub leaves_one : from < key.to → (IsBehind from to with key → IsThere from (raised from to with key) old new) → IsMoved from to with (insert old key entry) new
   leaves_one past there = record {
     kept = λ q x h le. elim (inserted old key entry q x h) [
       | inl s ↦ let e : q.to ≡ key.to = ap (λ (k : Key). k.to) s.0 in absurd (omega (arith, e, past, le))
       | inr o ↦ is.kept q x o.1 le
     ];
-    moved = λ q x h a b. elim (inserted old key entry q x h) [
+    moved = λ q x h b. elim (inserted old key entry q x h) [
       | inl s ↦ inr (subst (λ (k : Key). IsThere from (raised from to with k) (insert old key entry) new) (sym s.0)
-          (still_there (raised from to with key) (there (subst (λ (k : Key). to ≤ k.from) s.0 a))))
-      | inr o ↦ elim (is.moved q x o.1 a b) [
+          (still_there (raised from to with key) (there (subst (IsBehind from to with) s.0 b))))
+      | inr o ↦ elim (is.moved q x o.1 b) [
         | inl m ↦ inl m
         | inr t ↦ inr (still_there (raised from to with q) t)
       ]
@@ -153,12 +151,11 @@ module _ (from to with : ℕ) (old new : Entries) (key : Key) (entry : Entry) (f
     }
 
   -- where the new map has an entry of the raised key, it is one that was kept
-  pub there_by : from ≤ to → IsMovable from to with key → ((k : Key) (x : Entry) → get old k ≡ Some x → to ≤ k.from → from < k.to → IsMovable from to with k)
-      → from < key.to → to ≤ key.from → (x : Entry) → get new (raised from to with key) ≡ Some x → IsThere from (raised from to with key) old new
-  there_by ordered small each past behind x has = elim (is.only (raised from to with key) x has) [
+  pub there_by : from ≤ to → IsBehind from to with key → (x : Entry) → get new (raised from to with key) ≡ Some x → IsThere from (raised from to with key) old new
+  there_by ordered behind x has = elim (is.only (raised from to with key) x has) [
     | inl k ↦ record { ends = k.0; entry = x; had = k.1; has = has }
     | inr c ↦ absurd (has_differs old key c.was x fresh c.had
-        (same_raised c.was key c.behind behind (each c.was x c.had c.behind c.past).ordered small.ordered ordered c.here))
+        (same_raised c.was key c.behind.begins behind.begins c.behind.ordered behind.ordered ordered c.here))
   ] where
     same_raised : (a b : Key) → to ≤ a.from → to ≤ b.from → a.from ≤ a.to → b.from ≤ b.to → from ≤ to → raised from to with a ≡ raised from to with b → a ≡ b
     same_raised a b h k l m n e =
@@ -169,11 +166,19 @@ module _ (from to with : ℕ) (old new : Entries) (key : Key) (entry : Entry) (f
         let tt' : a.to ≡ b.to = omega (arith, t, h, k, l, m, n) in
         λ i. record { rule = r i; from = ff i; to = tt' i }
 
+  -- so where it is put unless it is there
+  pub put_or_left : from ≤ to → from < key.to → IsBehind from to with key → (later : Entries) → IsThereOrPut (raised from to with key) entry new later
+      → IsMoved from to with (insert old key entry) later
+  put_or_left ordered past behind later (inl is_there) =
+      subst (IsMoved from to with (insert old key entry)) (sym is_there.1)
+      (leaves_one past (λ b. there_by ordered b is_there.0.0 is_there.0.1))
+  put_or_left ordered past behind later (inr free) = subst (IsMoved from to with (insert old key entry)) (sym free.1) (moves_one behind free.0)
+
 -- no entries move to none
 pub none_moved : (from to with : ℕ) → IsMoved from to with empty empty
 none_moved from to with = record {
   kept = λ q x h le. h;
-  moved = λ q x h a b. absurd (none_in q x h);
+  moved = λ q x h b. absurd (none_in q x h);
   only = λ q x h. absurd (none_in q x h);
 } where
   none_in : (q : Key) (x : Entry) → get {R = key_cmp} empty q ≡ Some x → ⊥

@@ -11,7 +11,6 @@ use Rattle.ipg_memo.specs.declared.memo.Entry.{Entry}
 use Rattle.ipg_memo.specs.Table.{Table}
 use Rattle.ipg_memo.specs.Keyed.{of_rows}
 use Rattle.ipg_memo.specs.Ways.{Rows, key_at, same_key, Finds, IsIndexed, entry_at}
-use Rattle.ipg_memo.specs.Moved.{AreMovable}
 use Rattle.ipg_memo.proofs.KeyedLemmas.{exact_keys, keys_total, find_key, get_key}
 use Rattle.ipg_memo.proofs.WayLemmas.{same_means}
 use Rattle.ipg_memo.proofs.RowLemmas.{got, same_row}
@@ -32,10 +31,6 @@ slice_get_take [] (suc n) i x h = absurd (cc)
 slice_get_take (y ∷ rows) zero i x h = absurd (cc)
 slice_get_take (y ∷ rows) (suc n) zero x h = (omega arith, h)
 slice_get_take (y ∷ rows) (suc n) (suc i) x h = let at = slice_get_take rows n i x h in (omega (arith, at.0), at.1)
-
-pub movable_prefix : (from to with : ℕ) (rows : Rows) (n : ℕ) → AreMovable from to with (of_rows rows) → AreMovable from to with (of_rows (take n rows))
-movable_prefix from to with rows n each =
-    λ key entry h. each key entry (get_key rows key ∙ lookup_take (same_key key) rows n entry (sym (get_key (take n rows) key) ∙ h))
 
 module _ (rows : Rows) (n : ℕ) (none : Key × Entry) (lt : n < length rows) where
   here : slice_get rows n ≡ Some (get_or rows n none)

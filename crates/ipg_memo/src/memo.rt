@@ -1,8 +1,8 @@
-ghost use Rattle.std.specs.Prelude.{◌≡◌, ◌<◌, ◌≤◌, Option, None, OnOk, OnErr, IfOk, length};
+ghost use Rattle.std.specs.Prelude.{◌≡◌, ◌<◌, ◌≤◌, Option, None, OnOk, OnErr, IfOk, IfSome, IfNone, length};
 ghost use Rattle.std.specs.FinMap as map;
 ghost use Rattle.ipg_memo.specs.Keyed.{Entries, of_rows};
 ghost use Rattle.ipg_memo.specs.Moved as edits;
-ghost use Rattle.ipg_memo.specs.Moved.{IsMovable, AreMovable, IsMoved};
+ghost use Rattle.ipg_memo.specs.Moved.{IsBehind, IsMoved, IsThereOrPut};
 ghost use Rattle.ipg_memo.specs.Table.{Table};
 ghost use Rattle.ipg_memo.specs.Ways as ways;
 ghost use Rattle.ipg_memo.specs.Ways.{Finds};
@@ -109,18 +109,34 @@ fn enter<A: Allocator + Clone + Drop>(
     append(rows, index, end, key, entry)
 }
 
-/// A key behind an edit, at its new place.
-fn raised(from: u32, to: u32, with: u32, key: Key) -> Key
-    requires ordered { from ≤ to }
-    requires behind { to ≤ key.from }
-    requires movable { IsMovable from to with key }
-    ensures { result ≡ edits.raised from to with key }
+/// A key behind an edit, at its new place; None for each other.
+fn raised(from: u32, to: u32, with: u32, key: Key) -> Option<Key>
+    requires { from ≤ to }
+    ensures some { IfSome result (λ at. IsBehind from to with key × (at ≡ edits.raised from to with key)) }
+    ensures none { IfNone result (IsBehind from to with key → ⊥) }
 {
+    if key.from < to || key.to < key.from || key.to <= from {
+        return None;
+    }
     let gone = to - from;
-    Key {
+    Some(Key {
         rule: key.rule,
-        from: key.from - gone + with,
-        to: key.to - gone + with,
+        from: (key.from - gone).checked_add(with)?,
+        to: (key.to - gone).checked_add(with)?,
+    })
+}
+
+/// Gives a key this entry, unless it has one.
+fn put_new<A: Allocator + Clone + Drop>(
+    memo: &mut Memo<A>,
+    key: Key,
+    entry: Entry,
+) -> Result<(), AllocError>
+    ensures { OnOk result (IsThereOrPut key entry memo.old memo.new) }
+{
+    match memo.get(key) {
+        Some(_) => Ok(()),
+        None => memo.put(key, entry),
     }
 }
 
@@ -132,23 +148,18 @@ fn carry_one<A: Allocator + Clone + Drop>(
     with: u32,
     known: &(Key, Entry),
 ) -> Result<(), AllocError>
-    requires ordered { from ≤ to }
-    requires movable { to ≤ known.now.0.from → from < known.now.0.to → IsMovable from to with known.now.0 }
-    ensures { OnOk result ((old : Entries) → map.get old known.now.0 ≡ None → AreMovable from to with old → IsMoved from to with old new.old
+    requires { from ≤ to }
+    ensures { OnOk result ((old : Entries) → map.get old known.now.0 ≡ None → IsMoved from to with old new.old
         → IsMoved from to with (map.insert old known.now.0 known.now.1) new.new) }
 {
     let (key, entry) = *known;
     if key.to <= from {
         return new.put(key, entry);
     }
-    if key.from < to {
-        return Ok(());
+    match raised(from, to, with, key) {
+        Some(at) => put_new(new, at, entry),
+        None => Ok(()),
     }
-    let at = raised(from, to, with, key);
-    if new.get(at).is_some() {
-        return Ok(());
-    }
-    new.put(at, entry)
 }
 
 /// Carries the entries of rows over an edit.
@@ -160,7 +171,6 @@ fn carry_all<A: Allocator + Clone + Drop>(
     rows: &[(Key, Entry)],
 ) -> Result<(), AllocError>
     requires ordered { from ≤ to }
-    requires movable { AreMovable from to with (of_rows rows.now) }
     requires indexed { (index : Option Table) × ways.IsIndexed rows.now index }
     requires empty { new.old ≡ map.empty }
     ensures { OnOk result (IsMoved from to with (of_rows rows.now) new.new) }
@@ -246,9 +256,8 @@ impl<A: Allocator + Clone + Drop> Memo<A> {
     /// ends at or before the edit stays. Each other of a key that begins at or behind its end moves, unless its new key
     /// has an entry already.
     pub fn moved(&self, from: u32, to: u32, with: u32) -> Result<Memo<A>, AllocError>
-        requires ordered { from ≤ to }
-        requires movable { AreMovable from to with self.now }
-        ensures { IfOk result (λ new. IsMoved from to with self.now new) }
+        requires { from ≤ to }
+        ensures { IfOk result (IsMoved from to with self.now) }
     {
         let mut new = Memo::with_room(&self.rows)?;
         carry_all(&mut new, from, to, with, &self.rows)?;
