@@ -12,6 +12,7 @@ use Rattle.ipg_mach_moves.specs.Moves.{Key, OpenCall, Highest, Works, Holds, Adv
 use Rattle.ipg_mach_moves.specs.Laws.{ParsesByOneCall}
 use Rattle.ipg_mach_count_laws.specs.Counts.{calls_of, key_or, key_of, keys_over, keys_in}
 use Rattle.ipg_mach_count_laws.proofs.Follows.{Holding, Steps, follows}
+use Rattle.ipg_mach_count_laws.proofs.Plain.{IsPlain}
 use Rattle.ipg_mach_count_laws.proofs.Once.{Asking, hand_once, reply}
 use Rattle.ipg_mach_count_laws.proofs.Settled.{NotDeep, not_deep}
 
@@ -25,8 +26,10 @@ logs_none : (h : ℕ) (g : Grammar) (n : ℕ) (key : Key) (answer : Result Tree 
 logs_none h g zero key answer = refl
 logs_none h g (suc n) key answer = refl
 
-abbrev pub IsSettled : Grammar → ℕ → List ℕ → Asked → Type 0
-IsSettled g h s ask = den g h ask.callee (part s ask.from ask.to) ask.outer ≢ Err Deep
+-- a call that is made where calls nest so deep
+pub record IsMade (g : Grammar) (h : ℕ) (s : List ℕ) (ask : Asked) : Type 0 where
+  pub settled : den g h ask.callee (part s ask.from ask.to) ask.outer ≢ Err Deep
+  pub plain : IsPlain g ask
 
 -- so many moves make these calls, and more make no more
 record Logs (h : ℕ) (g : Grammar) (highest : Highest) (asked : List Asked) : Type 0 where
@@ -35,7 +38,7 @@ record Logs (h : ℕ) (g : Grammar) (highest : Highest) (asked : List Asked) : T
 
 module _ (heights : HeightsAgree) (parses : ParsesByOneCall) (h high : ℕ) (low : h ≤ high) where
   abbrev Agrees : Holding
-  Agrees g bytes from highest asked = NotDeep highest × AllByRecursion (IsSettled g h bytes) asked × Logs high g highest asked
+  Agrees g bytes from highest asked = NotDeep highest × AllByRecursion (IsMade g h bytes) asked × Logs high g highest asked
 
   module _ (c : OpenCall) where
     abbrev g : Grammar
@@ -56,15 +59,15 @@ module _ (heights : HeightsAgree) (parses : ParsesByOneCall) (h high : ℕ) (low
           ∙ sym (one.is (den g high))
     ]
 
-    settled_more : (asked : List Asked) → NotDeep (turned c (at_hand (den g h) c).answer) → AllByRecursion (IsSettled g h c.frame.bytes) asked
-        → AllByRecursion (IsSettled g h c.frame.bytes) ((at_hand (den g h) c).asked ++ asked)
-    settled_more asked shallow all = elim (hand_once parses c) [
+    made_more : (asked : List Asked) → NotDeep (turned c (at_hand (den g h) c).answer) → AllByRecursion (IsMade g h c.frame.bytes) asked
+        → AllByRecursion (IsMade g h c.frame.bytes) ((at_hand (den g h) c).asked ++ asked)
+    made_more asked shallow all = elim (hand_once parses c) [
       | inl quiet ↦
-          subst (λ xs. AllByRecursion (IsSettled g h c.frame.bytes) (xs ++ asked))
+          subst (λ xs. AllByRecursion (IsMade g h c.frame.bytes) (xs ++ asked))
           (sym (ap (λ (run : Run Advance). run.asked) (quiet.is (den g h)) ∙ quiet.none)) all
       | inr one ↦
-          subst (λ xs. AllByRecursion (IsSettled g h c.frame.bytes) (xs ++ asked))
-          (sym (ap (λ (run : Run Advance). run.asked) (one.is (den g h)))) (not_so_deep one shallow, all)
+          subst (λ xs. AllByRecursion (IsMade g h c.frame.bytes) (xs ++ asked))
+          (sym (ap (λ (run : Run Advance). run.asked) (one.is (den g h)))) (record { settled = not_so_deep one shallow; plain = one.plain }, all)
     ]
 
     logs_more : (asked : List Asked) → at_hand (den g h) c ≡ at_hand (den g high) c → (logs : Logs high g (turned c (at_hand (den g h) c).answer) asked)
@@ -77,7 +80,7 @@ module _ (heights : HeightsAgree) (parses : ParsesByOneCall) (h high : ℕ) (low
   agree_steps : Steps h Agrees
   agree_steps c asked q = (
     tt,
-    settled_more c asked q.0 q.1,
+    made_more c asked q.0 q.1,
     record { enough = suc q.2.enough; is = logs_more c asked (hands_agree c q.0) q.2 },
   )
 
@@ -88,10 +91,10 @@ module _ (heights : HeightsAgree) (parses : ParsesByOneCall) (h high : ℕ) (low
       (not_deep (record { rule = r; from = 0; to = 0 + length s }) _ settled, tt, record { enough = 0; is = λ n le. logs_none high g n _ _ })
 
 module _ (heights : HeightsAgree) (parses : ParsesByOneCall) (suffice : TurnsSuffice) where
-  calls_settled : (g : Grammar) (h r : ℕ) (s : List ℕ) (outer : Values) → den g (suc h) r s outer ≢ Err Deep
-      → AllByRecursion (IsSettled g h s) (calls_of g h r s outer)
+  pub calls_made : (g : Grammar) (h r : ℕ) (s : List ℕ) (outer : Values) → den g (suc h) r s outer ≢ Err Deep
+      → AllByRecursion (IsMade g h s) (calls_of g h r s outer)
   unfolding den
-  calls_settled g h r s outer settled = (agree_all heights parses h h (omega arith) suffice g r s outer settled).1
+  calls_made g h r s outer settled = (agree_all heights parses h h (omega arith) suffice g r s outer settled).1
 
   calls_agree : (g : Grammar) (h high r : ℕ) (s : List ℕ) (outer : Values) → h ≤ high → den g (suc h) r s outer ≢ Err Deep
       → calls_of g h r s outer ≡ calls_of g high r s outer
@@ -104,22 +107,22 @@ module _ (heights : HeightsAgree) (parses : ParsesByOneCall) (suffice : TurnsSuf
 
   keys_same : (inner other : ℕ → ℕ → List ℕ → Values → List Key) (g : Grammar) (h from : ℕ) (s : List ℕ) (asked : List Asked)
       → ((r from : ℕ) (s : List ℕ) (outer : Values) → den g h r s outer ≢ Err Deep → inner r from s outer ≡ other r from s outer)
-      → AllByRecursion (IsSettled g h s) asked → keys_over inner g from s asked ≡ keys_over other g from s asked
+      → AllByRecursion (IsMade g h s) asked → keys_over inner g from s asked ≡ keys_over other g from s asked
   keys_same inner other g h from s [] same all = refl
   keys_same inner other g h from s (ask ∷ asked) same all =
       ap (λ keys. key_or (holder_of (rule_at g ask.callee)) (key_of from s ask) keys ++ keys_over inner g from s asked)
-      (same ask.callee (from + ask.from) (part s ask.from ask.to) ask.outer all.0)
+      (same ask.callee (from + ask.from) (part s ask.from ask.to) ask.outer all.0.settled)
       ∙ ap (λ keys. key_or (holder_of (rule_at g ask.callee)) (key_of from s ask)
       (other ask.callee (from + ask.from) (part s ask.from ask.to) ask.outer) ++ keys)
       (keys_same inner other g h from s asked same all.1)
 
-  keys_agree : (g : Grammar) (h high : ℕ) → h ≤ high → (r from : ℕ) (s : List ℕ) (outer : Values) → den g h r s outer ≢ Err Deep
+  pub keys_agree : (g : Grammar) (h high : ℕ) → h ≤ high → (r from : ℕ) (s : List ℕ) (outer : Values) → den g h r s outer ≢ Err Deep
       → keys_in g h r from s outer ≡ keys_in g high r from s outer
   unfolding keys_in den
   keys_agree g zero high low r from s outer settled = absurd (settled refl)
   keys_agree g (suc h) zero low r from s outer settled = absurd (omega arith)
   keys_agree g (suc h) (suc high) low r from s outer settled =
-      keys_same (keys_in g h) (keys_in g high) g h from s (calls_of g h r s outer) (keys_agree g h high (omega arith)) (calls_settled g h r s outer settled)
+      keys_same (keys_in g h) (keys_in g high) g h from s (calls_of g h r s outer) (keys_agree g h high (omega arith)) (calls_made g h r s outer settled)
       ∙ ap (keys_over (keys_in g high) g from s) (calls_agree g h high r s outer (omega arith) settled)
 
   -- by one height throughout
@@ -128,4 +131,4 @@ module _ (heights : HeightsAgree) (parses : ParsesByOneCall) (suffice : TurnsSuf
   unfolding keys_in
   keys_are g h high low r from s outer settled =
       sym (keys_agree g (suc h) high low r from s outer settled)
-      ∙ keys_same (keys_in g h) (keys_in g high) g h from s (calls_of g h r s outer) (keys_agree g h high (omega arith)) (calls_settled g h r s outer settled)
+      ∙ keys_same (keys_in g h) (keys_in g high) g h from s (calls_of g h r s outer) (keys_agree g h high (omega arith)) (calls_made g h r s outer settled)

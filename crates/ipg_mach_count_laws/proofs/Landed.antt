@@ -6,18 +6,20 @@ use Rattle.ipg_core.specs.Environment.{Values}
 use Rattle.ipg_core.specs.Run.{Stop, NoTree, OutOfRange, Deep}
 use Rattle.ipg_core.specs.Meaning.{den}
 use Rattle.ipg_mach_moves.specs.Moves.{Key, OpenCall, Highest, Holds, Known, Evaluation, Tally, opened}
-use Rattle.ipg_mach_count_laws.specs.Counts.{keys_in, Has, NoneTwice}
+use Rattle.ipg_mach_count_laws.specs.Counts.{keys_in, Has}
+use Rattle.ipg_mach_count_laws.specs.Kept.{AreAmong}
 use Rattle.ipg_mach_count_laws.proofs.Stays.{Goes, goes_on}
 use Rattle.ipg_mach_count_laws.proofs.Parts.{StandsAt}
-use Rattle.ipg_mach_count_laws.proofs.Grown.{Reached, Grown, grown_both, Right, Fine, Learnt, learnt_none, learnt_both}
+use Rattle.ipg_mach_count_laws.proofs.Grown.{Reached, New, Grown, grown_both, Right, Fine, Learnt, learnt_none, learnt_both}
 
 abbrev pub evaluation : List OpenCall → Highest → Known → Tally → Evaluation
 evaluation lower highest known tally = record { lower = lower; highest = highest; known = Some known; tally = tally }
 
-module _ (s : List ℕ) (high : ℕ) where
-  pub fine_below : (g : Grammar) (h k : ℕ) (known : Known) (keys : List Key) → k ≤ h → Fine g s high (suc h) known keys → Fine g s high k known keys
+module _ (s : List ℕ) (high : ℕ) (kept : List Key) where
+  pub fine_below : (g : Grammar) (h k : ℕ) (known : Known) (keys : List Key) → k ≤ h → Fine g s high kept (suc h) known keys → Fine g s high kept k known keys
   fine_below g h k known keys le fine = record {
     right = fine.right;
+    keeps = fine.keeps;
     opens = λ key has. elim (fine.opens key has) [ inl knows ↦ inl knows | inr deep ↦ inr (λ j lt. deep j (omega arith)) ];
   }
 
@@ -25,7 +27,7 @@ module _ (s : List ℕ) (high : ℕ) where
   pub record Home (g : Grammar) (low lower : List OpenCall) (key at : Key) (known : Known) (keys : List Key) (later : Known) (more : List Key) : Type 0 where
     pub place : low ≡ lower
     pub same : key ≡ at
-    pub learnt : Learnt g s high known keys later more
+    pub learnt : Learnt g s high kept known keys later more
 
   abbrev pub Back : Grammar → Result Tree Stop → List OpenCall → List OpenCall → Key → Key → Known → List Key → Known → List Key → Type 0
   Back g (Ok tree) low lower key at known keys later more = Home g low lower key at known keys later more
@@ -42,36 +44,38 @@ module _ (s : List ℕ) (high : ℕ) where
     pub counted : Tally
     pub more : List Key
     pub goes : Goes e (evaluation low (Holds key answer) later counted)
-    pub grown : Grown g s high own tally keys counted more
+    pub grown : Grown g s high kept own tally keys counted more
     pub back : Back g answer low lower key at known keys later more
 
-  pub back_here : (g : Grammar) (answer : Result Tree Stop) (lower : List OpenCall) (at : Key) (known : Known) (keys : List Key) → Right g s high known keys
+  pub back_here : (g : Grammar) (answer : Result Tree Stop) (lower : List OpenCall) (at : Key) (known : Known) (keys : List Key) → Right g s high kept known keys
       → Back g answer lower lower at at known keys known keys
-  back_here g (Ok tree) lower at known keys right = record { place = refl; same = refl; learnt = learnt_none g s high known keys right }
-  back_here g (Err NoTree) lower at known keys right = record { place = refl; same = refl; learnt = learnt_none g s high known keys right }
+  back_here g (Ok tree) lower at known keys right = record { place = refl; same = refl; learnt = learnt_none g s high kept known keys right }
+  back_here g (Err NoTree) lower at known keys right = record { place = refl; same = refl; learnt = learnt_none g s high kept known keys right }
   back_here g (Err OutOfRange) lower at known keys right = tt
   back_here g (Err Deep) lower at known keys right = tt
 
   home_after : (g : Grammar) (low lower : List OpenCall) (key at : Key) (known middle later : Known) (keys some more : List Key)
-      → Learnt g s high known keys middle some → Home g low lower key at middle some later more → Home g low lower key at known keys later more
-  home_after g low lower key at known middle later keys some more learnt home = record {
+      → AreAmong keys some → Learnt g s high kept known keys middle some → Home g low lower key at middle some later more
+      → Home g low lower key at known keys later more
+  home_after g low lower key at known middle later keys some more stay learnt home = record {
     place = home.place;
     same = home.same;
-    learnt = learnt_both g s high known middle later keys some more learnt home.learnt;
+    learnt = learnt_both g s high kept known middle later keys some more stay learnt home.learnt;
   }
 
   back_after : (g : Grammar) (answer : Result Tree Stop) (low lower : List OpenCall) (key at : Key) (known middle later : Known) (keys some more : List Key)
-      → Learnt g s high known keys middle some → Back g answer low lower key at middle some later more → Back g answer low lower key at known keys later more
-  back_after g (Ok tree) low lower key at known middle later keys some more learnt home =
-      home_after g low lower key at known middle later keys some more learnt home
-  back_after g (Err NoTree) low lower key at known middle later keys some more learnt home =
-      home_after g low lower key at known middle later keys some more learnt home
-  back_after g (Err OutOfRange) low lower key at known middle later keys some more learnt home = tt
-  back_after g (Err Deep) low lower key at known middle later keys some more learnt home = tt
+      → AreAmong keys some → Learnt g s high kept known keys middle some → Back g answer low lower key at middle some later more
+      → Back g answer low lower key at known keys later more
+  back_after g (Ok tree) low lower key at known middle later keys some more stay learnt home =
+      home_after g low lower key at known middle later keys some more stay learnt home
+  back_after g (Err NoTree) low lower key at known middle later keys some more stay learnt home =
+      home_after g low lower key at known middle later keys some more stay learnt home
+  back_after g (Err OutOfRange) low lower key at known middle later keys some more stay learnt home = tt
+  back_after g (Err Deep) low lower key at known middle later keys some more stay learnt home = tt
 
   pub lands_both : (g : Grammar) (answer : Result Tree Stop) (lower : List OpenCall) (at : Key) (own other : List Key) (e next : Evaluation)
-      (known middle : Known) (tally counted : Tally) (keys some : List Key) → Goes e next → Grown g s high own tally keys counted some
-      → Learnt g s high known keys middle some → Lands g answer lower at other next middle counted some
+      (known middle : Known) (tally counted : Tally) (keys some : List Key) → Goes e next → Grown g s high kept own tally keys counted some
+      → Learnt g s high kept known keys middle some → Lands g answer lower at other next middle counted some
       → Lands g answer lower at (own ++ other) e known tally keys
   lands_both g answer lower at own other e next known middle tally counted keys some goes grown learnt lands = record {
     low = lands.low;
@@ -80,8 +84,8 @@ module _ (s : List ℕ) (high : ℕ) where
     counted = lands.counted;
     more = lands.more;
     goes = goes_on e next _ goes lands.goes;
-    grown = grown_both g s high own other tally counted lands.counted keys some lands.more grown lands.grown;
-    back = back_after g answer lands.low lower lands.key at known middle lands.later keys some lands.more learnt lands.back;
+    grown = grown_both g s high kept own other tally counted lands.counted keys some lands.more grown lands.grown;
+    back = back_after g answer lands.low lower lands.key at known middle lands.later keys some lands.more grown.stay learnt lands.back;
   }
 
   pub lands_after : (g : Grammar) (answer : Result Tree Stop) (lower : List OpenCall) (at : Key) (own : List Key) (e next : Evaluation) (known : Known)
@@ -100,10 +104,9 @@ module _ (s : List ℕ) (high : ℕ) where
   -- calls of a call on these bytes may be made, with these keys
   pub record Ready (g : Grammar) (h from : ℕ) (bytes : List ℕ) (own : List Key) (known : Known) (keys : List Key) : Type 0 where
     pub stands : StandsAt s from bytes
-    pub fine : Fine g s high h known keys
-    pub once : NoneTwice keys
-    pub reached : (key : Key) → Has keys key → Reached g s high key
-    pub owned : (key : Key) → Has own key → Reached g s high key
+    pub fine : Fine g s high kept h known keys
+    pub new : New g s high kept keys
+    pub owned : (key : Key) → Has own key → Reached g s high kept key
 
   -- each call whose calls nest so deep
   pub record Counted (h : ℕ) : Type 0 where

@@ -6,8 +6,16 @@ pub mod Settled
 pub mod Alone
 pub mod Parts
 pub mod Heights
+pub mod Asked
 pub mod Grown
+pub mod Found
+pub mod Fresh
 pub mod Least
 pub mod Landed
 pub mod Shared
+pub mod Reaching
 pub mod Whole
+pub mod Nests
+pub mod Deepest
+-- keys lie in the input
+pub mod Inside

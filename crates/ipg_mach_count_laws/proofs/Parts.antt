@@ -1,5 +1,5 @@
 -- Parts of parts, by where they begin in the input.
-use Rattle.std.proofs.Common.{◌≡◌, ℕ, zero, suc, ◌+◌, ◌-◌, refl, sym, ap, ◌∙◌, arith, append-nil, List, [], ◌∷◌, ◌++◌, length, take, drop}
+use Rattle.std.proofs.Common.{◌≡◌, ℕ, zero, suc, ◌+◌, ◌-◌, refl, sym, ap, ◌∙◌, subst, arith, append-nil, List, [], ◌∷◌, ◌++◌, length, take, drop}
 use Rattle.std.proofs.lemmas.List.{take-append-drop, append_assoc}
 use Rattle.std.proofs.Math.Seq.{take-append_seam}
 use Rattle.ipg_core.specs.Part.{part}
@@ -43,3 +43,11 @@ part_stands s from l r bytes at =
 
 pub whole_stands : (s : List ℕ) → StandsAt s 0 s
 whole_stands s = record { rest = []; is = append-nil s }
+
+pub whole_part : (s : List ℕ) → part s 0 (length s) ≡ s
+whole_part s = let e : length s ≡ 0 + length s = omega arith in ap (part s 0) e ∙ part_at s 0 s (whole_stands s)
+
+-- an interval of the input stands where it begins
+pub part_stands_there : (s : List ℕ) (from to : ℕ) → StandsAt s from (part s from to)
+part_stands_there s from to =
+    let e : 0 + from ≡ from = omega arith in subst (λ n. StandsAt s n (part s from to)) e (part_stands s 0 from to s (whole_stands s))
