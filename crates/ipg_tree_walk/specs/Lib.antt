@@ -8,3 +8,5 @@ pub mod Left
 pub mod Steps
 -- a parsed tree, and a walk over it
 pub mod Parse
+-- the tree apart from its tables and its input
+pub mod Detached

@@ -2,11 +2,13 @@
 #![tactic(auto)]
 
 mod bytes;
+mod detached;
 mod parsed;
 mod stack;
 #[cfg(test)]
 mod tests;
 mod walk;
 
+pub use detached::Detached;
 pub use parsed::{Counts, Ends, Parsed};
 pub use walk::Visit;

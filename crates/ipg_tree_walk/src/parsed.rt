@@ -15,6 +15,7 @@ ghost use Rattle.ipg_tree_walk.specs.Parse.{AllLeft, Left, steps_left};
 ghost use Rattle.ipg_tree_walk.specs.Steps.{wide};
 
 use crate::bytes::part;
+use crate::detached::Detached;
 use crate::stack::Stack;
 use crate::walk::{Visit, enter, root_visit, step};
 use ipg_mach_nodes::{Kid, RunId, Store};
@@ -63,16 +64,6 @@ impl<'a, A: Allocator> Model for Parsed<'a, A> {
     ghost invariant = { λ p. IsRoomy p };
 }
 
-/// How many levels lie in a node; 0 where there is none.
-fn levels_at<A: Allocator + Clone + Drop>(store: &Store<A>, id: RunId) -> u32
-    ensures { (node : Node) → slice_get store.now.nodes id.place ≡ Some (node ∷ []) → result ≡ node.levels }
-{
-    match store.node(id) {
-        Some(node) => node.levels,
-        None => 0,
-    }
-}
-
 impl<'a, A: Allocator + Clone + Drop> Parsed<'a, A> {
     /// A parsed tree, with all of a walk ahead. Nothing else that is asked of it takes memory.
     pub fn new(
@@ -86,9 +77,16 @@ impl<'a, A: Allocator + Clone + Drop> Parsed<'a, A> {
         ensures parse { IfOk result (λ p. p.parse ≡ record { tables = tables.now; input = input.now; store = store; root = root; counts = counts }) }
         ensures left { IfOk result (λ p. AllLeft p) }
     {
-        let room = levels_at(&store, root);
-        let stack = Stack::with_room(alloc, room)?;
-        Ok(Parsed {
+        Ok(Parsed::attach(tables, input, Detached::new(alloc, store, root, counts)?))
+    }
+
+    /// The tree with what it was parsed by and from. Takes no memory.
+    pub fn attach(tables: &'a Tables, input: &'a [u8], tree: Detached<A>) -> Parsed<'a, A>
+        ensures parse { result.parse ≡ record { tables = tables.now; input = input.now; store = tree.store; root = tree.root; counts = tree.counts } }
+        ensures left { AllLeft result }
+    {
+        let (store, root, counts, stack) = tree.into_parts();
+        Parsed {
             tables,
             input,
             store,
@@ -96,7 +94,21 @@ impl<'a, A: Allocator + Clone + Drop> Parsed<'a, A> {
             counts,
             stack,
             is_ahead: true,
-        })
+        }
+    }
+
+    /// The tree apart, with the memory of its walk. Takes none.
+    pub fn detach(self) -> Detached<A>
+        ensures { result ≡ record { store = self.entry.parse.store; root = self.entry.parse.root; counts = self.entry.parse.counts } }
+    {
+        let Parsed {
+            store,
+            root,
+            counts,
+            stack,
+            ..
+        } = self;
+        Detached::with_stack(store, root, counts, stack)
     }
 
     /// The tables of the grammar that was parsed by.

@@ -1,5 +1,5 @@
 use Rattle.std.proofs.Common.{arith, ap}
-use Rattle.ipg_tree_walk.proofs.parsed.Parsed.new.Goals as goal
+use Rattle.ipg_tree_walk.proofs.detached.Detached.new.Goals as goal
 
 pub invariant_of-result : goal.invariant_of-result
 invariant_of-result g c node at =
