@@ -1,17 +1,18 @@
 -- Moves one after another, and what they end with.
-use Rattle.std.proofs.Common.{◌≡◌, ℕ, zero, suc, refl, sym, subst, Option, Some, None, Result, List}
+use Rattle.std.proofs.Common.{◌≡◌, ℕ, zero, suc, refl, sym, subst, Option, Some, None, Result, List, inl, inr}
 use Rattle.ipg_core.specs.Grammar.{Grammar}
 use Rattle.ipg_core.specs.Tree.{Tree}
 use Rattle.ipg_core.specs.Run.{Stop}
-use Rattle.ipg_mach_moves.specs.Moves.{Evaluation, moves, move, ended}
+use Rattle.ipg_mach_moves.specs.Moves.{Evaluation, Known, Tally, moves, move, ended}
 use Rattle.ipg_mach_moves.specs.Laws.{AreRight}
 use Rattle.ipg_mach_nodes.specs.Stored.{Source}
 use Rattle.ipg_mach.specs.declared.machine.Remember.{Remember}
 use Rattle.ipg_mach.specs.declared.machine.Remember.TheVariants.{Nothing, Answers}
 use Rattle.ipg_mach.specs.declared.machine.Turn.TheVariants.{Done}
-use Rattle.ipg_mach.specs.Outcome.{Ends}
+use Rattle.ipg_mach.specs.Outcome.{Ends, Evaluates}
 use Rattle.ipg_mach.specs.Stage.{Stage, IsAt}
 use Rattle.ipg_mach.specs.Turning.{known_at, turn_of}
+use Rattle.ipg_mach.specs.Verdict.{ComesTo}
 
 pub one_more : (n : ℕ) (e : Evaluation) → moves (suc n) e ≡ move (moves n e)
 unfolding moves
@@ -33,3 +34,10 @@ done src s e n at turn =
 pub knows_nothing : (g : Grammar) (s : List ℕ) (remember : Remember) → AreRight g s (known_at remember)
 knows_nothing g s Nothing = tt
 knows_nothing g s Answers = tt
+
+-- so the first rule had to run
+pub evaluates : (g : Grammar) (s : List ℕ) (remember : Remember) (answer : Result Tree Stop) (tally : Tally) (later : Option Known)
+    → ComesTo g s (known_at remember) answer tally later → Evaluates g s (known_at remember) answer tally
+evaluates g s Nothing answer tally later (inl was) = let e = was.kept in absurd (cc)
+evaluates g s Answers answer tally later (inl was) = let e = was.kept in absurd (cc)
+evaluates g s remember answer tally later (inr ran) = record { moved = ran.moved; ends = ran.ends; counts = ran.counts }

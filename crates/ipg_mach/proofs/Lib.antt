@@ -8,3 +8,5 @@ pub mod Stepping
 pub mod Knowing
 pub mod Remembering
 pub mod Ending
+-- what is known of the first rule on the whole input
+pub mod Verdicts

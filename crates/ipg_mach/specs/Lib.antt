@@ -16,3 +16,5 @@ pub mod Stage
 pub mod Turning
 -- what a parse comes to
 pub mod Outcome
+-- what a parse over what is kept comes to
+pub mod Verdict

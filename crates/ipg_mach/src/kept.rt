@@ -3,7 +3,7 @@
 ghost use Rattle.std.specs.Prelude.{◌≡◌, IfOk, Result};
 ghost use Rattle.ipg_mach_nodes.specs.Stored.{Source, Stored, nothing};
 ghost use Rattle.ipg_mach.specs.Known.{IsKnown};
-ghost use Rattle.ipg_mach.specs.Turning.{known_at};
+ghost use Rattle.ipg_mach.specs.Turning.{known_at, memo_at};
 
 use crate::machine::Remember;
 use ipg_mach_nodes::Store;
@@ -19,7 +19,8 @@ pub struct Kept<A: Allocator> {
 
 /// A memo without entries, where answers are remembered.
 fn memo_for<A: Allocator + Clone + Drop>(alloc: A, remember: Remember) -> Option<Memo<A>>
-    ensures { (src : Source) (st : Stored) → IsKnown src st result (known_at remember) }
+    ensures memo { result ≡ memo_at remember }
+    ensures known { (src : Source) (st : Stored) → IsKnown src st result (known_at remember) }
 {
     match remember {
         Remember::Nothing => None,
@@ -31,6 +32,7 @@ impl<A: Allocator + Clone + Drop> Kept<A> {
     /// Nothing is kept so far.
     pub fn new(alloc: A, remember: Remember) -> Result<Kept<A>, AllocError>
         ensures store { IfOk result (λ kept. kept.store ≡ nothing) }
+        ensures memo { IfOk result (λ kept. kept.memo ≡ memo_at remember) }
         ensures known { IfOk result (λ kept. (src : Source) → IsKnown src kept.store kept.memo (known_at remember)) }
     {
         let memo = memo_for(alloc.clone()?, remember);

@@ -13,9 +13,11 @@ mod piles;
 mod reader;
 mod remembered;
 mod top;
+mod verdict;
 mod work;
 
 pub use ipg_tree_walk::{Counts, Parsed};
 pub use kept::Kept;
 pub use machine::{Machine, Remember, Turn};
-pub use parsing::{Outcome, parse, parse_over};
+pub use parsing::{Outcome, parse};
+pub use verdict::Verdict;

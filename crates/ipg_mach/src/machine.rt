@@ -7,25 +7,27 @@ ghost use Rattle.ipg_core.specs.Run.{Stop};
 ghost use Rattle.ipg_mach_moves.specs.Moves.{Evaluation, Known, opening, opened, move, ended};
 ghost use Rattle.ipg_mach_nodes.specs.Stored.{Source, IsMark, before};
 ghost use Rattle.ipg_table.specs.Rows.{StandFor};
-ghost use Rattle.ipg_mach.specs.Calls.{shown, IsHighest};
+ghost use Rattle.ipg_mach.specs.Calls.{shown, IsAnswer, IsHighest};
+ghost use Rattle.ipg_mach.specs.Counted.{IsTally};
 ghost use Rattle.ipg_mach.specs.Known.{IsKnown};
-ghost use Rattle.ipg_mach.specs.Outcome.{IsOutcome};
 ghost use Rattle.ipg_mach.specs.Stage.{staged, source, IsAt};
 ghost use Rattle.ipg_mach.specs.Turning.{known_at, turn_of};
 
 use crate::counted;
-use crate::frame::{Frame, NewCall, Outer};
+use crate::frame::{Frame, Held, NewCall, Outer};
 use crate::kept::Kept;
-use crate::parsing::{Outcome, end_with};
 use crate::piles::{Bases, Piles};
 use crate::reader::Reader;
 use crate::top::Top;
 use crate::work::Work;
 use ipg_mach_node::Scratch;
+use ipg_mach_node::laws::grows_from_before;
+use ipg_mach_nodes::laws::trees_stay;
 use ipg_mach_nodes::{Mark, Store};
 use ipg_mach_term::Entry;
 use ipg_region::Stack;
 use ipg_table::tables::Tables;
+use ipg_tree_walk::Counts;
 use std::alloc::{AllocError, Allocator};
 
 /// What is remembered of calls.
@@ -41,6 +43,14 @@ pub enum Remember {
 pub enum Turn {
     More,
     Done,
+}
+
+/// What an evaluation has come to: the answer of the first rule, what was counted, and what is kept.
+#[derive(Drop)]
+pub(crate) struct Stopped<A: Allocator> {
+    pub held: Held,
+    pub counts: Counts,
+    pub kept: Kept<A>,
 }
 
 /// So many zeros.
@@ -113,7 +123,6 @@ pub struct Machine<'m, A: Allocator> {
     pub work: Work<'m, A>,
     pub tables: &'m Tables,
     pub input: &'m [u8],
-    pub alloc: A,
     /// Memory ran out in the midst of a move.
     pub is_spoiled: bool,
 }
@@ -166,7 +175,6 @@ impl<'m, A: Allocator + Clone + Drop> Machine<'m, A> {
             work,
             tables,
             input,
-            alloc,
             is_spoiled: false,
         })
     }
@@ -199,22 +207,31 @@ impl<'m, A: Allocator + Clone + Drop> Machine<'m, A> {
         self.work.frames.len() as u64 + 1
     }
 
-    /// What the evaluation has come to, once it has ended. The room for a walk over the tree is taken here.
-    pub fn finish(self) -> Result<Outcome<'m, A>, AllocError>
-        ensures { IfOk result (λ outcome. (e : Evaluation) (answer : Result Tree Stop)
-            → IsAt (source self.entry.tables.now self.entry.input.now) (staged self.entry.work) e → ended e ≡ Some answer
-            → IsOutcome self.entry.tables.now self.entry.input.now outcome answer e.tally) }
+    /// What the evaluation has come to, once it has ended.
+    pub(crate) fn stop(self) -> Result<Stopped<A>, AllocError>
+        ensures { IfOk result (λ stopped. (src : Source) (e : Evaluation) (answer : Result Tree Stop)
+            → IsAt src (staged self.entry.work) e → ended e ≡ Some answer
+            → IsAnswer src stopped.kept.store 0 (length src.input) stopped.held answer × IsTally stopped.counts e.tally
+            × IsKnown src stopped.kept.store stopped.kept.memo e.known) }
     {
-        let Machine {
-            work,
-            tables,
-            input,
-            alloc,
+        grows_from_before();
+        trees_stay();
+        let Machine { work, .. } = self;
+        let Work {
+            top,
+            memo,
+            counts,
             ..
-        } = self;
-        let Work { top, counts, .. } = work;
+        } = work;
         match top.answer {
-            Some(held) => end_with(alloc, tables, input, top.store, held, counts),
+            Some(held) => Ok(Stopped {
+                held,
+                counts,
+                kept: Kept {
+                    store: top.store,
+                    memo,
+                },
+            }),
             None => Err(AllocError),
         }
     }

@@ -6,8 +6,10 @@ use Rattle.ipg_mach.proofs.parsing.parse.Goals as goal
 
 pub returns : goal.returns
 returns g c =
-    IfOk-weaker c.parse_over.result _ _
+    IfOk-weaker c.outcome_of.result _ _
     (λ outcome gives grammar answer stand means.
-    gives grammar (known_at c.args.remember) answer stand (ending.knows_nothing grammar c.args.input.now c.args.remember)
-    (c.in_ok-kept.ensures.known (source c.args.tables.now c.args.input.now)) means)
-    c.parse_over.ensures
+    let input = c.args.input.now in
+    let it = c.in_ok-verdict.ensures grammar (known_at c.args.remember) answer stand (ending.knows_nothing grammar input c.args.remember)
+    (c.in_ok-kept.ensures.known (source c.args.tables.now input)) means in
+    (it.0, ending.evaluates grammar input c.args.remember answer it.0 it.1 it.2, gives answer it.0 it.1 it.4))
+    c.outcome_of.ensures

@@ -2,7 +2,7 @@ use Rattle.std.proofs.Common.{refl, sym, ◌∙◌, subst, suc}
 use Rattle.ipg_mach_moves.specs.Moves.{moves}
 use Rattle.ipg_mach.specs.Stage.{staged, IsAt}
 use Rattle.ipg_mach.proofs.Ending as ending
-use Rattle.ipg_mach.proofs.parsing.run.Goals as goal
+use Rattle.ipg_mach.proofs.verdict.run_to_end.Goals as goal
 
 pub loop-left-init : goal.loop-left-init
 unfolding moves

@@ -2,7 +2,7 @@ use Rattle.std.proofs.Common.{◌≡◌, ℕ}
 use Rattle.ipg_mach_moves.specs.Moves.{Evaluation, moves}
 use Rattle.ipg_mach_nodes.specs.Stored.{Source}
 use Rattle.ipg_mach.specs.Stage.{staged, IsAt}
-use Rattle.ipg_mach.proofs.parsing.run.Given as goal
+use Rattle.ipg_mach.proofs.verdict.run_to_end.Given as goal
 
 abbrev pub invariant-loop-left : goal.invariant-loop-left
 invariant-loop-left g l =
