@@ -2,3 +2,5 @@
 pub mod Edited
 -- laws: the bytes of parts, and the trees over them
 pub mod Laws
+-- answers that stay known
+pub mod Known

@@ -1,0 +1,5 @@
+use Rattle.ipg_edit_laws.proofs.Knowing as knowing
+use Rattle.ipg_edit_laws.proofs.laws.known_stays.Goals as goal
+
+pub returns : goal.returns
+returns c = knowing.known_stays
