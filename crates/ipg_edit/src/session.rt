@@ -1,0 +1,311 @@
+//! Sessions.
+
+ghost use Rattle.std.specs.Prelude.{◌≡◌, ◌↔◌, ◌+◌, ◌-◌, ◌≤◌, ◌^◌, List, [], length, IfOk, IsTrue, OnOk, OnErr, Err, None, Result};
+ghost use Rattle.ipg_core.specs.Good.{Good};
+ghost use Rattle.ipg_core.specs.Grammar.{Grammar};
+ghost use Rattle.ipg_core.specs.Grown.{IsInput};
+ghost use Rattle.ipg_core.specs.Lines.{lines};
+ghost use Rattle.ipg_core.specs.Meaning.{Means};
+ghost use Rattle.ipg_core.specs.Run.{Stop};
+ghost use Rattle.ipg_core.specs.Tree.{Tree as AnyTree};
+ghost use Rattle.ipg_mach_moves.specs.Moves.{Key};
+ghost use Rattle.ipg_table.specs.Rows.{StandFor};
+ghost use Rattle.ipg_tree.specs.Puts.{Puts};
+ghost use Rattle.ipg_edit.specs.Answered.{Answers, answer_by};
+ghost use Rattle.ipg_edit_laws.specs.Edited.{edited, IsEditOf};
+ghost use Rattle.ipg_edit.specs.Edits.{IsAllowed, IsEdited, AreMoved, memo_with};
+ghost use Rattle.ipg_edit.specs.Session.{Knows, Shows, holding, held_by, nothing};
+
+use ipg_edit_laws::laws::{
+    earlier_trees_stay, edited_length, keys_after_are_known, known_moves, known_stays,
+    later_trees_move, nothing_else, one_origin, stays_right_to_know,
+};
+use ipg_mach::{Counts, Kept, Remember, Verdict};
+use ipg_mach_count_laws::laws::{
+    counts_over, deepest_over, fresh_lie_inside, known_at_end, none_where_first_kept,
+};
+use ipg_memo::Memo;
+use ipg_outside::{Sink, SinkFault};
+use ipg_table::tables::Tables;
+use ipg_tree::print;
+use ipg_tree_walk::{Detached, Parsed};
+use std::alloc::{AllocError, Allocator};
+use std::marker::Model;
+use std::mem::replace;
+
+/// What the input comes to, with what was counted: as many bodies as keys had to run.
+#[derive(Clone, Copy, Debug, PartialEq, Eq)]
+pub enum Answer {
+    Tree(Counts),
+    NoTree(Counts),
+    /// A value left 64 bits.
+    Range(Counts),
+}
+
+/// Why an edit is refused.
+#[derive(Clone, Copy, Debug, PartialEq, Eq)]
+pub enum EditFault {
+    /// The places aren't in order and within the input, or the input would pass 2^30 bytes.
+    OutOfInput,
+    Memory,
+}
+
+impl From<AllocError> for EditFault {
+    ghost use Rattle.std.specs.Prelude.{◌≡◌};
+    ghost use Rattle.ipg_edit.specs.declared.session.EditFault.TheVariants.{Memory};
+
+    ghost from_gives = { λ _ fault. fault ≡ Memory };
+
+    fn from(_: AllocError) -> EditFault {
+        EditFault::Memory
+    }
+}
+
+/// How many bytes an input may have.
+const MAX_INPUT: usize = 1 << 30;
+
+/// What a session knows of its input.
+#[derive(Drop)]
+enum State<A: Allocator> {
+    /// Nothing: at first, where a value left 64 bits, and after want of memory.
+    Nothing,
+    Known(Kept<A>),
+    /// All that is known, and the tree of the last answer.
+    Shown(Detached<A>, Option<Memo<A>>),
+}
+
+/// An input that is edited, and answers of calls on it that are known.
+#[derive(Drop)]
+pub struct Session<'t, A: Allocator> {
+    alloc: A,
+    tables: &'t Tables,
+    input: Vec<u8, A>,
+    state: State<A>,
+}
+
+impl<'t, A: Allocator> Model for Session<'t, A> {
+    ghost use Rattle.std.specs.Coded.{codes};
+    ghost use Rattle.std.specs.FinMap as map;
+    ghost use Rattle.ipg_memo.specs.Keyed.{key_cmp, key_code, entry_code};
+    ghost use Rattle.ipg_edit.specs.Session.{Seen, seen, IsSmall};
+
+    ghost Value = { Seen };
+
+    ghost coded = { Prim.hlevel (codes, map.code {R = key_cmp} key_code entry_code) };
+
+    ghost view = { λ s. seen s };
+
+    ghost invariant = { λ s. IsSmall s };
+}
+
+/// Whether an input of so many bytes has the places, in order, and so many bytes in their stead leave one that isn't too long.
+fn is_allowed(size: usize, from: u32, to: u32, new: usize) -> bool
+    requires { size ≤ 2 ^ 30 }
+    ensures { IsTrue result ↔ ((from ≤ to) × (to ≤ size) × (size + new - (to - from) ≤ 2 ^ 30)) }
+{
+    from <= to
+        && to as usize <= size
+        && (size - (to - from) as usize).saturating_add(new) <= MAX_INPUT
+}
+
+/// What is lent of an input are bytes.
+fn holds_bytes(input: &[u8])
+    requires { length input.now ≤ 2 ^ 30 }
+    ensures { IsInput input.now }
+{}
+
+/// The input with the bytes between two places replaced.
+fn replaced<A: Allocator + Clone + Drop>(
+    alloc: A,
+    input: &[u8],
+    from: usize,
+    to: usize,
+    with: &[u8],
+) -> Result<Vec<u8, A>, AllocError>
+    requires { IsEditOf input.now from to }
+    ensures { IfOk result (λ bytes. bytes.items ≡ edited input.now from to with.now) }
+{
+    let mut bytes = Vec::with_capacity(alloc, input.len() - (to - from) + with.len())?;
+    bytes.extend_from_slice(&input[..from])?;
+    bytes.extend_from_slice(with)?;
+    bytes.extend_from_slice(&input[to..])?;
+    Ok(bytes)
+}
+
+/// A memo's entries as an edit leaves them.
+fn moved_memo<A: Allocator + Clone + Drop>(
+    memo: &Option<Memo<A>>,
+    from: u32,
+    to: u32,
+    new: u32,
+) -> Result<Option<Memo<A>>, AllocError>
+    requires { from ≤ to }
+    ensures { IfOk result (AreMoved from to new memo.now) }
+{
+    match memo {
+        Some(memo) => Ok(Some(memo.moved(from, to, new)?)),
+        None => Ok(None),
+    }
+}
+
+impl<A: Allocator + Clone + Drop> State<A> {
+    /// The entries of what is kept, as an edit leaves them.
+    fn moved(&self, from: u32, to: u32, new: u32) -> Result<Option<Memo<A>>, AllocError>
+        requires { from ≤ to }
+        ensures { IfOk result (λ memo. AreMoved from to new (holding self.now).memo (memo_with self.now memo)) }
+    {
+        match self {
+            State::Nothing => Ok(None),
+            State::Known(kept) => moved_memo(&kept.memo, from, to, new),
+            State::Shown(_, memo) => moved_memo(memo, from, to, new),
+        }
+    }
+
+    /// The same nodes with other entries. No tree is shown.
+    fn with_memo(self, memo: Option<Memo<A>>) -> State<A>
+        ensures { holding result ≡ record { store = (holding self).store; memo = memo_with self memo; shown = None } }
+    {
+        match self {
+            State::Nothing => State::Nothing,
+            State::Known(kept) => State::Known(Kept {
+                store: kept.store,
+                memo,
+            }),
+            State::Shown(tree, _) => State::Known(Kept {
+                store: tree.into_store(),
+                memo,
+            }),
+        }
+    }
+
+    /// What is kept. The tree isn't shown any more.
+    fn into_kept(self, alloc: A) -> Result<Kept<A>, AllocError>
+        ensures { IfOk result (λ kept. (kept.store ≡ (holding self).store) × (kept.memo ≡ (holding self).memo)) }
+    {
+        match self {
+            State::Nothing => Kept::new(alloc, Remember::Answers),
+            State::Known(kept) => Ok(kept),
+            State::Shown(tree, memo) => Ok(Kept {
+                store: tree.into_store(),
+                memo,
+            }),
+        }
+    }
+}
+
+impl<'t, A: Allocator + Clone + Drop> Session<'t, A> {
+    /// A session over a copy of the input. Nothing is known yet.
+    pub fn new(alloc: A, tables: &'t Tables, input: &[u8]) -> Result<Session<'t, A>, AllocError>
+        requires { length input.now ≤ 2 ^ 30 }
+        ensures seen { IfOk result (λ s. s ≡ record { tables = tables.now; input = input.now; holding = nothing }) }
+        ensures knows { IfOk result (λ s. (g : Grammar) → StandFor tables.now g → Good g → Knows g [] s) }
+    {
+        let input = Vec::from_slice(alloc.clone()?, input)?;
+        Ok(Session {
+            alloc,
+            tables,
+            input,
+            state: State::Nothing,
+        })
+    }
+
+    /// What the input comes to. What is known spares calls; after want of memory nothing is.
+    pub fn answer(&mut self) -> Result<Answer, AllocError>
+        ensures ok { IfOk result (λ given. (g : Grammar) (kept : List Key) (answer : Result AnyTree Stop) → Knows g kept self.old
+            → Means g self.old.input answer → Answers g self.old.input kept answer given self.new) }
+        ensures err { OnErr result (self.new.holding ≡ nothing) }
+        ensures input { self.new.input ≡ self.old.input }
+        ensures tables { self.new.tables ≡ self.old.tables }
+    {
+        counts_over();
+        deepest_over();
+        fresh_lie_inside();
+        known_at_end();
+        none_where_first_kept();
+        let state = replace(&mut self.state, State::Nothing);
+        let kept = state.into_kept(self.alloc.clone()?)?;
+        let input = self.input.as_slice();
+        holds_bytes(input);
+        let verdict = kept.run(self.alloc.clone()?, self.tables, input)?;
+        self.take(verdict)
+    }
+
+    /// What a parse came to is known, and its tree shown.
+    fn take(&mut self, verdict: Verdict<A>) -> Result<Answer, AllocError>
+        requires { self.old.holding ≡ nothing }
+        ensures ok { IfOk result (λ given. (given ≡ answer_by verdict) × (self.new.holding ≡ held_by verdict)) }
+        ensures err { OnErr result (self.new.holding ≡ nothing) }
+        ensures input { self.new.input ≡ self.old.input }
+        ensures tables { self.new.tables ≡ self.old.tables }
+    {
+        match verdict {
+            Verdict::Tree { root, counts, kept } => {
+                let Kept { store, memo } = kept;
+                let tree = Detached::new(self.alloc.clone()?, store, root, counts)?;
+                self.state = State::Shown(tree, memo);
+                Ok(Answer::Tree(counts))
+            }
+            Verdict::NoTree { counts, kept } => {
+                self.state = State::Known(kept);
+                Ok(Answer::NoTree(counts))
+            }
+            Verdict::Range { counts } => Ok(Answer::Range(counts)),
+        }
+    }
+
+    /// Replaces the bytes from one place up to another. What is known of parts before them and behind them stays known. A
+    /// refusal changes nothing.
+    ///
+    /// # Errors
+    /// `OutOfInput` exactly where the places aren't in order and within the input, or the input would pass 2^30 bytes;
+    /// `Memory` where memory is wanting.
+    pub fn edit(&mut self, from: u32, to: u32, with: &[u8]) -> Result<(), EditFault>
+        ensures out { result ≡ Err EditFault.OutOfInput ↔ ¬ (IsAllowed self.old.input from to with.now) }
+        ensures ok { OnOk result (IsEdited from to with.now self.old self.new) }
+        ensures err { OnErr result (self.new ≡ self.old) }
+    {
+        earlier_trees_stay();
+        later_trees_move();
+        known_stays();
+        known_moves();
+        nothing_else();
+        one_origin();
+        keys_after_are_known();
+        stays_right_to_know();
+        edited_length();
+        if !is_allowed(self.input.len(), from, to, with.len()) {
+            return Err(EditFault::OutOfInput);
+        }
+        let input = replaced(
+            self.alloc.clone()?,
+            self.input.as_slice(),
+            from as usize,
+            to as usize,
+            with,
+        )?;
+        let memo = self.state.moved(from, to, with.len() as u32)?;
+        self.input = input;
+        self.state = replace(&mut self.state, State::Nothing).with_memo(memo);
+        Ok(())
+    }
+
+    /// Writes the lines of the tree that is shown, without taking memory.
+    pub fn print<S: Sink>(&mut self, out: &mut S) -> Result<(), SinkFault>
+        ensures stays { self.new ≡ self.old }
+        ensures lines { (g : Grammar) (one : AnyTree) → StandFor self.old.tables g → Shows one self.old
+            → Puts result (lines g one 0) (S.output out.old) (S.faults out.old) (S.output out.new) (S.faults out.new) }
+    {
+        match replace(&mut self.state, State::Nothing) {
+            State::Shown(tree, memo) => {
+                let mut parsed = Parsed::attach(self.tables, self.input.as_slice(), tree);
+                let said = print(&mut parsed, out);
+                self.state = State::Shown(parsed.detach(), memo);
+                said
+            }
+            other => {
+                self.state = other;
+                Ok(())
+            }
+        }
+    }
+}
