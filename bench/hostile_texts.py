@@ -34,9 +34,9 @@ def choices(count, called="S"):
 
 
 def greatest(count):
-    """The greatest of `count` + 1 values, each time by a conditional that has the one before it twice."""
-    values = "".join(f" {{ m{k} = m{k - 1} > {k} ? m{k - 1} : {k} }}" for k in range(1, count + 1))
-    return f'S -> {{ m0 = EOI }}{values} S[m{count} + 1, EOI] / "" ;\n'
+    """A value chosen by comparing one that is chosen so itself, and so on."""
+    value = functools.reduce(lambda inner, k: f"({inner} > U8.val * {k + 1} ? U8.val : U16LE.val)", range(count), "EOI")
+    return f'S -> U8 U16LE {{ most = {value} }} S[most + 1, EOI] / "" ;\n'
 
 
 # -- conditions over many values
