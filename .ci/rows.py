@@ -24,6 +24,7 @@ ROWS = {
     "loads": "table files and inputs of independent implementations",
     "covers": "grammars of independent implementations",
     "rebuilds": "grammars and inputs of independent implementations",
+    "edits": "grammars, inputs and scripts of independent implementations",
 }
 
 

@@ -12,4 +12,7 @@ pub mod Hits
 pub mod Verified
 pub mod Pieces
 pub mod Rebuilt
+pub mod Told
+pub mod Behind
+pub mod OneEdits
 pub mod OneReply

@@ -21,7 +21,7 @@ module _ (heights : HeightsAgree) where
   higher g s answer m h =
       heights g m.height (m.height + h) 0 s [] (omega arith) (subst (λ a. a ≢ Err Deep) (sym m.is) m.settled) ∙ m.is
 
-  one_answer : (g : Grammar) (s : List ℕ) (one other : Result Tree Stop) → Means g s one → Means g s other → one ≡ other
+  pub one_answer : (g : Grammar) (s : List ℕ) (one other : Result Tree Stop) → Means g s one → Means g s other → one ≡ other
   one_answer g s one other m n =
       let same : n.height + m.height ≡ m.height + n.height = omega arith in
       sym (higher g s one m n.height) ∙ ap (λ h. den g h 0 s []) (sym same) ∙ higher g s other n m.height

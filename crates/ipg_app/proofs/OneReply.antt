@@ -12,6 +12,10 @@ use Rattle.ipg_proof.specs.declared.fault.ProofWhy.TheVariants.{Memory}
 use Rattle.ipg_proof.specs.Once.{ProvesIsNoFault, FaultIsOne}
 use Rattle.ipg_proof.specs.Texts as cert
 use Rattle.ipg_proof.specs.Texts.{IsTextFault}
+use Rattle.ipg_edit_script.specs.declared.script.Edit as scripts
+use Rattle.ipg_edit_script.specs.Laws.{OneScript}
+use Rattle.ipg_edit_script.specs.Scripts.{AreEdits, script_text}
+use Rattle.ipg_reader.specs.Faults as first
 use Rattle.ipg_query_path.specs.declared.path.Query as paths
 use Rattle.ipg_query_path.specs.Laws.{OnePath}
 use Rattle.ipg_query_path.specs.Paths.{IsPath, IsFirstFault}
@@ -21,12 +25,13 @@ use Rattle.ipg_app.specs.declared.task.Show.{Show}
 use Rattle.ipg_app.specs.declared.task.Show.TheVariants.{Lines, Picked, Bytes}
 use Rattle.ipg_app.specs.Certificate.{Reads, Judges, cert_text, proof_said}
 use Rattle.ipg_app.specs.Checks.{Checks}
+use Rattle.ipg_app.specs.Editing.{ReadsScript, Edits, edit_text}
 use Rattle.ipg_app.specs.CoreOf.{CoreOf, grammar_in}
-use Rattle.ipg_app.specs.Laws.{OneCore, OneCheck, OneParse, OneReply, HasOneReply}
+use Rattle.ipg_app.specs.Laws.{OneCore, OneCheck, OneParse, OneEdits, OneReply, HasOneReply}
 use Rattle.ipg_app.specs.Order.{Order, Answers, says, finds, reads, only, have}
 use Rattle.ipg_app.specs.Path.{ReadsPath, query_syntax}
-use Rattle.ipg_app.specs.Reply.{Task, Parse, Check, Cert, Verify, Table, Cover, text_by, core_of, accepted, input_in, parse_input, judge, formatted}
-use Rattle.ipg_app.specs.Reply.{order_by, order_on, use_order, load_in, Parses}
+use Rattle.ipg_app.specs.Reply.{Task, Parse, Check, Cert, Verify, Table, Cover, Edit, text_by, core_of, accepted, input_in, parse_input, judge, formatted}
+use Rattle.ipg_app.specs.Reply.{order_by, order_on, use_order, load_in, Parses, edit_file, edit_input, edits_of}
 use Rattle.ipg_app.specs.Covering.{CoverSays, may_gap}
 use Rattle.ipg_cover.specs.Laws.{CoveredHasNoGap, OneGap}
 use Rattle.ipg_app.specs.Tables.{Loads, load_said}
@@ -85,6 +90,24 @@ one_path_fault text a b p q = elim (order a b) [
   | inr apart ↦ elim apart [ inl less ↦ absurd (no_path_before text a b p q less) | inr more ↦ absurd (no_path_before text b a q p more) ]
 ]
 
+-- a script of these edits is the text
+abbrev IsScriptOf : List scripts.Edit → List ℕ → Type 0
+IsScriptOf edits text = AreEdits edits × (script_text edits ≡ text)
+
+abbrev IsScriptFault : List ℕ → ℕ → Type 0
+IsScriptFault text at = first.IsFirstFault AreEdits script_text text at
+
+no_script_before : (text : List ℕ) (a b : ℕ) → IsScriptFault text a → IsScriptFault text b → a < b → ⊥
+no_script_before text a b p q less =
+    let more = fewer IsScriptOf (a + 1) b text (omega (arith, less)) q.before in
+    p.there (omega (arith, less, q.within)) more
+
+one_script_fault : (text : List ℕ) (a b : ℕ) → IsScriptFault text a → IsScriptFault text b → a ≡ b
+one_script_fault text a b p q = elim (order a b) [
+  | inl e ↦ e
+  | inr apart ↦ elim apart [ inl less ↦ absurd (no_script_before text a b p q less) | inr more ↦ absurd (no_script_before text b a q p more) ]
+]
+
 -- ---- what is found is one
 
 reads_same : (text : List ℕ) (x y : Result Certificate Said) → Reads text x → Reads text y → x ≡ y
@@ -98,6 +121,12 @@ path_same one_path text (Ok a) (Ok b) p q = ap Ok (one_path text a b p q)
 path_same one_path text (Ok a) (Err said) p q = absurd (q.fault.whole a p)
 path_same one_path text (Err said) (Ok b) p q = absurd (p.fault.whole b q)
 path_same one_path text (Err one) (Err other) p q = ap Err (p.is ∙ ap query_syntax (one_path_fault text p.at q.at p.fault q.fault) ∙ sym q.is)
+
+script_same : OneScript → (text : List ℕ) (x y : Result (List scripts.Edit) Said) → ReadsScript text x → ReadsScript text y → x ≡ y
+script_same one_script text (Ok a) (Ok b) p q = ap Ok (one_script text a b p q)
+script_same one_script text (Ok a) (Err said) p q = absurd (q.fault.ends a p.each p.written)
+script_same one_script text (Err said) (Ok b) p q = absurd (p.fault.ends b q.each q.written)
+script_same one_script text (Err one) (Err other) p q = ap Err (p.is ∙ ap edit_text (one_script_fault text p.at q.at p.fault q.fault) ∙ sym q.is)
 
 unloaded : (fault : LoadFault) (said : Said) → fault ≡ none.Memory → load_said fault ≡ Some said → ⊥
 unloaded fault said e is = let none = sym (ap load_said e) ∙ is in absurd (cc)
@@ -155,6 +184,7 @@ IsNoCert Cert = ⊥
 IsNoCert (Verify certificate) = Unit {0}
 IsNoCert Table = ⊥
 IsNoCert Cover = Unit {0}
+IsNoCert (Edit input script) = Unit {0}
 
 module _ (told : List ℕ → Told) where
   abbrev IsOne : Order → Type 0
@@ -195,7 +225,7 @@ module _ (told : List ℕ → Told) where
 
   module _ (one_core : OneCore) (one_check : OneCheck) (one_parse : OneParse) (one_path : OnePath) (no_fault : ProvesIsNoFault) (is_one : FaultIsOne)
       (load_once : LoadOnce) (no_gap : CoveredHasNoGap) (one_gap : OneGap)
-      (known : (name : List ℕ) → told name ≢ untold) where
+      (one_edits : OneEdits) (one_script : OneScript) (known : (name : List ℕ) → told name ≢ untold) where
     one_accepted : (g : Grammar) (next : Grammar → Order) → ((same : Grammar) → IsOne (next same)) → IsOne (accepted g next)
     one_accepted g next each =
         one_found (Checks g) (λ answer. have answer next) (one_check g) (λ answer. one_have answer next each)
@@ -221,6 +251,21 @@ module _ (told : List ℕ → Told) where
         one_found (Loads file) (λ answer. have answer (parse_input Lines input)) (loads_same load_once file)
         (λ answer. one_have answer (parse_input Lines input) (one_parse_of Lines input))
 
+    one_edits_of : (text : List ℕ) (g : Grammar) (input : List ℕ) → IsOne (edits_of text g input)
+    one_edits_of text g input =
+        one_found (ReadsScript text) (λ read. have read (λ edits. says (Edits g input edits))) (script_same one_script text)
+        (λ read. one_have read (λ edits. says (Edits g input edits)) (one_edits g input))
+
+    one_edit_input : (script : List ℕ) (g : Grammar) (input : List ℕ) → IsOne (edit_input script g input)
+    one_edit_input script g input =
+        one_read script (λ bytes. have (input_in bytes) (λ text. edits_of text g input)) (known script)
+        (λ bytes. one_bytes bytes (λ text. edits_of text g input) (λ text. one_edits_of text g input))
+
+    one_edit_file : (name script : List ℕ) (g : Grammar) → IsOne (edit_file name script g)
+    one_edit_file name script g =
+        one_read name (λ bytes. have (input_in bytes) (edit_input script g)) (known name)
+        (λ bytes. one_bytes bytes (edit_input script g) (one_edit_input script g))
+
     one_task : (task : Task) (g : Grammar) → IsNoCert task → IsOne (order_by task g)
     one_task (Parse show input) g settled = one_accepted g (parse_input show input) (one_parse_of show input)
     one_task Check g settled = one_accepted g (λ same. only (done_line (codes "accepted"))) (λ same. one_only (done_line (codes "accepted")))
@@ -230,6 +275,7 @@ module _ (told : List ℕ → Told) where
         (λ bytes. one_bytes bytes (λ text. judge text g) (λ text. one_judge text g))
     one_task Table g settled = absurd settled
     one_task Cover g settled = one_accepted g (λ same. says (CoverSays same)) (λ same. covers_same no_gap one_gap same)
+    one_task (Edit input script) g settled = one_accepted g (edit_file input script) (one_edit_file input script)
 
     one_use : (grammar : List ℕ) (task : Task) → IsNoCert task → IsOne (use_order grammar task)
     one_use grammar task settled =
@@ -245,6 +291,7 @@ module _ (told : List ℕ → Told) where
     one_request (Some (Use grammar words.Table)) settled = absurd settled
     one_request (Some (Use grammar words.Cover)) settled = one_use grammar Cover tt
     one_request (Some (Use grammar (words.Rebuild input))) settled = one_use grammar (Parse Bytes input) tt
+    one_request (Some (Use grammar (words.Edit input script))) settled = one_use grammar (Edit input script) tt
     one_request (Some (Load table input)) settled =
         one_read table (λ bytes. have (input_in bytes) (load_in input)) (known table)
         (λ bytes. one_bytes bytes (load_in input) (λ file. one_load file input))
@@ -256,6 +303,8 @@ module _ (told : List ℕ → Told) where
         one_found (ReadsPath path) (λ read. have read (λ query. use_order grammar (Parse (Picked query) input))) (path_same one_path path)
         (λ read. one_have read (λ query. use_order grammar (Parse (Picked query) input)) (λ query. one_use grammar (Parse (Picked query) input) tt))
 
-pub one_reply : OneCore → OneCheck → OneParse → OnePath → ProvesIsNoFault → FaultIsOne → LoadOnce → CoveredHasNoGap → OneGap → OneReply
-one_reply one_core one_check one_parse one_path no_fault is_one load_once no_gap one_gap told words one other known plain =
-    one_request told one_core one_check one_parse one_path no_fault is_one load_once no_gap one_gap known (request_of words) plain one other
+pub one_reply : OneCore → OneCheck → OneParse → OnePath → ProvesIsNoFault → FaultIsOne → LoadOnce → CoveredHasNoGap → OneGap → OneEdits → OneScript
+    → OneReply
+one_reply one_core one_check one_parse one_path no_fault is_one load_once no_gap one_gap one_edits one_script told words one other known plain =
+    one_request told one_core one_check one_parse one_path no_fault is_one load_once no_gap one_gap one_edits one_script known (request_of words) plain
+    one other

@@ -22,7 +22,7 @@ use Rattle.ipg_app.specs.Run.{Outside, Settles, Writes, Runs, OutOfMemory, Repli
 use Rattle.ipg_app.specs.Lines.{said_of}
 use Rattle.ipg_app.specs.Settled.{IsSettled, IsDue, IsUnread, MaySay, GoesOut, Replies, fault_status}
 use Rattle.ipg_app.specs.declared.reply.Reply.{Reply}
-use Rattle.ipg_app.specs.declared.reply.Reply.TheVariants.{Text, Parse}
+use Rattle.ipg_app.specs.declared.reply.Reply.TheVariants.{Text, Parse, Edits}
 use Rattle.ipg_app.specs.declared.status.Status.{Status}
 use Rattle.ipg_app.proofs.Settling.{goes_on, settles_by, input_too_long}
 use Rattle.ipg_app.proofs.Written.{Progress, all-out, broken}
@@ -36,14 +36,17 @@ module _ (told : List ℕ → Told) (before after : List ℕ → ℕ) (order : O
       → IsSettled then from to other reply → IsSettled told before after order reply
   settled_on then from to other (Text settled) f h = f (said_of settled) h
   settled_on then from to other (Parse due) f h = (h.0, λ said parses. f said (h.1 said parses))
+  settled_on then from to other (Edits due) f h = (h.0, λ said is. f said (h.1 said is))
 
   pub due_of : (reply : Reply) → IsSettled told before after order reply → IsDue reply
   due_of (Text settled) h = tt
   due_of (Parse due) h = h.0
+  due_of (Edits due) h = h.0
 
   said_of_reply : (reply : Reply) (said : Said) → IsSettled told before after order reply → MaySay reply said → Settles told before after order said
   said_of_reply (Text settled) said h e = subst (λ x. Settles told before after order x) (sym e) h
   said_of_reply (Parse due) said h parses = h.1 said parses
+  said_of_reply (Edits due) said h is = h.1 said is
 
 -- a file that was not read
 pub unread_on : (told : List ℕ → Told) (before after : List ℕ → ℕ) (name : List ℕ) (next : List ℕ → Order) (f : FileFault) (said : Said)

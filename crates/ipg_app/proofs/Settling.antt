@@ -12,10 +12,12 @@ use Rattle.ipg_app.specs.Order.{Order, says, finds, reads, Answers, Turn, have}
 use Rattle.ipg_formats.specs.declared.Kind.{Kind}
 use Rattle.ipg_formats.specs.Names.{kind_of}
 use Rattle.ipg_formats.specs.Text.{text_of}
-use Rattle.ipg_app.specs.Reply.{input_in, text_by, grammar_of, core_of, grammar_under, core_under, accepted, path_in, held_in, max_input}
+use Rattle.ipg_app.specs.Reply.{input_in, text_by, grammar_of, core_of, grammar_under, core_under, accepted, path_in, script_in, held_in, max_input}
 use Rattle.ipg_app.specs.Tables.{Loads}
 use Rattle.ipg_query_path.specs.declared.path.Query.{Query}
 use Rattle.ipg_app.specs.Path.{ReadsPath}
+use Rattle.ipg_edit_script.specs.declared.script.Edit.{Edit}
+use Rattle.ipg_app.specs.Editing.{ReadsScript}
 use Rattle.ipg_app.specs.Run.{Settles}
 use Rattle.ipg_app.specs.Found.{Found, FoundCore, grammar_in_file, core_in_file, silence}
 use Rattle.ipg_app.proofs.Written.{later}
@@ -75,6 +77,15 @@ module _ (told : List ℕ → Told) (before after : List ℕ → ℕ) where
 
   pub no_path : (text : List ℕ) (next : Query → Order) (said : Said) → ReadsPath text (Err said) → Settled (path_in text next) said
   no_path text next said h = inl (Err said, h, refl)
+
+  -- the edits of a script lead on
+  pub script_goes_on : (text : List ℕ) (next : List Edit → Order) (said : Said) (edits : List Edit) → ReadsScript text (Ok edits) → Settled (next edits) said
+      → Settled (script_in text next) said
+  script_goes_on text next said edits h (inl a) = inl (Ok edits, h, a)
+  script_goes_on text next said edits h (inr f) = inr (record { name = f.name; turn = (Ok edits, h, f.turn); rose = f.rose; is = f.is })
+
+  pub no_script : (text : List ℕ) (next : List Edit → Order) (said : Said) → ReadsScript text (Err said) → Settled (script_in text next) said
+  no_script text next said h = inl (Err said, h, refl)
 
   -- the grammar of a table file leads on
   pub held_goes_on : (file : List ℕ) (next : Grammar → Order) (said : Said) (g : Grammar) → Loads file (Ok g) → Settled (next g) said

@@ -17,6 +17,8 @@ use Rattle.ipg_app.specs.Reply.{use_order, order_of, Check, verify, max_input, P
 use Rattle.ipg_app.specs.Certificate.{Certifies, verified}
 use Rattle.ipg_app.specs.CoreOf.{Answer, CoreOf}
 use Rattle.ipg_app.specs.Checks.{Checks}
+use Rattle.ipg_app.specs.Editing.{Edits}
+use Rattle.ipg_edit_script.specs.declared.script.Edit.{Edit}
 
 -- a text has one core grammar, or is refused in one way
 abbrev pub OneCore : Type 0
@@ -29,6 +31,10 @@ OneCheck = (g : Grammar) (one other : Answer) → Checks g one → Checks g othe
 -- an input has one parse, whatever is remembered of calls and however large the heap is
 abbrev pub OneParse : Type 0
 OneParse = (show : Show) (g : Grammar) (input : List ℕ) (one other : Said) → Parses show g input one → Parses show g input other → one ≡ other
+
+-- of an input that a script edits one thing is said
+abbrev pub OneEdits : Type 0
+OneEdits = (g : Grammar) (input : List ℕ) (edits : List Edit) (one other : Said) → Edits g input edits one → Edits g input edits other → one ≡ other
 
 -- of a name of which something is told `check` says one thing
 abbrev pub OneVerdict : Type 0
@@ -50,6 +56,7 @@ HasOneReply (Some (Use grammar (words.Verify certificate))) = Unit {0}
 HasOneReply (Some (Use grammar words.Table)) = ⊥
 HasOneReply (Some (Use grammar words.Cover)) = Unit {0}
 HasOneReply (Some (Use grammar (words.Rebuild input))) = Unit {0}
+HasOneReply (Some (Use grammar (words.Edit input script))) = Unit {0}
 HasOneReply (Some (Fmt grammar)) = Unit {0}
 HasOneReply (Some (Trial kind n)) = ⊥
 HasOneReply (Some (Query grammar input path)) = Unit {0}

@@ -18,6 +18,8 @@ pub mod Measured
 pub mod Path
 pub mod Queried
 pub mod Shown
+-- scripts of edits
+pub mod Editing
 -- a trial on a sample
 pub mod Trial
 -- in which order it answers, and what it does outside
@@ -28,5 +30,6 @@ pub mod Run
 pub mod Laws
 -- what functions inside the crate promise each other
 pub mod Lines
+pub mod Telling
 pub mod Found
 pub mod Settled

@@ -8,6 +8,7 @@ use Rattle.ipg_core.specs.Run.{Stop, NoTree, OutOfRange, Deep}
 use Rattle.ipg_core.specs.Meaning.{Means}
 use Rattle.ipg_formats.specs.declared.Kind.{Kind}
 use Rattle.ipg_query_path.specs.declared.path.Query as paths
+use Rattle.ipg_edit_script.specs.declared.script.Edit as scripts
 use Rattle.ipg_formats.specs.Names.{kind_of}
 use Rattle.ipg_formats.specs.Text.{text_of}
 use Rattle.ipg_app_words.specs.Request as words
@@ -20,6 +21,7 @@ use Rattle.ipg_app.specs.Checks.{Checks}
 use Rattle.ipg_app.specs.Certificate.{Certifies, Reads, Judges}
 use Rattle.ipg_app.specs.Tables.{Tables, Loads}
 use Rattle.ipg_app.specs.Covering.{CoverSays}
+use Rattle.ipg_app.specs.Editing.{ReadsScript, Edits}
 use Rattle.ipg_app.specs.Path.{ReadsPath}
 use Rattle.ipg_app.specs.Shown.{TreeSays}
 use Rattle.ipg_app.specs.Trial.{Tries, kind_by, parts_in}
@@ -89,6 +91,13 @@ path_in text next = do
   path ← have answer
   next path
 
+-- E2
+abbrev pub script_in : List ℕ → Step (List scripts.Edit)
+script_in text next = do
+  answer ← found (ReadsScript text)
+  edits ← have answer
+  next edits
+
 -- ---- commands, each behind the core grammar of a text
 
 abbrev pub parse_input : Show → List ℕ → Grammar → Order
@@ -121,6 +130,29 @@ abbrev pub cover : Grammar → Order
 cover g = do
   same ← accepted g
   says (CoverSays same)
+
+abbrev pub edits_of : List ℕ → Grammar → List ℕ → Order
+edits_of text g input = do
+  edits ← script_in text
+  says (Edits g input edits)
+
+abbrev pub edit_input : (script : List ℕ) → Grammar → (input : List ℕ) → Order
+edit_input script g input = do
+  bytes ← contents script
+  text ← have (input_in bytes)
+  edits_of text g input
+
+-- the input is read before the script
+abbrev pub edit_file : (name script : List ℕ) → Grammar → Order
+edit_file name script g = do
+  bytes ← contents name
+  input ← have (input_in bytes)
+  edit_input script g input
+
+abbrev pub edit : (name script : List ℕ) → Grammar → Order
+edit name script g = do
+  same ← accepted g
+  edit_file name script same
 
 -- C1, then C2 and C3
 abbrev pub judge : List ℕ → Grammar → Order
@@ -194,6 +226,7 @@ pub data Task : Type 0 where
   Verify : (certificate : List ℕ) → Task
   Table : Task
   Cover : Task
+  Edit : (input script : List ℕ) → Task
 
 -- neither the memo nor the size of the heap has a part in what is said
 abbrev pub task_of : words.Task → Task
@@ -204,6 +237,7 @@ task_of (words.Verify certificate) = Verify certificate
 task_of words.Table = Table
 task_of words.Cover = Cover
 task_of (words.Rebuild input) = Parse Bytes input
+task_of (words.Edit input script) = Edit input script
 
 abbrev pub order_by : Task → Grammar → Order
 order_by (Parse show input) g = parse show input g
@@ -212,6 +246,7 @@ order_by Cert g = cert g
 order_by (Verify certificate) g = verify certificate g
 order_by Table g = table g
 order_by Cover g = cover g
+order_by (Edit input script) g = edit input script g
 
 abbrev pub use_order : List ℕ → Task → Order
 use_order grammar task = do

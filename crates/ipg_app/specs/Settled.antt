@@ -9,7 +9,9 @@ use Rattle.ipg_app.specs.declared.answering.AnswerFault.{AnswerFault}
 use Rattle.ipg_app.specs.declared.answering.AnswerFault.TheVariants as fault
 use Rattle.ipg_app.specs.Said.{Said, read_fault, too_large}
 use Rattle.ipg_app.specs.Order.{Order}
-use Rattle.ipg_app.specs.Reply.{Parses, max_input, Task, Parse, Check, Cert, Verify, Table, Cover}
+use Rattle.ipg_app.specs.Reply.{Parses, max_input, Task, Parse, Check, Cert, Verify, Table, Cover, Edit}
+use Rattle.ipg_edit_script.specs.Scripts.{AreEdits}
+use Rattle.ipg_app.specs.Editing.{Edits}
 use Rattle.ipg_app.specs.Run.{Settles, Writes}
 use Rattle.ipg_app.specs.Lines.{said_of}
 use Rattle.ipg_app.specs.declared.reply.Reply.{Reply}
@@ -36,24 +38,30 @@ task_seen task.Cert = Cert
 task_seen (task.Verify certificate) = Verify certificate.now
 task_seen task.Table = Table
 task_seen task.Cover = Cover
+task_seen (task.Edit input script) = Edit input.now script.now
 
 -- ---- what is settled
 
--- an input that is to be parsed keeps the limit
+-- an input that is to be parsed keeps the limit, and so does each edit
 abbrev pub IsDue : Reply → Type 0
 IsDue (reply.Text settled) = ⊤
 IsDue (reply.Parse due) = length due.input.items ≤ max_input
+IsDue (reply.Edits due) = (length due.input.items ≤ max_input) × AreEdits due.edits
 
 -- this may be said of a reply
 abbrev pub MaySay : Reply → Said → Type 0
 MaySay (reply.Text settled) said = said ≡ said_of settled
 MaySay (reply.Parse due) said = Parses due.show due.grammar due.input.items said
+MaySay (reply.Edits due) said = Edits due.grammar due.input.items due.edits said
 
 -- whatever may be said of the reply is settled
 abbrev pub IsSettled : (List ℕ → Told) → (List ℕ → ℕ) → (List ℕ → ℕ) → Order → Reply → Type 0
 IsSettled told before after order (reply.Text settled) = Settles told before after order (said_of settled)
 IsSettled told before after order (reply.Parse due) =
     (length due.input.items ≤ max_input) × ((said : Said) → Parses due.show due.grammar due.input.items said → Settles told before after order said)
+IsSettled told before after order (reply.Edits due) =
+    ((length due.input.items ≤ max_input) × AreEdits due.edits)
+    × ((said : Said) → Edits due.grammar due.input.items due.edits said → Settles told before after order said)
 
 -- what is said of a file that was not read; nothing, for want of memory
 abbrev pub IsUnread : FileFault → Said → Type 0

@@ -1,11 +1,14 @@
 //! What holds of core grammars, the contract of a function that does nothing.
 
-ghost use Rattle.ipg_app.specs.Laws.{CertIsVerified, CoveredIsRebuilt, OneCore, OneCheck, OneParse, OneReply, OneVerdict};
+ghost use Rattle.ipg_app.specs.Laws.{CertIsVerified, CoveredIsRebuilt, OneCore, OneCheck, OneEdits, OneParse, OneReply, OneVerdict};
 
 use ipg_core::laws::heights_agree;
 use ipg_cover::laws::{covered_has_no_gap, one_gap};
 use ipg_cover_laws::laws::covered_comes_back;
 use ipg_cover_leaves::laws::answers_are_one;
+use ipg_edit_laws::laws::keys_after_are_known;
+use ipg_edit_script::laws::one_script;
+use ipg_mach_count_laws::laws::{fresh_at_any_height, keys_are_known, one_fresh};
 use ipg_order::laws::{good_is_not_stuck, orders_once, stuck_once};
 use ipg_proof::laws::{fault_is_one, proves_is_no_fault};
 use ipg_query_path::laws::one_path;
@@ -39,6 +42,17 @@ pub fn one_parse()
     answers_are_one();
 }
 
+/// Of an input that a script edits one thing is said.
+pub fn one_edits()
+    ensures { OneEdits }
+{
+    heights_agree();
+    fresh_at_any_height();
+    one_fresh();
+    keys_are_known();
+    keys_after_are_known();
+}
+
 /// Of a file of which something is told `check` says one thing.
 pub fn one_verdict()
     ensures { OneVerdict }
@@ -70,7 +84,9 @@ pub fn one_reply()
     one_core();
     one_check();
     one_parse();
+    one_edits();
     one_path();
+    one_script();
     proves_is_no_fault();
     fault_is_one();
     load_once();

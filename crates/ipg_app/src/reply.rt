@@ -1,7 +1,8 @@
-//! What is to be written: a text, or what is shown of the tree of an input.
+//! What is to be written: a text, what is shown of the tree of an input, or its answers through edits.
 ghost use Rattle.ipg_app.specs.Settled.{MaySay, IsDue, Replies};
 
 use crate::answering::Room;
+use crate::editing::{DueEdits, edit};
 use crate::parse::parse;
 use crate::said::Settled;
 use crate::status::Status;
@@ -25,9 +26,10 @@ pub struct Due {
 pub enum Reply {
     Text(Settled),
     Parse(Due),
+    Edits(DueEdits),
 }
 
-/// Writes a reply: a text, or what is shown of the tree of an input.
+/// Writes a reply: a text, what is shown of the tree of an input, or its answers through edits.
 pub fn put_reply<S: Sink>(alloc: Global, reply: &Reply, out: &mut S) -> Status
     requires { IsDue reply.now }
     ensures { Replies (MaySay reply.now) (S.output out.old) (S.faults out.old) (S.output out.new) (S.faults out.new) result }
@@ -35,5 +37,6 @@ pub fn put_reply<S: Sink>(alloc: Global, reply: &Reply, out: &mut S) -> Status
     match reply {
         Reply::Text(settled) => say(settled, out),
         Reply::Parse(due) => parse(alloc, due, out),
+        Reply::Edits(due) => edit(alloc, due, out),
     }
 }

@@ -1,5 +1,5 @@
 //! What is to be said, settled before anything is written.
-ghost use Rattle.std.specs.Prelude.{◌≡◌, ◌≤◌, ℕ, List, map, Ok, Err, IfOk, MatchResult};
+ghost use Rattle.std.specs.Prelude.{◌≡◌, ◌≤◌, ◌^◌, ℕ, List, length, map, Ok, Err, IfOk, MatchResult};
 ghost use Rattle.std.specs.String.{string_bytes};
 ghost use Rattle.std.specs.List.{AllByRecursion};
 ghost use Rattle.ipg_ast.specs.Shape.{IsFlat};
@@ -8,16 +8,19 @@ ghost use Rattle.ipg_formats.specs.Text.{text_of};
 ghost use Rattle.ipg_app.specs.CoreOf.{CoreOf};
 ghost use Rattle.ipg_store_body.specs.Fits.{NestsRule};
 ghost use Rattle.ipg_app.specs.Reply.{grammar_of, core_of, formatted, parse_input, parse, verify, fmt, query, load, load_in, use_order, order_by, order_of, task_of};
+ghost use Rattle.ipg_app.specs.Reply.{edit, edit_file, edit_input, edits_of};
 ghost use Rattle.ipg_app.specs.Run.{Settles};
 ghost use Rattle.ipg_app_words.specs.Seen as words;
 ghost use Rattle.ipg_app.specs.Found.{Found, FoundCore, Says, grammar_in_file, core_in_file, silence};
 ghost use Rattle.ipg_app.specs.Lines.{said_of};
+ghost use Rattle.ipg_outside.specs.Files.{Told};
 ghost use Rattle.ipg_app.specs.Settled.{IsSettled, IsUnread, remember_of, task_seen};
 
 use crate::answering::Room;
 use crate::checks::{accepted, say_cert, say_check, say_table};
 use crate::core_of::{core_in_text, core_of};
 use crate::covering::say_cover;
+use crate::editing::DueEdits;
 use crate::formatting::format;
 use crate::grammar::grammar_in;
 use crate::loading::held_in;
@@ -25,6 +28,7 @@ use crate::path::path_in;
 use crate::refusal::refusal;
 use crate::reply::{Due, Reply};
 use crate::said::{Settled, line, usage};
+use crate::script::script_in;
 use crate::status::Status;
 use crate::task::{Show, Task};
 use crate::trial::trial;
@@ -92,6 +96,7 @@ fn task_of(task: Wanted<'_>) -> Task<'_>
         Wanted::Verify { certificate } => Task::Verify { certificate },
         Wanted::Table => Task::Table,
         Wanted::Cover => Task::Cover,
+        Wanted::Edit { input, script } => Task::Edit { input, script },
     }
 }
 
@@ -275,6 +280,7 @@ fn settle_task<F: Files>(
         }
         Task::Table => Ok(Reply::Text(say_table(alloc, core)?)),
         Task::Cover => Ok(Reply::Text(say_cover(alloc, core)?)),
+        Task::Edit { input, script } => edit_by(alloc, core, input, script, files),
     }
 }
 
@@ -321,6 +327,74 @@ fn parse_input<F: Files>(
             show,
         })),
         Err(fault) => Ok(Reply::Text(unread(alloc, fault)?)),
+    }
+}
+
+fn edit_by<F: Files>(
+    alloc: Global,
+    core: Core,
+    input: &str,
+    script: &str,
+    files: &mut F,
+) -> Result<Reply, AllocError>
+    ensures { IfOk result (IsSettled (F.told files.old) (F.faults files.old) (F.faults files.new) (edit input.now script.now core)) }
+{
+    match accepted(alloc, core)? {
+        Ok((checked, _)) => edit_file(alloc, checked, input, script, files),
+        Err(settled) => Ok(Reply::Text(settled)),
+    }
+}
+
+/// The input is read before the script.
+fn edit_file<F: Files>(
+    alloc: Global,
+    grammar: Checked,
+    input: &str,
+    script: &str,
+    files: &mut F,
+) -> Result<Reply, AllocError>
+    ensures { IfOk result (IsSettled (F.told files.old) (F.faults files.old) (F.faults files.new) (edit_file input.now script.now grammar)) }
+{
+    match files.read_all(alloc, input, MAX_INPUT) {
+        Ok(input) => edit_input(alloc, grammar, input, script, files),
+        Err(fault) => Ok(Reply::Text(unread(alloc, fault)?)),
+    }
+}
+
+fn edit_input<F: Files>(
+    alloc: Global,
+    grammar: Checked,
+    input: Vec<u8>,
+    script: &str,
+    files: &mut F,
+) -> Result<Reply, AllocError>
+    requires { length input.items ≤ 2 ^ 30 }
+    ensures { IfOk result (IsSettled (F.told files.old) (F.faults files.old) (F.faults files.new) (edit_input script.now grammar input.items)) }
+{
+    match files.read_all(alloc, script, MAX_INPUT) {
+        Ok(text) => edits_of(alloc, grammar, input, &text),
+        Err(fault) => Ok(Reply::Text(unread(alloc, fault)?)),
+    }
+}
+
+/// The edits of a script are to be made.
+fn edits_of(
+    alloc: Global,
+    grammar: Checked,
+    input: Vec<u8>,
+    text: &[u8],
+) -> Result<Reply, AllocError>
+    requires { length input.items ≤ 2 ^ 30 }
+    ensures { IfOk result (λ reply. (told : List ℕ → Told) (before after : List ℕ → ℕ)
+        → IsSettled told before after (edits_of text.now grammar input.items) reply) }
+{
+    match script_in(alloc, text)? {
+        Ok(edits) => Ok(Reply::Edits(DueEdits {
+            grammar,
+            input,
+            edits,
+        })),
+        Err(settled) => Ok(Reply::Text(settled)),
     }
 }
 

@@ -30,4 +30,9 @@ pub enum Task<'a> {
     },
     Table,
     Cover,
+    /// An input is parsed, and again after each edit of a script.
+    Edit {
+        input: &'a str,
+        script: &'a str,
+    },
 }

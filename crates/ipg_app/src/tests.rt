@@ -6,16 +6,18 @@ use crate::status::Status;
 use crate::sure::run_surely;
 use ipg_outside::{MemFiles, MemSink, SureFiles, SureSink};
 use rows::{
-    CIRCULAR, FIRST_WRITES, LOOP, READ_FAULT, ROW, ROW_TEXT, ROW_TREE, Reply, TREE, UNKNOWN,
+    CIRCULAR, EDITS, EDITS_TEXT, FIRST_WRITES, LOOP, READ_FAULT, ROW, ROW_TEXT, ROW_TREE, Reply,
+    TREE, UNKNOWN,
 };
 use std::alloc::{AllocError, Global};
 
-/// A run of the words over the files `g` and `f`.
+/// A run of the words over the files `g`, `f` and `s`.
 #[derive(Clone, Copy)]
 struct Try<'a> {
     words: &'a [&'a str],
     grammar: &'a [u8],
     input: Option<&'a [u8]>,
+    script: Option<&'a [u8]>,
     fail_reads: &'a [u64],
     room: u64,
     fail_writes: &'a [u64],
@@ -25,6 +27,8 @@ const PARSE: &[&str] = &["parse", "g", "f"];
 
 const FMT: &[&str] = &["fmt", "g"];
 
+const EDIT: &[&str] = &["edit", "g", "f", "s"];
+
 const VERIFY: &[&str] = &["verify", "g", "f"];
 
 fn parse_of<'a>(grammar: &'a [u8], input: &'a [u8]) -> Try<'a> {
@@ -32,6 +36,7 @@ fn parse_of<'a>(grammar: &'a [u8], input: &'a [u8]) -> Try<'a> {
         words: PARSE,
         grammar,
         input: Some(input),
+        script: None,
         fail_reads: &[],
         room: 4096,
         fail_writes: &[],
@@ -53,11 +58,22 @@ fn verify_of<'a>(grammar: &'a [u8], certificate: &'a [u8]) -> Try<'a> {
     }
 }
 
+fn edit_of(script: &[u8]) -> Try<'_> {
+    Try {
+        words: EDIT,
+        script: Some(script),
+        ..parse_of(ROW, b"ab")
+    }
+}
+
 fn answer(alloc: Global, case: &Try<'_>) -> Result<(Status, MemSink), AllocError> {
     let mut files = MemFiles::new(alloc, case.fail_reads)?;
     files.add("g", case.grammar)?;
     if let Some(input) = case.input {
         files.add("f", input)?;
+    }
+    if let Some(script) = case.script {
+        files.add("s", script)?;
     }
     let mut out = MemSink::new(alloc, case.room, case.fail_writes)?;
     let mut words = Vec::new(alloc);
@@ -91,7 +107,7 @@ fn answers_failing_reads(rt: HostRuntime) -> anyhow::Result<()> {
     let row = parse_of(ROW, b"ab");
     let syntax: Reply<'_> = (Status::Refused, b"refused G4 Syntax 1\n");
     let ring = b"S -> A[B.end,EOI] B[A.end,EOI] ; A -> U8 ; B -> U8 ;";
-    let cases: [(Try<'_>, &[u64], Reply<'_>); 11] = [
+    let cases: [(Try<'_>, &[u64], Reply<'_>); 14] = [
         (row, &[0], READ_FAULT),
         (row, &[1], READ_FAULT),
         (row, &[2], TREE),
@@ -103,6 +119,9 @@ fn answers_failing_reads(rt: HostRuntime) -> anyhow::Result<()> {
         (verify_of(b"S -> T ;", b""), &[1], UNKNOWN),
         (fmt_of(ROW), &[0], READ_FAULT),
         (fmt_of(ROW), &[1], (Status::Done, ROW_TEXT)),
+        (edit_of(b"0  1 -"), &[1], READ_FAULT),
+        (edit_of(b"0  1 -"), &[2], READ_FAULT),
+        (edit_of(EDITS), &[3], (Status::Done, EDITS_TEXT)),
     ];
     for (case, fail_reads, want) in cases {
         let failing = Try { fail_reads, ..case };
@@ -119,12 +138,15 @@ fn answers_narrow_rooms(rt: HostRuntime) -> anyhow::Result<()> {
         input: None,
         ..parse_of(ROW, b"")
     };
-    let texts: [(Try<'_>, &[u8]); 5] = [
+    let texts: [(Try<'_>, &[u8]); 8] = [
         (parse_of(ROW, b"ab"), ROW_TREE),
         (parse_of(ROW, b""), b"no parse\n"),
         (parse_of(b"S", b""), b"refused G4 Syntax 1\n"),
         (absent, b"read fault\n"),
         (fmt_of(ROW), ROW_TEXT),
+        (edit_of(EDITS), EDITS_TEXT),
+        (edit_of(b"0 2 -\n1 1 -\n"), b"refused E1 OutOfInput 1\n"),
+        (edit_of(b"0  1 -"), b"refused E2 EditText 2\n"),
     ];
     for (case, text) in texts {
         for room in 0..text.len() {

@@ -27,6 +27,11 @@ pub enum Wanted<'a> {
     Rebuild {
         input: &'a str,
     },
+    /// The answers of an input that a script edits.
+    Edit {
+        input: &'a str,
+        script: &'a str,
+    },
 }
 
 /// A command, with the name of its grammar or format.

@@ -68,6 +68,14 @@ pub fn rebuild<'a>(alloc: Global) -> Result<Command<'a>, AllocError>
     on_grammar(alloc, "rebuild")?.arg(required(alloc, "FILE"))
 }
 
+pub fn edit<'a>(alloc: Global) -> Result<Command<'a>, AllocError>
+    ensures { IfOk result (λ command. app_of command ≡ spec.edit) }
+{
+    on_grammar(alloc, "edit")?
+        .arg(required(alloc, "FILE"))?
+        .arg(required(alloc, "SCRIPT"))
+}
+
 pub fn verify<'a>(alloc: Global) -> Result<Command<'a>, AllocError>
     ensures { IfOk result (λ command. app_of command ≡ spec.verify) }
 {

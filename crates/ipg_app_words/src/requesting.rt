@@ -4,11 +4,11 @@ ghost use Rattle.std.specs.String.{string_bytes};
 ghost use Rattle.clap.specs.Words.{rows_of, found_of};
 ghost use Rattle.ipg_app_words.specs.Commands as command;
 ghost use Rattle.ipg_app_words.specs.Request as spec;
-ghost use Rattle.ipg_app_words.specs.Request.{request_of, request_by, parse_task, rebuild_task, verify_task};
+ghost use Rattle.ipg_app_words.specs.Request.{request_of, request_by, edit_task, parse_task, rebuild_task, verify_task};
 ghost use Rattle.ipg_app_words.specs.Seen.{seen, task_seen};
 
 use crate::asking::{Asked, Wanted};
-use crate::commands::{load, on_grammar, parse, query, rebuild, trial, verify};
+use crate::commands::{edit, load, on_grammar, parse, query, rebuild, trial, verify};
 use crate::matching::{taken, value};
 use crate::settings::{count, memo, mib};
 use clap::ArgMatches;
@@ -43,6 +43,7 @@ fn request_by<'a>(
         "load" => load_request(alloc, words),
         "cover" => grammar_request(alloc, "cover", Wanted::Cover, words),
         "rebuild" => rebuild_request(alloc, words),
+        "edit" => edit_request(alloc, words),
         _ => Ok(None),
     }
 }
@@ -70,6 +71,15 @@ fn rebuild_request<'a>(alloc: Global, words: &'a [String]) -> Result<Option<Aske
 {
     match taken(rebuild(alloc)?, words)? {
         Some(matches) => Ok(use_of(&matches, rebuild_wanted(&matches))),
+        None => Ok(None),
+    }
+}
+
+fn edit_request<'a>(alloc: Global, words: &'a [String]) -> Result<Option<Asked<'a>>, AllocError>
+    ensures { IfOk result (λ asked. option_map seen asked ≡ spec.use_words command.edit edit_task (map string_bytes words.now)) }
+{
+    match taken(edit(alloc)?, words)? {
+        Some(matches) => Ok(use_of(&matches, edit_wanted(&matches))),
         None => Ok(None),
     }
 }
@@ -182,6 +192,15 @@ fn rebuild_wanted<'a>(matches: &ArgMatches<'a>) -> Option<Wanted<'a>>
 {
     Some(Wanted::Rebuild {
         input: value(matches, "FILE")?,
+    })
+}
+
+fn edit_wanted<'a>(matches: &ArgMatches<'a>) -> Option<Wanted<'a>>
+    ensures { option_map task_seen result ≡ edit_task (rows_of (found_of matches.now)) }
+{
+    Some(Wanted::Edit {
+        input: value(matches, "FILE")?,
+        script: value(matches, "SCRIPT")?,
     })
 }
 

@@ -56,7 +56,7 @@ fn reads_settings(rt: HostRuntime) -> anyhow::Result<()> {
     Ok(())
 }
 
-const REFUSED: [&[&str]; 46] = [
+const REFUSED: [&[&str]; 47] = [
     &[],
     &["parse"],
     &["parse", "g"],
@@ -92,6 +92,7 @@ const REFUSED: [&[&str]; 46] = [
     &["load", "t"],
     &["cover", "g", "f"],
     &["rebuild", "g"],
+    &["edit", "g", "f"],
     &["fmt", "g", "f"],
     &["cert", "--help"],
     &["trial"],
