@@ -101,16 +101,15 @@ head_words g depth at (Node rule size sets s e kids) name to start end from_star
     cc
 
 -- the pieces of the line of a node
-pub row_pieces : (g : Grammar) (st : Stored) (node : Row) (one : Tree) (depth at : ℕ) (name : List ℕ) (to start end : ℕ) (attrs : List (ℕ × ℤ))
-    → Says st node one
-    → name ≡ rule_name g node.head.rule → to ≡ at + node.head.size → start ≡ at + node.head.start → end ≡ at + node.head.end → attrs ≡ attrs_of one
-    → head_text (decimal depth) name (decimal at ∷ decimal to ∷ set_word (codes "start") (decimal start) ∷ set_word (codes "end") (decimal end) ∷ [])
-    ++ (spaced (map (attr_word g) attrs) ++ 10 ∷ [])
-    ≡ head_line g depth at one
-row_pieces g st node one depth at name to start end attrs said en et es ee ea =
-    attrs_pieces _ name (decimal at ∷ decimal to ∷ set_word (codes "start") (decimal start) ∷ set_word (codes "end") (decimal end) ∷ [])
-    (map (attr_word g) attrs)
-    ∙ head_words g depth at one name to node.head.start node.head.end start end attrs (en ∙ ap (rule_name g) said.rule)
+pub row_pieces : (g : Grammar) (st : Stored) (node : Row) (one : Tree) (depth at : ℕ) (name : List ℕ) (places : Places) (attrs : List (ℕ × ℤ))
+    → Says st node one → name ≡ rule_name g node.head.rule → places.from ≡ at
+    → (places.to ≡ at + node.head.size) × (places.start ≡ at + node.head.start) × (places.end ≡ at + node.head.end) → attrs ≡ attrs_of one
+    → head_text (decimal depth) name (place_words places) ++ (spaced (map (attr_word g) attrs) ++ 10 ∷ []) ≡ head_line g depth at one
+row_pieces g st node one depth at name places attrs said en ef (et, es, ee) ea =
+    attrs_pieces _ name (place_words places) (map (attr_word g) attrs)
+    ∙ ap (λ from. line (decimal depth ∷ name ∷ decimal from ∷ decimal places.to ∷ set_word (codes "start") (decimal places.start)
+    ∷ set_word (codes "end") (decimal places.end) ∷ map (attr_word g) attrs)) ef
+    ∙ head_words g depth at one name places.to node.head.start node.head.end places.start places.end attrs (en ∙ ap (rule_name g) said.rule)
     (et ∙ ap (λ n. at + n) said.size) said.ends es ee ea
 
 -- behind the last rule there is none

@@ -78,6 +78,10 @@ module _ {text : List ℕ} {a : Option Output} {m : ℕ} where
     counts = let x = p.put.counts in let y = w.counts in omega arith;
   }
 
+  -- the same is left
+  pub as_left : {rest other : List ℕ} {b : Option Output} {n : ℕ} → rest ≡ other → Progress text rest a m b n → Progress text other a m b n
+  as_left {b = b} {n = n} e p = subst (λ t. Progress text t a m b n) e p
+
   -- nothing is left
   pub all_put : {rest : List ℕ} {b : Option Output} {n : ℕ} → rest ≡ [] → Progress text rest a m b n → Whole text a m b n
   all_put {b = b} {n = n} e p =

@@ -6,3 +6,7 @@ pub mod Words
 pub mod Shares
 -- the line of each visit
 pub mod Line
+-- the tree as a JSON text
+pub mod Json
+-- that text visit by visit: what functions inside the crate promise each other
+pub mod JsonWalk

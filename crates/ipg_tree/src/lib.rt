@@ -1,6 +1,7 @@
 //! The printed tree: a line for each visit of a walk, written without memory.
 #![tactic(auto)]
 
+mod json;
 mod leaf;
 mod line;
 mod names;
@@ -11,5 +12,6 @@ mod tail;
 mod tests;
 mod words;
 
+pub use json::print_json;
 pub use parts::{print_part, print_value};
 pub use printing::{lines, print};

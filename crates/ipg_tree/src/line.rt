@@ -25,11 +25,11 @@ const SHORT: usize = 45;
 
 /// The places that a node's line shows: the ends of its part, and where it begins and ends to touch bytes.
 #[derive(Clone, Copy)]
-struct Places {
-    from: u64,
-    to: u64,
-    start: u64,
-    end: u64,
+pub(crate) struct Places {
+    pub(crate) from: u64,
+    pub(crate) to: u64,
+    pub(crate) start: u64,
+    pub(crate) end: u64,
 }
 
 /// Writes a depth, before a space.
@@ -156,6 +156,21 @@ fn place(at: u64, offset: u32) -> u64
     at.saturating_add(u64::from(offset))
 }
 
+/// The places of a node whose part begins at `at`.
+pub(crate) fn places_of(at: u64, node: Node) -> Places
+    ensures from { result.from ≡ at }
+    ensures others { at + 2 ^ 32 ≤ 2 ^ 64
+        → (result.to ≡ at + node.head.size) × (result.start ≡ at + node.head.start) × (result.end ≡ at + node.head.end) }
+{
+    let head = node.head;
+    Places {
+        from: at,
+        to: place(at, head.size),
+        start: place(at, head.start),
+        end: place(at, head.end),
+    }
+}
+
 /// Writes the line of a node whose part begins at `at`.
 fn put_row<A: Allocator + Clone + Drop, S: Sink>(
     out: &mut S,
@@ -168,16 +183,10 @@ fn put_row<A: Allocator + Clone + Drop, S: Sink>(
     ensures { (g : Grammar) (one : Tree) → StandFor p.now.parse.tables g → Says p.now.parse.store node one → at + 2 ^ 32 ≤ 2 ^ 64
         → Puts result (head_line g depth at one) (S.output out.old) (S.faults out.old) (S.output out.new) (S.faults out.new) }
 {
-    let head = node.head;
-    let places = Places {
-        from: at,
-        to: place(at, head.size),
-        start: place(at, head.start),
-        end: place(at, head.end),
-    };
+    let places = places_of(at, node);
     let tables = p.tables();
     let attrs = p.attrs_at(node.attrs);
-    let name = rule_name(tables, head.rule);
+    let name = rule_name(tables, node.head.rule);
     put_head(out, line, depth, name, places)?;
     put_attrs(out, tables, attrs)?;
     put(out, b"\n")

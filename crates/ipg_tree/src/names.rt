@@ -21,8 +21,10 @@ pub(crate) fn rule_name(tables: &Tables, rule: u32) -> &[u8]
     }
 }
 
-fn primitive_name(prim: Primitive) -> &'static [u8]
-    ensures { result.now ≡ spec.primitive_name prim }
+/// The name of a primitive, of at most five letters.
+pub(crate) fn primitive_name(prim: Primitive) -> &'static [u8]
+    ensures name { result.now ≡ spec.primitive_name prim }
+    ensures long { length result.now ≤ 5 }
 {
     match prim {
         Primitive::U8 => b"U8",

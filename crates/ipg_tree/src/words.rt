@@ -64,7 +64,7 @@ fn put_some<S: Sink>(out: &mut S, bytes: &[u8]) -> Result<(), SinkFault>
 }
 
 /// Writes two digits for each byte.
-fn put_digits<S: Sink>(out: &mut S, bytes: &[u8]) -> Result<(), SinkFault>
+pub(crate) fn put_digits<S: Sink>(out: &mut S, bytes: &[u8]) -> Result<(), SinkFault>
     ensures { Puts result (spec.hex_digits bytes.now) (S.output out.old) (S.faults out.old) (S.output out.new) (S.faults out.new) }
 {
     let mut left = bytes;
@@ -98,7 +98,7 @@ fn put_more<S: Sink>(out: &mut S, n: u64) -> Result<(), SinkFault>
 }
 
 /// The first bytes; all of them where there are no more.
-fn first(bytes: &[u8], count: usize) -> &[u8]
+pub(crate) fn first(bytes: &[u8], count: usize) -> &[u8]
     ensures { result.now ≡ take count bytes.now }
 {
     if count < bytes.len() {

@@ -7,16 +7,16 @@ use Rattle.ipg_tree.proofs.line.put_row.Goals as goal
 pub returns-in_err-put_head : goal.returns-in_err-put_head
 returns-in_err-put_head g c grammar one stand said small =
     let stands = subst (λ t. StandFor t grammar) (sym c.tables-tables.ensures) stand in
-    let is = sym (row_pieces grammar c.args.p.now.parse.store c.args.node one c.args.depth c.args.at _ _ _ _ _ said
-    (c.rule_name-name.ensures grammar stands) (c.place.ensures small) (c.place-2.ensures small) (c.place-3.ensures small)
+    let is = sym (row_pieces grammar c.args.p.now.parse.store c.args.node one c.args.depth c.args.at _ c.places_of-places.result _ said
+    (c.rule_name-name.ensures grammar stands) c.places_of-places.ensures.from (c.places_of-places.ensures.others small)
     (c.attrs_at-attrs.ensures _ said.attrs)) in
     exits _ c.from_residual.result c.from_residual.ensures.1 _ is (begun _ _ _) c.in_err-put_head.ensures
 
 pub returns-in_err-put_attrs : goal.returns-in_err-put_attrs
 returns-in_err-put_attrs g c grammar one stand said small =
     let stands = subst (λ t. StandFor t grammar) (sym c.tables-tables.ensures) stand in
-    let is = sym (row_pieces grammar c.args.p.now.parse.store c.args.node one c.args.depth c.args.at _ _ _ _ _ said
-    (c.rule_name-name.ensures grammar stands) (c.place.ensures small) (c.place-2.ensures small) (c.place-3.ensures small)
+    let is = sym (row_pieces grammar c.args.p.now.parse.store c.args.node one c.args.depth c.args.at _ c.places_of-places.result _ said
+    (c.rule_name-name.ensures grammar stands) c.places_of-places.ensures.from (c.places_of-places.ensures.others small)
     (c.attrs_at-attrs.ensures _ said.attrs)) in
     exits _ c.from_residual-in_err-put_attrs.result c.from_residual-in_err-put_attrs.ensures.1 _ refl
     (next is (begun _ _ _) c.in_ok-put_head.ensures) (c.in_err-put_attrs.ensures grammar stands)
@@ -24,7 +24,7 @@ returns-in_err-put_attrs g c grammar one stand said small =
 pub returns : goal.returns
 returns g c grammar one stand said small =
     let stands = subst (λ t. StandFor t grammar) (sym c.tables-tables.ensures) stand in
-    let is = sym (row_pieces grammar c.args.p.now.parse.store c.args.node one c.args.depth c.args.at _ _ _ _ _ said
-    (c.rule_name-name.ensures grammar stands) (c.place.ensures small) (c.place-2.ensures small) (c.place-3.ensures small)
+    let is = sym (row_pieces grammar c.args.p.now.parse.store c.args.node one c.args.depth c.args.at _ c.places_of-places.result _ said
+    (c.rule_name-name.ensures grammar stands) c.places_of-places.ensures.from (c.places_of-places.ensures.others small)
     (c.attrs_at-attrs.ensures _ said.attrs)) in
     ended c.put.result _ _ (more (next is (begun _ _ _) c.in_ok-put_head.ensures) (c.in_ok-put_attrs.ensures grammar stands)) c.put.ensures

@@ -1,0 +1,24 @@
+use Rattle.std.proofs.Common.{◌≡◌, List}
+use Rattle.ipg_core.specs.Grammar.{Grammar}
+use Rattle.ipg_core.specs.Tree.{Tree}
+use Rattle.ipg_mach_nodes.specs.Stored.{Source}
+use Rattle.ipg_tree_walk.specs.Visits.{Seen}
+use Rattle.ipg_tree_walk.specs.Parse.{Left, steps_left}
+use Rattle.ipg_tree.specs.Json.{json}
+use Rattle.ipg_tree.specs.JsonWalk.{texts_of}
+use Rattle.ipg_tree.specs.Shares.{IsTree}
+use Rattle.ipg_tree.proofs.Putting.{Progress}
+use Rattle.ipg_tree.proofs.json.print_json.Given as goal
+
+abbrev pub invariant-loop-visit : goal.invariant-loop-visit
+invariant-loop-visit g l = record {
+  parse : l.p.parse ≡ l.fn.p.parse;
+  so_far :
+      (src : Source) (grammar : Grammar) (one : Tree) → IsTree l.fn.p.parse src grammar one
+      → (left : List Seen) × Left src l.p left
+      × Progress (json grammar one) (texts_of grammar l.last left)
+      (g.S.Sink.output l.fn.out) (g.S.Sink.faults l.fn.out) (g.S.Sink.output l.out) (g.S.Sink.faults l.out);
+}
+
+abbrev pub decreases-loop-visit : goal.decreases-loop-visit
+decreases-loop-visit g l = steps_left l.p

@@ -1,0 +1,5 @@
+use Rattle.ipg_tree.proofs.Putting.{exits_first}
+use Rattle.ipg_tree.proofs.json.put_member.Goals as goal
+
+pub returns-in_err-put : goal.returns-in_err-put
+returns-in_err-put g c grammar stand = exits_first _ c.from_residual.result c.from_residual.ensures.1 _ _ c.in_err-put.ensures
