@@ -9,6 +9,7 @@ ghost use Rattle.ipg_core.specs.Tree.{Tree};
 ghost use Rattle.ipg_mach_nodes.specs.Stored.{Source};
 ghost use Rattle.ipg_query.specs.Hits.{IsTree};
 ghost use Rattle.ipg_query.specs.Picked.{picked};
+ghost use Rattle.ipg_tree.specs.Json.{json};
 ghost use Rattle.ipg_app.specs.Answered.{Answers, Fails, PutsText, PutsTree};
 ghost use Rattle.ipg_app.specs.Queried.{picks_text};
 ghost use Rattle.ipg_app.specs.declared.task.Show.TheVariants as show;
@@ -22,7 +23,7 @@ use ipg_outside::Sink;
 use ipg_query::select;
 use ipg_query_path::Query;
 use ipg_table::tables::compile;
-use ipg_tree::print;
+use ipg_tree::{print, print_json};
 use linked_list_allocator::LocalHeap;
 use std::alloc::{AllocError, Allocator, Global};
 
@@ -84,6 +85,20 @@ fn put_lines<A: Allocator + Clone + Drop, S: Sink>(
         → PutsText result (lines g one 0) (S.output out.old) (S.faults out.old) (S.output out.new) (S.faults out.new) }
 {
     match print(parsed, out) {
+        Ok(()) => Ok(Given::Tree),
+        Err(_) => Err(AnswerFault::Write),
+    }
+}
+
+/// Writes the JSON text of a parsed tree.
+fn put_json<A: Allocator + Clone + Drop, S: Sink>(
+    parsed: &mut Parsed<'_, A>,
+    out: &mut S,
+) -> Result<Given, AnswerFault>
+    ensures { (src : Source) (g : Grammar) (one : Tree) → IsTree parsed.old.parse src g one
+        → PutsText result (json g one) (S.output out.old) (S.faults out.old) (S.output out.new) (S.faults out.new) }
+{
+    match print_json(parsed, out) {
         Ok(()) => Ok(Given::Tree),
         Err(_) => Err(AnswerFault::Write),
     }
@@ -153,6 +168,7 @@ fn put<A: Allocator + Clone + Drop, S: Sink>(
         Show::Lines => put_lines(parsed, out),
         Show::Picked(query) => put_picked(alloc, query, parsed, out),
         Show::Bytes => put_bytes(alloc, input, parsed, out),
+        Show::Json => put_json(parsed, out),
     }
 }
 

@@ -91,6 +91,11 @@ fn task_of(task: Wanted<'_>) -> Task<'_>
             room: TREE_ROOM,
             show: Show::Bytes,
         },
+        Wanted::Json { input } => Task::Parse {
+            input,
+            room: TREE_ROOM,
+            show: Show::Json,
+        },
         Wanted::Check => Task::Check,
         Wanted::Cert => Task::Cert,
         Wanted::Verify { certificate } => Task::Verify { certificate },

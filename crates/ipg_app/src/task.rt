@@ -12,6 +12,8 @@ pub enum Show {
     Picked(Query),
     /// The bytes that its leaves put back.
     Bytes,
+    /// Its JSON text.
+    Json,
 }
 
 /// What is done with a core grammar.

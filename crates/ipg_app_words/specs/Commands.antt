@@ -40,6 +40,9 @@ cover = on_grammar (codes "cover")
 abbrev pub rebuild : App
 rebuild = with_rule (on_grammar (codes "rebuild")) (required (codes "FILE"))
 
+abbrev pub json : App
+json = with_rule (on_grammar (codes "json")) (required (codes "FILE"))
+
 abbrev pub edit : App
 edit = with_rule (with_rule (on_grammar (codes "edit")) (required (codes "FILE"))) (required (codes "SCRIPT"))
 

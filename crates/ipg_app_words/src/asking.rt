@@ -27,6 +27,10 @@ pub enum Wanted<'a> {
     Rebuild {
         input: &'a str,
     },
+    /// The tree of an input as a JSON text.
+    Json {
+        input: &'a str,
+    },
     /// The answers of an input that a script edits.
     Edit {
         input: &'a str,

@@ -68,6 +68,12 @@ pub fn rebuild<'a>(alloc: Global) -> Result<Command<'a>, AllocError>
     on_grammar(alloc, "rebuild")?.arg(required(alloc, "FILE"))
 }
 
+pub fn json<'a>(alloc: Global) -> Result<Command<'a>, AllocError>
+    ensures { IfOk result (λ command. app_of command ≡ spec.json) }
+{
+    on_grammar(alloc, "json")?.arg(required(alloc, "FILE"))
+}
+
 pub fn edit<'a>(alloc: Global) -> Result<Command<'a>, AllocError>
     ensures { IfOk result (λ command. app_of command ≡ spec.edit) }
 {

@@ -4,11 +4,11 @@ ghost use Rattle.std.specs.String.{string_bytes};
 ghost use Rattle.clap.specs.Words.{rows_of, found_of};
 ghost use Rattle.ipg_app_words.specs.Commands as command;
 ghost use Rattle.ipg_app_words.specs.Request as spec;
-ghost use Rattle.ipg_app_words.specs.Request.{request_of, request_by, edit_task, parse_task, rebuild_task, verify_task};
+ghost use Rattle.ipg_app_words.specs.Request.{request_of, request_by, edit_task, json_task, parse_task, rebuild_task, verify_task};
 ghost use Rattle.ipg_app_words.specs.Seen.{seen, task_seen};
 
 use crate::asking::{Asked, Wanted};
-use crate::commands::{edit, load, on_grammar, parse, query, rebuild, trial, verify};
+use crate::commands::{edit, json, load, on_grammar, parse, query, rebuild, trial, verify};
 use crate::matching::{taken, value};
 use crate::settings::{count, memo, mib};
 use clap::ArgMatches;
@@ -44,6 +44,7 @@ fn request_by<'a>(
         "cover" => grammar_request(alloc, "cover", Wanted::Cover, words),
         "rebuild" => rebuild_request(alloc, words),
         "edit" => edit_request(alloc, words),
+        "json" => json_request(alloc, words),
         _ => Ok(None),
     }
 }
@@ -71,6 +72,15 @@ fn rebuild_request<'a>(alloc: Global, words: &'a [String]) -> Result<Option<Aske
 {
     match taken(rebuild(alloc)?, words)? {
         Some(matches) => Ok(use_of(&matches, rebuild_wanted(&matches))),
+        None => Ok(None),
+    }
+}
+
+fn json_request<'a>(alloc: Global, words: &'a [String]) -> Result<Option<Asked<'a>>, AllocError>
+    ensures { IfOk result (λ asked. option_map seen asked ≡ spec.use_words command.json json_task (map string_bytes words.now)) }
+{
+    match taken(json(alloc)?, words)? {
+        Some(matches) => Ok(use_of(&matches, json_wanted(&matches))),
         None => Ok(None),
     }
 }
@@ -191,6 +201,14 @@ fn rebuild_wanted<'a>(matches: &ArgMatches<'a>) -> Option<Wanted<'a>>
     ensures { option_map task_seen result ≡ rebuild_task (rows_of (found_of matches.now)) }
 {
     Some(Wanted::Rebuild {
+        input: value(matches, "FILE")?,
+    })
+}
+
+fn json_wanted<'a>(matches: &ArgMatches<'a>) -> Option<Wanted<'a>>
+    ensures { option_map task_seen result ≡ json_task (rows_of (found_of matches.now)) }
+{
+    Some(Wanted::Json {
         input: value(matches, "FILE")?,
     })
 }

@@ -92,6 +92,7 @@ const REFUSED: [&[&str]; 47] = [
     &["load", "t"],
     &["cover", "g", "f"],
     &["rebuild", "g"],
+    &["json", "g"],
     &["edit", "g", "f"],
     &["fmt", "g", "f"],
     &["cert", "--help"],

@@ -1,6 +1,7 @@
 use Rattle.std.proofs.Common.{◌≡◌, List, ℕ, refl, sym, ap, subst}
 use Rattle.ipg_core.specs.Lines.{lines}
 use Rattle.ipg_query.specs.Picked.{picked}
+use Rattle.ipg_tree.specs.Json.{json}
 use Rattle.ipg_app.specs.Queried.{picks_text}
 use Rattle.ipg_app.specs.Shown.{Shows}
 use Rattle.ipg_app.proofs.Meant.{puts_of}
@@ -11,6 +12,12 @@ returns-in-Lines g c src grammar one h same =
     let text = lines grammar one 0 in
     let shows = subst (λ show. Shows show grammar c.args.input.now one text) (sym c.in-Lines.is) refl in
     puts_of c.args.show.now grammar c.args.input.now one text c.put_lines.result _ _ _ _ shows (c.put_lines.ensures src grammar one h)
+
+pub returns-in-Json : goal.returns-in-Json
+returns-in-Json g c src grammar one h same =
+    let text = json grammar one in
+    let shows = subst (λ show. Shows show grammar c.args.input.now one text) (sym c.in-Json.is) refl in
+    puts_of c.args.show.now grammar c.args.input.now one text c.put_json.result _ _ _ _ shows (c.put_json.ensures src grammar one h)
 
 pub returns-in-Picked : goal.returns-in-Picked
 returns-in-Picked g c src grammar one h same =
