@@ -278,7 +278,7 @@ fn put_halves<S: Sink>(
 }
 
 /// Writes the object of a number: both halves of one of 64 bits, else its value.
-fn put_number<S: Sink>(
+pub(crate) fn put_number<S: Sink>(
     out: &mut S,
     line: &mut Tail,
     visit: Visit,
@@ -315,7 +315,7 @@ fn put_front<S: Sink>(
 }
 
 /// Writes the object of a terminal.
-fn put_terminal<S: Sink>(
+pub(crate) fn put_terminal<S: Sink>(
     out: &mut S,
     line: &mut Tail,
     visit: Visit,
@@ -342,7 +342,7 @@ fn put_more<S: Sink>(out: &mut S, line: &mut Tail, more: u64) -> Result<(), Sink
 }
 
 /// Writes the object of raw bytes.
-fn put_raw<S: Sink>(
+pub(crate) fn put_raw<S: Sink>(
     out: &mut S,
     line: &mut Tail,
     visit: Visit,

@@ -1,3 +1,4 @@
+use crate::json::{put_number, put_raw as raw_object, put_terminal};
 use crate::leaf::{put_raw, put_text, put_value};
 use crate::tail::Tail;
 use ipg_core::grammar::Primitive;
@@ -42,5 +43,25 @@ fn a_write_fails_in_mid_line(rt: HostRuntime) -> Result<(), Fail> {
     let wrote = put_text(&mut out, at(3, 1, 3), b"\x00\xff");
     assert_eq!(rt; wrote, Err(SinkFault::Failed));
     assert_eq!(rt; out.bytes(), b"3 tok 1 3 00ff".as_slice());
+    Ok(())
+}
+
+#[test]
+fn objects_of_leaves(rt: HostRuntime) -> Result<(), Fail> {
+    let mut out = MemSink::new(rt.alloc(), 1 << 10, &[])?;
+    let mut line = Tail::new();
+    let bytes = [0xabu8; 33];
+    let wrote = [
+        put_terminal(&mut out, &mut line, at(3, 1, 3), b"\x00\xff"),
+        raw_object(&mut out, &mut line, at(2, 0, 33), &bytes),
+        put_number(&mut out, &mut line, at(1, 0, 8), Primitive::U64BE, 1, 2),
+        put_number(&mut out, &mut line, at(1, 8, 9), Primitive::U8, 0, 255),
+    ];
+    assert_eq!(rt; wrote, [Ok(()); 4]);
+    let want = b"{\"prim\":\"tok\",\"from\":1,\"to\":3,\"hex\":\"00ff\"}\
+          {\"prim\":\"Bytes\",\"from\":0,\"to\":33,\"hex\":\"abababababababababababababababababababababababababababababababab\",\"more\":1}\
+          {\"prim\":\"U64BE\",\"from\":0,\"to\":8,\"hi\":1,\"lo\":2}\
+          {\"prim\":\"U8\",\"from\":8,\"to\":9,\"val\":255}";
+    assert_eq!(rt; out.bytes(), want.as_slice());
     Ok(())
 }
