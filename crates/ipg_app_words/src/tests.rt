@@ -56,7 +56,7 @@ fn reads_settings(rt: HostRuntime) -> anyhow::Result<()> {
     Ok(())
 }
 
-const REFUSED: [&[&str]; 47] = [
+const REFUSED: [&[&str]; 48] = [
     &[],
     &["parse"],
     &["parse", "g"],
