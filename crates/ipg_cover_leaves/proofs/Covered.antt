@@ -38,12 +38,12 @@ puts_append : (xs ys : List Leaf) → puts (xs ++ ys) ≡ puts xs ++ puts ys
 puts_append [] ys = refl
 puts_append (x ∷ xs) ys = ap (λ more. puts_of x ++ more) (puts_append xs ys) ∙ sym (append_assoc (puts_of x) (puts xs) (puts ys))
 
-both_puts : (depth at : ℕ) (one : Kid) (more : Kids)
-    → puts (leaves_seen (kids_visits depth at (kid one more)))
-    ≡ puts (leaves_seen (kid_visits depth at one)) ++ puts (leaves_seen (kids_visits depth at more))
-both_puts depth at one more =
-    ap puts (seen_append (kid_visits depth at one) (kids_visits depth at more))
-    ∙ puts_append (leaves_seen (kid_visits depth at one)) (leaves_seen (kids_visits depth at more))
+both_puts : (depth at size : ℕ) (one : Kid) (more : Kids)
+    → puts (leaves_seen (kids_visits depth at size (kid one more)))
+    ≡ puts (leaves_seen (kid_visits depth at size one)) ++ puts (leaves_seen (kids_visits depth at size more))
+both_puts depth at size one more =
+    ap puts (seen_append (kid_visits depth at size one) (kids_visits depth at size more))
+    ∙ puts_append (leaves_seen (kid_visits depth at size one)) (leaves_seen (kids_visits depth at size more))
 
 -- ---- one leaf
 
@@ -74,36 +74,36 @@ leaf_puts leaf bytes at from n place is from_is long h =
 mutual
   tree_puts : (depth at : ℕ) (these : List ℕ) (one : Tree) (place : ℕ) → TreeHolds these one → AreBytes these → TreeCovers place one
       → IsPut (puts (leaves_seen (tree_visits depth at one))) (at + place)
-  tree_puts depth at these (tree.Node rule size attrs start end kids) place holds b h = kids_put depth at these kids place holds b h
+  tree_puts depth at these (tree.Node rule size attrs start end kids) place holds b h = kids_put depth at size these kids place holds b h
 
-  kid_puts : (depth at : ℕ) (these : List ℕ) (one : Kid) (place : ℕ) → KidHolds these one → AreBytes these → KidCovers place one
-      → IsPut (puts (leaves_seen (kid_visits depth at one))) (at + place)
-  kid_puts depth at these (tree.Sub from to sub) place holds b h =
+  kid_puts : (depth at size : ℕ) (these : List ℕ) (one : Kid) (place : ℕ) → KidHolds these one → AreBytes these → KidCovers place one
+      → IsPut (puts (leaves_seen (kid_visits depth at size one))) (at + place)
+  kid_puts depth at size these (tree.Sub from to sub) place holds b h =
       let le : from ≤ place = h.0 in
       subst (IsPut (puts (leaves_seen (tree_visits (depth + 1) (at + from) sub)))) (let e : (at + from) + (place - from) ≡ at + place = omega arith in e)
       (tree_puts (depth + 1) (at + from) (part these from to) sub (place - from) holds (bytes_part these from to b) h.1)
-  kid_puts depth at these (tree.Token from to bytes) place holds b h =
+  kid_puts depth at size these (tree.Token from to bytes) place holds b h =
       leaf_puts (Text (at + from) bytes) bytes at from (length bytes) place refl refl refl h
-  kid_puts depth at these (tree.Number from to prim high low) place holds b h =
+  kid_puts depth at size these (tree.Number from to prim high low) place holds b h =
       leaf_puts (Number prim (at + from) (pos high) (pos low)) (take (width prim) (part these from to)) at from (width prim) place
       (read_and_written prim (part these from to) high low holds (bytes_part these from to b)) refl
       (let enough = holds.enough in omega (arith, length-take (width prim) (part these from to))) h
-  kid_puts depth at these (tree.Raw from to bytes) place holds b h =
+  kid_puts depth at size these (tree.Raw from to bytes) place holds b h =
       leaf_puts (Raw (at + from) bytes) bytes at from (length bytes) place refl refl refl h
-  kid_puts depth at these (tree.Array sym items) place holds b h = kids_put (depth + 1) at these items place holds b h
-  kid_puts depth at these (tree.Many sym items) place holds b h = kids_put (depth + 1) at these items place holds b h
+  kid_puts depth at size these (tree.Array sym items) place holds b h = kids_put (depth + 1) at size these items place holds b h
+  kid_puts depth at size these (tree.Many sym items) place holds b h = kids_put (depth + 1) at size these items place holds b h
 
-  kids_put : (depth at : ℕ) (these : List ℕ) (ones : Kids) (place : ℕ) → KidsHold these ones → AreBytes these → KidsCover place ones
-      → IsPut (puts (leaves_seen (kids_visits depth at ones))) (at + place)
-  kids_put depth at these no_kids place holds b h = absurd h
-  kids_put depth at these (kid one more) place holds b (inl h) =
-      subst (λ all. IsPut all (at + place)) (sym (both_puts depth at one more))
-      (put_left (puts (leaves_seen (kid_visits depth at one))) (puts (leaves_seen (kids_visits depth at more))) (at + place)
-      (kid_puts depth at these one place holds.0 b h))
-  kids_put depth at these (kid one more) place holds b (inr h) =
-      subst (λ all. IsPut all (at + place)) (sym (both_puts depth at one more))
-      (put_right (puts (leaves_seen (kid_visits depth at one))) (puts (leaves_seen (kids_visits depth at more))) (at + place)
-      (kids_put depth at these more place holds.1 b h))
+  kids_put : (depth at size : ℕ) (these : List ℕ) (ones : Kids) (place : ℕ) → KidsHold these ones → AreBytes these → KidsCover place ones
+      → IsPut (puts (leaves_seen (kids_visits depth at size ones))) (at + place)
+  kids_put depth at size these no_kids place holds b h = absurd h
+  kids_put depth at size these (kid one more) place holds b (inl h) =
+      subst (λ all. IsPut all (at + place)) (sym (both_puts depth at size one more))
+      (put_left (puts (leaves_seen (kid_visits depth at size one))) (puts (leaves_seen (kids_visits depth at size more))) (at + place)
+      (kid_puts depth at size these one place holds.0 b h))
+  kids_put depth at size these (kid one more) place holds b (inr h) =
+      subst (λ all. IsPut all (at + place)) (sym (both_puts depth at size one more))
+      (put_right (puts (leaves_seen (kid_visits depth at size one))) (puts (leaves_seen (kids_visits depth at size more))) (at + place)
+      (kids_put depth at size these more place holds.1 b h))
 
 pub covered_is_put : CoveredIsPut
 covered_is_put s one place b holds h =

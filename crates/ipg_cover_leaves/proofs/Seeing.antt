@@ -24,21 +24,22 @@ all_append P (x ∷ xs) ys a b = (a.0, all_append P xs ys a.1 b)
 module _ (most : ℕ) where
   mutual
     tree_near : (depth at n : ℕ) (one : Tree) → TreeWithin n one → at + n ≤ most → AllByRecursion (IsNear most) (tree_visits depth at one)
-    tree_near depth at n (tree.Node rule size attrs start end kids) w less = kids_near depth at n kids w.2 less
+    tree_near depth at n (tree.Node rule size attrs start end kids) w less = kids_near depth at size n kids w.2 less
 
-    kid_near : (depth at n : ℕ) (one : Kid) → KidWithin n one → at + n ≤ most → AllByRecursion (IsNear most) (kid_visits depth at one)
-    kid_near depth at n (tree.Sub from to sub) w less =
+    kid_near : (depth at size n : ℕ) (one : Kid) → KidWithin n one → at + n ≤ most → AllByRecursion (IsNear most) (kid_visits depth at size one)
+    kid_near depth at size n (tree.Sub from to sub) w less =
         (omega (arith, w.0.valid, w.0.inside, less), tree_near (depth + 1) (at + from) (to - from) sub w.1 (omega (arith, w.0.valid, w.0.inside, less)))
-    kid_near depth at n (tree.Token from to bytes) w less = (omega (arith, w.0.valid, w.0.inside, less), tt)
-    kid_near depth at n (tree.Number from to prim high low) w less = (omega (arith, w.0.valid, w.0.inside, less), tt)
-    kid_near depth at n (tree.Raw from to bytes) w less = (omega (arith, w.0.valid, w.0.inside, less), tt)
-    kid_near depth at n (tree.Array sym items) w less = (omega (arith, less), kids_near (depth + 1) at n items w less)
-    kid_near depth at n (tree.Many sym items) w less = (omega (arith, less), kids_near (depth + 1) at n items w less)
+    kid_near depth at size n (tree.Token from to bytes) w less = (omega (arith, w.0.valid, w.0.inside, less), tt)
+    kid_near depth at size n (tree.Number from to prim high low) w less = (omega (arith, w.0.valid, w.0.inside, less), tt)
+    kid_near depth at size n (tree.Raw from to bytes) w less = (omega (arith, w.0.valid, w.0.inside, less), tt)
+    kid_near depth at size n (tree.Array sym items) w less = (omega (arith, less), kids_near (depth + 1) at size n items w less)
+    kid_near depth at size n (tree.Many sym items) w less = (omega (arith, less), kids_near (depth + 1) at size n items w less)
 
-    kids_near : (depth at n : ℕ) (ones : Kids) → KidsWithin n ones → at + n ≤ most → AllByRecursion (IsNear most) (kids_visits depth at ones)
-    kids_near depth at n no_kids w less = tt
-    kids_near depth at n (kid one more) w less =
-        all_append (IsNear most) (kid_visits depth at one) (kids_visits depth at more) (kid_near depth at n one w.0 less) (kids_near depth at n more w.1 less)
+    kids_near : (depth at size n : ℕ) (ones : Kids) → KidsWithin n ones → at + n ≤ most → AllByRecursion (IsNear most) (kids_visits depth at size ones)
+    kids_near depth at size n no_kids w less = tt
+    kids_near depth at size n (kid one more) w less =
+        all_append (IsNear most) (kid_visits depth at size one) (kids_visits depth at size more)
+        (kid_near depth at size n one w.0 less) (kids_near depth at size n more w.1 less)
 
   visits_near : (n : ℕ) (one : Tree) → TreeWithin n one → n ≤ most → AllByRecursion (IsNear most) (visits one)
   visits_near n one w less = (omega arith, tree_near 1 0 n one w (omega (arith, less)))

@@ -93,13 +93,13 @@ module _ (s : List ℕ) where
   mutual
     tree_of : (depth at : ℕ) (these : List ℕ) (one : Tree) → TreeHolds these one → Sits s at these → AreBytes these
         → AllByRecursion IsOf (leaves_seen (tree_visits depth at one))
-    tree_of depth at these (tree.Node rule size attrs start end kids) holds sits b = kids_of depth at these kids holds sits b
+    tree_of depth at these (tree.Node rule size attrs start end kids) holds sits b = kids_of depth at size these kids holds sits b
 
-    kid_of : (depth at : ℕ) (these : List ℕ) (one : Kid) → KidHolds these one → Sits s at these → AreBytes these
-        → AllByRecursion IsOf (leaves_seen (kid_visits depth at one))
-    kid_of depth at these (tree.Sub from to sub) holds sits b =
+    kid_of : (depth at size : ℕ) (these : List ℕ) (one : Kid) → KidHolds these one → Sits s at these → AreBytes these
+        → AllByRecursion IsOf (leaves_seen (kid_visits depth at size one))
+    kid_of depth at size these (tree.Sub from to sub) holds sits b =
         tree_of (depth + 1) (at + from) (part these from to) sub holds (sits_part at from to these sits) (bytes_part these from to b)
-    kid_of depth at these (tree.Token from to bytes) holds sits b = (
+    kid_of depth at size these (tree.Token from to bytes) holds sits b = (
       record {
         bytes = bytes;
         is = refl;
@@ -107,7 +107,7 @@ module _ (s : List ℕ) where
       },
       tt,
     )
-    kid_of depth at these (tree.Number from to prim high low) holds sits b = (
+    kid_of depth at size these (tree.Number from to prim high low) holds sits b = (
       record {
         bytes = take (width prim) (part these from to);
         is = read_and_written prim (part these from to) high low holds (bytes_part these from to b);
@@ -115,17 +115,17 @@ module _ (s : List ℕ) where
       },
       tt,
     )
-    kid_of depth at these (tree.Raw from to bytes) holds sits b =
+    kid_of depth at size these (tree.Raw from to bytes) holds sits b =
         (record { bytes = bytes; is = refl; sits = subst (Sits s (at + from)) holds (sits_part at from to these sits) }, tt)
-    kid_of depth at these (tree.Array sym items) holds sits b = kids_of (depth + 1) at these items holds sits b
-    kid_of depth at these (tree.Many sym items) holds sits b = kids_of (depth + 1) at these items holds sits b
+    kid_of depth at size these (tree.Array sym items) holds sits b = kids_of (depth + 1) at size these items holds sits b
+    kid_of depth at size these (tree.Many sym items) holds sits b = kids_of (depth + 1) at size these items holds sits b
 
-    kids_of : (depth at : ℕ) (these : List ℕ) (ones : Kids) → KidsHold these ones → Sits s at these → AreBytes these
-        → AllByRecursion IsOf (leaves_seen (kids_visits depth at ones))
-    kids_of depth at these no_kids holds sits b = tt
-    kids_of depth at these (kid one more) holds sits b =
-        subst (AllByRecursion IsOf) (sym (seen_append (kid_visits depth at one) (kids_visits depth at more)))
-        (all_append IsOf _ _ (kid_of depth at these one holds.0 sits b) (kids_of depth at these more holds.1 sits b))
+    kids_of : (depth at size : ℕ) (these : List ℕ) (ones : Kids) → KidsHold these ones → Sits s at these → AreBytes these
+        → AllByRecursion IsOf (leaves_seen (kids_visits depth at size ones))
+    kids_of depth at size these no_kids holds sits b = tt
+    kids_of depth at size these (kid one more) holds sits b =
+        subst (AllByRecursion IsOf) (sym (seen_append (kid_visits depth at size one) (kids_visits depth at size more)))
+        (all_append IsOf _ _ (kid_of depth at size these one holds.0 sits b) (kids_of depth at size these more holds.1 sits b))
 
   pub leaves_are_of : (one : Tree) → TreeHolds s one → AreBytes s → AllByRecursion IsOf (leaves_of one)
   leaves_are_of one holds b =

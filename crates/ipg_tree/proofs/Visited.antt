@@ -19,23 +19,23 @@ use Rattle.ipg_tree.specs.Line.{line_of, lines_of, head_line, child_line}
 
 module _ (g : Grammar) where
   mutual
-    kid_seen : (depth at : ℕ) (k : tree.Kid) → kid_lines g depth at k ≡ map (line_of g) (kid_visits depth at k)
-    kid_seen depth at (tree.Sub from to (tree.Node rule size attrs start end kids)) =
-        ap (λ ls. head_line g depth (at + from) (tree.Node rule size attrs start end kids) ∷ ls) (kids_seen (depth + 1) (at + from) kids)
-    kid_seen depth at (tree.Token from to bytes) = refl
-    kid_seen depth at (tree.Number from to prim high low) = refl
-    kid_seen depth at (tree.Raw from to bytes) = refl
-    kid_seen depth at (tree.Array sym items) = ap (λ ls. items_line g depth (codes "for") sym items ∷ ls) (kids_seen (depth + 1) at items)
-    kid_seen depth at (tree.Many sym items) = ap (λ ls. items_line g depth (codes "many") sym items ∷ ls) (kids_seen (depth + 1) at items)
+    kid_seen : (depth at n : ℕ) (k : tree.Kid) → kid_lines g depth at k ≡ map (line_of g) (kid_visits depth at n k)
+    kid_seen depth at n (tree.Sub from to (tree.Node rule size attrs start end kids)) =
+        ap (λ ls. head_line g depth (at + from) (tree.Node rule size attrs start end kids) ∷ ls) (kids_seen (depth + 1) (at + from) size kids)
+    kid_seen depth at n (tree.Token from to bytes) = refl
+    kid_seen depth at n (tree.Number from to prim high low) = refl
+    kid_seen depth at n (tree.Raw from to bytes) = refl
+    kid_seen depth at n (tree.Array sym items) = ap (λ ls. items_line g depth (codes "for") sym items ∷ ls) (kids_seen (depth + 1) at n items)
+    kid_seen depth at n (tree.Many sym items) = ap (λ ls. items_line g depth (codes "many") sym items ∷ ls) (kids_seen (depth + 1) at n items)
 
-    kids_seen : (depth at : ℕ) (ks : Kids) → kids_lines g depth at ks ≡ map (line_of g) (kids_visits depth at ks)
-    kids_seen depth at no_kids = refl
-    kids_seen depth at (kid k ks) =
-        ap (λ ls. ls ++ kids_lines g depth at ks) (kid_seen depth at k) ∙ ap (λ ls. map (line_of g) (kid_visits depth at k) ++ ls) (kids_seen depth at ks)
-        ∙ sym (map-append (line_of g) (kid_visits depth at k) (kids_visits depth at ks))
+    kids_seen : (depth at n : ℕ) (ks : Kids) → kids_lines g depth at ks ≡ map (line_of g) (kids_visits depth at n ks)
+    kids_seen depth at n no_kids = refl
+    kids_seen depth at n (kid k ks) =
+        ap (λ ls. ls ++ kids_lines g depth at ks) (kid_seen depth at n k) ∙ ap (λ ls. map (line_of g) (kid_visits depth at n k) ++ ls) (kids_seen depth at n ks)
+        ∙ sym (map-append (line_of g) (kid_visits depth at n k) (kids_visits depth at n ks))
 
   all_seen : (one : Tree) → tree_lines g 0 0 one ≡ map (line_of g) (visits one)
-  all_seen (tree.Node rule size attrs start end kids) = kid_seen 0 0 (tree.Sub 0 size (tree.Node rule size attrs start end kids))
+  all_seen (tree.Node rule size attrs start end kids) = kid_seen 0 0 size (tree.Sub 0 size (tree.Node rule size attrs start end kids))
 
   flat_of : (seen : List Seen) → flat_map (λ l. l) (map (line_of g) seen) ≡ lines_of g seen
   flat_of [] = refl

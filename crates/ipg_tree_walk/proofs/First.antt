@@ -10,7 +10,7 @@ use Rattle.ipg_region.specs.declared.region.RunId.{RunId}
 use Rattle.ipg_mach_nodes.specs.declared.kid.Node.{Node}
 use Rattle.ipg_mach_nodes.specs.Stored.{Stored, Source, StandsTree, tree_levels}
 use Rattle.ipg_tree_walk.specs.declared.walk.Visit.{Visit}
-use Rattle.ipg_tree_walk.specs.Visits.{Seen, seen, whole, visits}
+use Rattle.ipg_tree_walk.specs.Visits.{Seen, seen, size_of, whole, visits}
 use Rattle.ipg_tree_walk.specs.Left.{Shows, Leave}
 use Rattle.ipg_tree_walk.specs.Stack.{Stacked}
 use Rattle.ipg_tree_walk.specs.Steps.{wide, steps}
@@ -58,14 +58,14 @@ levels_fit src st id at room (tree.Node rule size attrs start end kids) stands r
     omega (arith, levels, le)
 
 -- behind the visit of the root the rest of its visits is left
-pub root_left : (src : Source) (st : Stored) (id : RunId) (visit : Visit) (one : Tree) (first : Seen) (more : List Seen) (cleared stack : Stacked)
+pub root_left : (src : Source) (st : Stored) (id : RunId) (visit : Visit) (one : Tree) (first : Seen) (more : List Seen) (cleared stack : Stacked) (n : ℕ)
     → cleared.levels ≡ [] → ((node : Node) → slice_get st.nodes id.place ≡ Some (node ∷ []) → node.levels ≤ cleared.room) → StandsTree src st 0 id one
-    → Shows src st visit (seen 0 0 (whole one)) → visits one ≡ first ∷ more
-    → Entered src st cleared.room cleared.levels 0 visit.kid stack.room stack.levels
+    → Shows src st visit (seen 0 0 (size_of one) (whole one)) → visits one ≡ first ∷ more
+    → Entered src st cleared.room cleared.levels 0 n visit.kid stack.room stack.levels
     → Shows src st visit first × Leave src st stack.room stack.levels more
-root_left src st id visit one first more cleared stack none roomy stands shows is enter =
-    let into = subst (λ levels. Entered src st cleared.room levels 0 visit.kid stack.room stack.levels) none enter in
-    let all = sym (its_visits 0 0 (whole one)) ∙ is in
+root_left src st id visit one first more cleared stack n none roomy stands shows is enter =
+    let into = subst (λ levels. Entered src st cleared.room levels 0 n visit.kid stack.room stack.levels) none enter in
+    let all = sym (its_visits 0 0 (size_of one) (whole one)) ∙ is in
     let inner = into (whole one) [] shows.stands (omega arith) (omega arith) (levels_fit src st id 0 cleared.room one stands roomy) refl in (
       subst (Shows src st visit) (heads src st _ _ _ _ all) shows,
       subst (Leave src st stack.room stack.levels) (append-nil _ ∙ tails src st _ _ _ _ all) inner,

@@ -1,5 +1,5 @@
 -- What a walk has left, step by step.
-use Rattle.std.proofs.Common.{◌≡◌, ℕ, zero, suc, ◌+◌, ◌*◌, ◌^◌, ◌<◌, ◌≤◌, refl, sym, ap, ◌∙◌, subst, arith, max, List, [], ◌∷◌, ◌++◌, length, drop}
+use Rattle.std.proofs.Common.{◌≡◌, ℕ, zero, suc, ◌+◌, ◌*◌, ◌^◌, ◌<◌, ◌≤◌, refl, sym, ap, ap₂, ◌∙◌, subst, arith, max, List, [], ◌∷◌, ◌++◌, length, drop}
 use Rattle.std.proofs.Common.{Option, Some, None, add-one, drop-cons, inl, inr}
 use Rattle.std.proofs.lemmas.Bool.{cases_lt}
 use Rattle.std.specs.Prelude.{slice_get, MatchOption}
@@ -13,18 +13,19 @@ use Rattle.ipg_tree_walk.specs.declared.stack.Level.{Level}
 use Rattle.ipg_tree_walk.specs.declared.walk.Taken.{Taken}
 use Rattle.ipg_tree_walk.specs.declared.walk.Visit.{Visit}
 use Rattle.ipg_tree_walk.specs.Stack.{Stacked}
-use Rattle.ipg_tree_walk.specs.Visits.{Seen, seen, kid_visits, kids_visits, kids_in, place_in, from_of}
+use Rattle.ipg_tree_walk.specs.Visits.{Seen, seen, kid_visits, kids_visits, kids_in, place_in, size_in, from_of}
 use Rattle.ipg_tree_walk.specs.Left.{Shows, RowsLeft, BeginsRows, Follows, Takes, TakesIf, IsOpen, Leave}
 use Rattle.ipg_region.specs.declared.region.RunId.{RunId}
 
 -- a child is visited, and then what lies in it
-pub its_visits : (depth at : ℕ) (one : tree.Kid) → kid_visits depth at one ≡ seen depth at one ∷ kids_visits (depth + 1) (place_in at one) (kids_in one)
-its_visits depth at (tree.Sub from to (tree.Node rule size attrs start end kids)) = refl
-its_visits depth at (tree.Token from to bytes) = refl
-its_visits depth at (tree.Number from to prim high low) = refl
-its_visits depth at (tree.Raw from to bytes) = refl
-its_visits depth at (tree.Array sym items) = refl
-its_visits depth at (tree.Many sym items) = refl
+pub its_visits : (depth at n : ℕ) (one : tree.Kid)
+    → kid_visits depth at n one ≡ seen depth at n one ∷ kids_visits (depth + 1) (place_in at one) (size_in n one) (kids_in one)
+its_visits depth at n (tree.Sub from to (tree.Node rule size attrs start end kids)) = refl
+its_visits depth at n (tree.Token from to bytes) = refl
+its_visits depth at n (tree.Number from to prim high low) = refl
+its_visits depth at n (tree.Raw from to bytes) = refl
+its_visits depth at n (tree.Array sym items) = refl
+its_visits depth at n (tree.Many sym items) = refl
 
 -- what lies in a child begins within its interval's start
 pub place_near : (at : ℕ) (one : tree.Kid) → place_in at one ≤ at + from_of one
@@ -75,6 +76,7 @@ takes_if st level list rows None is known h = λ left h'. rows_left st level.lis
 takes_if st level list rows (Some taken) is known h = record {
   rows = λ left h'. begins st level list rows taken left is known h h';
   at = h.at;
+  size = h.size;
   next = h.next;
   counts = h.counts;
 }
@@ -105,7 +107,7 @@ module _ (src : Source) (st : Stored) where
     pub behind : IsOpen src st room (length around) rest kids
     pub fits : length around + 1 + kid_levels one ≤ room
     pub leave : Leave src st room around more
-    pub visits : kid_visits (length around + 1) rest.at one ++ (kids_visits (length around + 1) rest.at kids ++ more) ≡ left
+    pub visits : kid_visits (length around + 1) rest.at rest.size one ++ (kids_visits (length around + 1) rest.at rest.size kids ++ more) ≡ left
 
   goes : (room : ℕ) (around : List Level) (level : Level) (taken : Taken) (left : List Seen) → Takes st level taken → Leave src st room (level ∷ around) left
       → Goes room around taken.rest taken.kid left
@@ -113,6 +115,7 @@ module _ (src : Source) (st : Stored) where
       let h = is.holds in
       let n = length around + 1 in
       let at = taken.rest.at in
+      let size = taken.rest.size in
       let rows = takes.rows h.rows h.are_rows in
       let stand : StandKids src st at h.rows kids = subst (λ a. StandKids src st a h.rows kids) (sym takes.at) h.stand in
       let m = more_in at taken.kid rows.0 kids (subst (λ ks. StandKids src st at ks kids) rows.1 stand) in
@@ -130,17 +133,18 @@ module _ (src : Source) (st : Stored) where
         };
         fits = omega (arith, fits);
         leave = leave;
-        visits = sym (append_assoc (kid_visits n at m.one) (kids_visits n at m.more) more)
-            ∙ ap (λ ks. kids_visits n at ks ++ more) (sym m.are) ∙ ap (λ a. kids_visits n a kids ++ more) takes.at ∙ e;
+        visits = sym (append_assoc (kid_visits n at size m.one) (kids_visits n at size m.more) more)
+            ∙ ap (λ ks. kids_visits n at size ks ++ more) (sym m.are)
+            ∙ ap₂ (λ a s. kids_visits n a s kids ++ more) takes.at takes.size ∙ e;
       }
 
   -- what going into a child leaves
-  abbrev pub Entered : ℕ → List Level → ℕ → Kid → ℕ → List Level → Type 0
-  Entered room levels at k new_room new =
+  abbrev pub Entered : ℕ → List Level → ℕ → ℕ → Kid → ℕ → List Level → Type 0
+  Entered room levels at size k new_room new =
       (one : tree.Kid) (more : List Seen) → StandsKid src st at k one → place_in at one < 2 ^ 64 → place_in at one ≤ length levels * 2 ^ 32
       → length levels + kid_levels one ≤ room
       → Leave src st room levels more
-      → Leave src st new_room new (kids_visits (length levels + 1) (place_in at one) (kids_in one) ++ more)
+      → Leave src st new_room new (kids_visits (length levels + 1) (place_in at one) (size_in size one) (kids_in one) ++ more)
 
   pub heads : (a b : Seen) (xs ys : List Seen) → a ∷ xs ≡ b ∷ ys → a ≡ b
   heads a b xs ys e = cc
@@ -152,20 +156,22 @@ module _ (src : Source) (st : Stored) where
       → (pushed entered : Stacked) (depth : ℕ) (visit : Visit)
       → room < 2 ^ 32 → depth ≡ length around + 1
       → pushed.room ≡ room → pushed.levels ≡ taken.rest ∷ around
-      → Entered pushed.room pushed.levels taken.rest.at taken.kid entered.room entered.levels
+      → Entered pushed.room pushed.levels taken.rest.at taken.rest.size taken.kid entered.room entered.levels
       → ((k : tree.Kid) → StandsKid src st taken.rest.at taken.kid k → from_of k < 2 ^ 32)
-      → ((k : tree.Kid) → StandsKid src st taken.rest.at taken.kid k → taken.rest.at + 2 ^ 33 ≤ 2 ^ 64 → Shows src st visit (seen depth taken.rest.at k))
+      → ((k : tree.Kid) → StandsKid src st taken.rest.at taken.kid k → taken.rest.at + 2 ^ 33 ≤ 2 ^ 64
+      → Shows src st visit (seen depth taken.rest.at taken.rest.size k))
       → Takes st level taken → Leave src st room (level ∷ around) (one ∷ more)
       → Shows src st visit one × Leave src st entered.room entered.levels more
   goes_on room around level taken one more pushed entered depth visit small deep same is enter near shows takes leave =
       let at = taken.rest.at in
+      let size = taken.rest.size in
       let go = goes room around level taken (one ∷ more) takes leave in
       let fits = go.fits in
       let close = go.behind.near in
       let from = near go.one go.stands in
       let place = place_near at go.one in
-      let behind = kids_visits (length around + 1) at go.kids ++ go.more in
-      let all = ap (λ vs. vs ++ behind) (sym (its_visits (length around + 1) at go.one)) ∙ go.visits in
+      let behind = kids_visits (length around + 1) at size go.kids ++ go.more in
+      let all = ap (λ vs. vs ++ behind) (sym (its_visits (length around + 1) at size go.one)) ∙ go.visits in
       let long : length pushed.levels ≡ length around + 1 = ap length is ∙ sym (add-one (length around)) in
       let rest = subst (λ levels. Leave src st pushed.room levels behind) (sym is) (
         go.kids,
@@ -175,9 +181,9 @@ module _ (src : Source) (st : Stored) where
         refl,
       ) in
       let inner = enter go.one behind go.stands (omega arith) (omega arith) (omega arith) rest in (
-        subst (Shows src st visit) (ap (λ d. seen d at go.one) deep ∙ heads _ _ _ _ all) (shows go.one go.stands (omega arith)),
+        subst (Shows src st visit) (ap (λ d. seen d at size go.one) deep ∙ heads _ _ _ _ all) (shows go.one go.stands (omega arith)),
         subst (Leave src st entered.room entered.levels)
-            (ap (λ n. kids_visits (n + 1) (place_in at go.one) (kids_in go.one) ++ behind) long ∙ tails _ _ _ _ all) inner,
+            (ap (λ n. kids_visits (n + 1) (place_in at go.one) (size_in size go.one) (kids_in go.one) ++ behind) long ∙ tails _ _ _ _ all) inner,
       )
 
   -- where no row comes next the levels around have all
@@ -185,7 +191,7 @@ module _ (src : Source) (st : Stored) where
       → Leave src st room around left
   nothing_next room around level left none (kids, more, is, leave, e) =
       let no = none_in level.at kids (subst (λ rows. StandKids src st level.at rows kids) (none is.holds.rows is.holds.are_rows) is.holds.stand) in
-      subst (Leave src st room around) (ap (λ ks. kids_visits (length around + 1) level.at ks ++ more) (sym no) ∙ e) leave
+      subst (Leave src st room around) (ap (λ ks. kids_visits (length around + 1) level.at level.size ks ++ more) (sym no) ∙ e) leave
 
   not_nothing : (a : Seen) (xs : List Seen) → a ∷ xs ≡ [] → ⊥
   not_nothing a xs e = cc
@@ -194,8 +200,8 @@ module _ (src : Source) (st : Stored) where
   pub something_left : (room : ℕ) (around : List Level) (level : Level) (taken : Taken) → Takes st level taken → Leave src st room (level ∷ around) [] → ⊥
   something_left room around level taken takes leave =
       let go = goes room around level taken [] takes leave in
-      let behind = kids_visits (length around + 1) taken.rest.at go.kids ++ go.more in
-      not_nothing _ _ (ap (λ vs. vs ++ behind) (sym (its_visits (length around + 1) taken.rest.at go.one)) ∙ go.visits)
+      let behind = kids_visits (length around + 1) taken.rest.at taken.rest.size go.kids ++ go.more in
+      not_nothing _ _ (ap (λ vs. vs ++ behind) (sym (its_visits (length around + 1) taken.rest.at taken.rest.size go.one)) ∙ go.visits)
 
   -- the same, with the innermost level by itself
   pub parted : (room other : ℕ) (levels around : List Level) (level : Level) (left : List Seen) → other ≡ room → levels ≡ level ∷ around

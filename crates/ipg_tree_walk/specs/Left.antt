@@ -10,7 +10,7 @@ use Rattle.ipg_mach_nodes.specs.Stored.{Stored, Source, StandsTree, StandsKid, S
 use Rattle.ipg_tree_walk.specs.declared.stack.Level.{Level}
 use Rattle.ipg_tree_walk.specs.declared.walk.Visit.{Visit}
 use Rattle.ipg_tree_walk.specs.declared.walk.Taken.{Taken}
-use Rattle.ipg_tree_walk.specs.Visits.{Seen, kids_visits, kids_in, place_in, from_of, to_of}
+use Rattle.ipg_tree_walk.specs.Visits.{Seen, kids_visits, kids_in, place_in, size_in, from_of, end_in}
 
 -- it is the node at this place, where there is one
 abbrev pub NodeAt : Stored → RunId → Option Node → Type 0
@@ -30,7 +30,7 @@ pub record StandsNode (src : Source) (st : Stored) (at : ℕ) (node : Option Nod
 pub record Shows (src : Source) (st : Stored) (visit : Visit) (one : Seen) : Type 0 where
   pub depth : visit.depth ≡ one.depth
   pub from : visit.from ≡ one.at + from_of one.child
-  pub to : visit.to ≡ one.at + to_of one.child
+  pub to : visit.to ≡ one.at + end_in one.size one.child
   -- each place of its part is a number of 64 bits
   pub small : visit.from + 2 ^ 32 ≤ 2 ^ 64
   pub stands : StandsKid src st one.at visit.kid one.child
@@ -55,6 +55,7 @@ BeginsRows st k list next rows = (more : List Kid) × (rows ≡ k ∷ more) × R
 pub record Takes (st : Stored) (level : Level) (taken : Taken) : Type 0 where
   pub rows : (rows : List Kid) → RowsLeft st level.list level.next rows → BeginsRows st taken.kid taken.rest.list taken.rest.next rows
   pub at : taken.rest.at ≡ level.at
+  pub size : taken.rest.size ≡ level.size
   pub next : taken.rest.next ≡ level.next + 1
   pub counts : level.next + 1 < 2 ^ 64
 
@@ -62,6 +63,7 @@ pub record Takes (st : Stored) (level : Level) (taken : Taken) : Type 0 where
 pub record Follows (level : Level) (rows : List Kid) (taken : Taken) : Type 0 where
   pub kid : slice_get rows level.next ≡ Some taken.kid
   pub at : taken.rest.at ≡ level.at
+  pub size : taken.rest.size ≡ level.size
   pub next : taken.rest.next ≡ level.next + 1
   pub more : level.next + 1 < length rows → taken.rest.list ≡ level.list
   pub none : length rows ≤ level.next + 1 → taken.rest.list ≡ None
@@ -82,14 +84,15 @@ abbrev pub Leave : Source → Stored → ℕ → List Level → List Seen → Ty
 Leave src st room [] left = left ≡ []
 Leave src st room (level ∷ around) left =
     (kids : Kids) × (more : List Seen) × IsOpen src st room (length around) level kids × Leave src st room around more
-    × (kids_visits (length around + 1) level.at kids ++ more ≡ left)
+    × (kids_visits (length around + 1) level.at level.size kids ++ more ≡ left)
 
--- the level of what lies in a child of a part that begins at `at`
-pub record Enters (src : Source) (st : Stored) (level : Level) (at : ℕ) (one : tree.Kid) : Type 0 where
+-- the level of what lies in a child of a part of `size` bytes that begins at `at`
+pub record Enters (src : Source) (st : Stored) (level : Level) (at size : ℕ) (one : tree.Kid) : Type 0 where
   pub place : level.at ≡ place_in at one
+  pub long : level.size ≡ size_in size one
   pub holds : Holds src st level (kids_in one)
   pub deeper : kids_levels (kids_in one) + 1 ≤ kid_levels one
 
-abbrev pub EntersIf : Source → Stored → Option Level → ℕ → tree.Kid → Type 0
-EntersIf src st None at one = kids_in one ≡ no_kids
-EntersIf src st (Some level) at one = Enters src st level at one
+abbrev pub EntersIf : Source → Stored → Option Level → ℕ → ℕ → tree.Kid → Type 0
+EntersIf src st None at size one = kids_in one ≡ no_kids
+EntersIf src st (Some level) at size one = Enters src st level at size one

@@ -244,7 +244,7 @@ impl<'a, A: Allocator + Clone + Drop> Parsed<'a, A> {
         let visit = root_visit(self.root, self.store.node(self.root));
         self.is_ahead = false;
         self.stack.clear();
-        enter(&mut self.stack, visit.kid, visit.node, 0);
+        enter(&mut self.stack, visit.kid, visit.node, 0, 0);
         visit
     }
 

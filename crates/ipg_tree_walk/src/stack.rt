@@ -7,13 +7,14 @@ use ipg_region::RunId;
 use std::alloc::{AllocError, Allocator};
 use std::marker::Model;
 
-/// A list of children or items with the next of them that is to be visited, and the place of the input where the part
-/// begins that they lie in. There is no list where none of them is left.
+/// A list of children or items with the next of them that is to be visited, and the part that they lie in: the place of the
+/// input where it begins, and how many bytes it has. There is no list where none of them is left.
 #[derive(Clone, Copy, Debug, PartialEq, Eq)]
 pub struct Level {
     pub list: Option<RunId>,
     pub next: usize,
     pub at: u64,
+    pub size: u32,
 }
 
 /// Levels that lie within one another, in memory that was taken for `room` of them.

@@ -99,7 +99,7 @@ fn visits_in_order<A: Allocator + Clone + Drop>(
             Some(Visit {
                 depth: 1,
                 from: 0,
-                to: 0,
+                to: 7,
                 kid: Kid::Array { sym: 6, .. },
                 node: None
             })

@@ -5,7 +5,7 @@ ghost use Rattle.ipg_core.specs.Tree as tree;
 ghost use Rattle.ipg_core.specs.Tree.{Tree};
 ghost use Rattle.ipg_mach_nodes.specs.Stored.{Stored, Source, StandsTree, StandsKid, kid_levels};
 ghost use Rattle.ipg_tree_walk.specs.declared.stack.Level.{Level};
-ghost use Rattle.ipg_tree_walk.specs.Visits.{Seen, whole, size_of, kids_visits, kids_in, kids_in_tree, place_in, from_of, to_of};
+ghost use Rattle.ipg_tree_walk.specs.Visits.{Seen, whole, size_of, kids_visits, kids_in, kids_in_tree, place_in, size_in, from_of, end_in};
 ghost use Rattle.ipg_region.specs.declared.region.RunId.{RunId as Place};
 ghost use Rattle.ipg_tree_walk.specs.Left.{NodeAt, NodeOf, Shows, Holds, Takes, TakesIf, Follows, Leave, EntersIf};
 ghost use Rattle.ipg_tree_walk.specs.Steps.{wide, steps};
@@ -16,7 +16,7 @@ use ipg_num::item_at;
 use std::alloc::Allocator;
 
 /// A child: how deep it lies, the places of the input where its interval begins and ends, its row, and the node that the
-/// row names. An array and a repetition have the place of their node there twice.
+/// row names. An array and a repetition have the interval of the node that they lie in.
 #[derive(Clone, Copy, Debug, PartialEq, Eq)]
 pub struct Visit {
     pub depth: u64,
@@ -33,16 +33,18 @@ struct Interval {
     to: u32,
 }
 
-fn interval_of(kid: Kid) -> Interval
-    ensures { (src : Source) (st : Stored) (at : ℕ) (one : tree.Kid) → StandsKid src st at kid one → (result.from ≡ from_of one) × (result.to ≡ to_of one) }
+/// The interval of a child in a part of so many bytes; that of an array and a repetition is the whole part.
+fn interval_of(kid: Kid, size: u32) -> Interval
+    ensures { (src : Source) (st : Stored) (at : ℕ) (one : tree.Kid) → StandsKid src st at kid one
+        → (result.from ≡ from_of one) × (result.to ≡ end_in size one) }
 {
     match kid {
         Kid::Node { from, to, .. } => Interval { from, to },
         Kid::Text { from, to, .. } => Interval { from, to },
         Kid::Number { from, to, .. } => Interval { from, to },
         Kid::Raw { from, to } => Interval { from, to },
-        Kid::Array { .. } => Interval { from: 0, to: 0 },
-        Kid::Many { .. } => Interval { from: 0, to: 0 },
+        Kid::Array { .. } => Interval { from: 0, to: size },
+        Kid::Many { .. } => Interval { from: 0, to: size },
     }
 }
 
@@ -59,22 +61,23 @@ fn node_of<A: Allocator + Clone + Drop>(store: &Store<A>, kid: Kid) -> Option<No
 /// The level of the children of a node, whose part begins at `at`.
 fn level_of(node: Option<Node>, at: u64) -> Option<Level>
     ensures { (src : Source) (st : Stored) (id : Place) (one : Tree) → NodeAt st id node → StandsTree src st at id one
-        → IsSomeAnd result (λ level. (level.at ≡ at) × Holds src st level (kids_in_tree one)) }
+        → IsSomeAnd result (λ level. (level.at ≡ at) × (level.size ≡ size_of one) × Holds src st level (kids_in_tree one)) }
 {
     match node {
         Some(node) => Some(Level {
             list: Some(node.kids),
             next: 0,
             at,
+            size: node.head.size,
         }),
         None => None,
     }
 }
 
-/// The level of what lies in a child of a part that begins at `at`; None where nothing can.
-fn level_in(kid: Kid, node: Option<Node>, at: u64) -> Option<Level>
+/// The level of what lies in a child of a part of `size` bytes that begins at `at`; None where nothing can.
+fn level_in(kid: Kid, node: Option<Node>, at: u64, size: u32) -> Option<Level>
     ensures { (src : Source) (st : Stored) (one : tree.Kid) → NodeOf st kid node → StandsKid src st at kid one → place_in at one < 2 ^ 64
-        → EntersIf src st result at one }
+        → EntersIf src st result at size one }
 {
     match kid {
         Kid::Node { from, .. } => level_of(node, at.saturating_add(u64::from(from))),
@@ -82,11 +85,13 @@ fn level_in(kid: Kid, node: Option<Node>, at: u64) -> Option<Level>
             list: Some(items),
             next: 0,
             at,
+            size,
         }),
         Kid::Many { items, .. } => Some(Level {
             list: Some(items),
             next: 0,
             at,
+            size,
         }),
         Kid::Text { .. } => None,
         Kid::Number { .. } => None,
@@ -94,12 +99,13 @@ fn level_in(kid: Kid, node: Option<Node>, at: u64) -> Option<Level>
     }
 }
 
-/// Goes into a child of a part that begins at `at`.
+/// Goes into a child of a part of `size` bytes that begins at `at`.
 pub(crate) fn enter<A: Allocator + Clone + Drop>(
     stack: &mut Stack<A>,
     kid: Kid,
     node: Option<Node>,
     at: u64,
+    size: u32,
 )
     ensures room { stack.new.room ≡ stack.old.room }
     ensures full { stack.old.room ≤ length stack.old.levels → stack.new.levels ≡ stack.old.levels }
@@ -109,9 +115,9 @@ pub(crate) fn enter<A: Allocator + Clone + Drop>(
     ensures entered { (src : Source) (st : Stored) → NodeOf st kid node → (one : tree.Kid) (more : List Seen) → StandsKid src st at kid one
         → place_in at one < 2 ^ 64 → place_in at one ≤ length stack.old.levels * 2 ^ 32 → length stack.old.levels + kid_levels one ≤ stack.old.room
         → Leave src st stack.old.room stack.old.levels more
-        → Leave src st stack.new.room stack.new.levels (kids_visits (length stack.old.levels + 1) (place_in at one) (kids_in one) ++ more) }
+        → Leave src st stack.new.room stack.new.levels (kids_visits (length stack.old.levels + 1) (place_in at one) (size_in size one) (kids_in one) ++ more) }
 {
-    if let Some(level) = level_in(kid, node, at) {
+    if let Some(level) = level_in(kid, node, at, size) {
         stack.push(level);
     }
 }
@@ -127,6 +133,7 @@ struct Taken {
 fn behind(level: Level, count: usize) -> Level
     requires { level.next < 2 ^ 63 }
     ensures at { result.at ≡ level.at }
+    ensures size { result.size ≡ level.size }
     ensures next { result.next ≡ level.next + 1 }
     ensures more { level.next + 1 < count → result.list ≡ level.list }
     ensures none { count ≤ level.next + 1 → result.list ≡ None }
@@ -136,6 +143,7 @@ fn behind(level: Level, count: usize) -> Level
         list: if next < count { level.list } else { None },
         next,
         at: level.at,
+        size: level.size,
     }
 }
 
@@ -162,13 +170,13 @@ fn next_in<A: Allocator + Clone + Drop>(store: &Store<A>, level: Level) -> Optio
     }
 }
 
-/// The visit of a child at the depth of a level.
-fn shown(depth: u64, at: u64, kid: Kid, node: Option<Node>) -> Visit
+/// The visit of a child of a part of `size` bytes that begins at `at`.
+fn shown(depth: u64, at: u64, size: u32, kid: Kid, node: Option<Node>) -> Visit
     ensures near { (src : Source) (st : Stored) (one : tree.Kid) → StandsKid src st at kid one → from_of one < 2 ^ 32 }
     ensures shows { (src : Source) (st : Stored) → NodeOf st kid node → (one : tree.Kid) → StandsKid src st at kid one → at + 2 ^ 33 ≤ 2 ^ 64
-        → Shows src st result (record { depth = depth; at = at; child = one }) }
+        → Shows src st result (record { depth = depth; at = at; size = size; child = one }) }
 {
-    let interval = interval_of(kid);
+    let interval = interval_of(kid, size);
     Visit {
         depth,
         from: at.saturating_add(u64::from(interval.from)),
@@ -190,11 +198,11 @@ fn go_on<A: Allocator + Clone + Drop>(store: &Store<A>, stack: &mut Stack<A>, ta
         → Shows src store.now result one × Leave src store.now stack.new.room stack.new.levels more }
 {
     let depth = stack.len();
-    let at = taken.rest.at;
+    let (at, size) = (taken.rest.at, taken.rest.size);
     stack.replace(taken.rest);
     let node = node_of(store, taken.kid);
-    let visit = shown(depth, at, taken.kid, node);
-    enter(stack, taken.kid, node, at);
+    let visit = shown(depth, at, size, taken.kid, node);
+    enter(stack, taken.kid, node, at, size);
     visit
 }
 
@@ -222,7 +230,7 @@ pub(crate) fn step<A: Allocator + Clone + Drop>(
 /// The visit of the root of a tree, which is this node.
 pub(crate) fn root_visit(root: RunId, node: Option<Node>) -> Visit
     ensures { (src : Source) (st : Stored) (one : Tree) → NodeAt st root node → StandsTree src st 0 root one
-        → Shows src st result (record { depth = 0; at = 0; child = whole one }) }
+        → Shows src st result (record { depth = 0; at = 0; size = size_of one; child = whole one }) }
 {
     let to = match node {
         Some(node) => node.head.size,

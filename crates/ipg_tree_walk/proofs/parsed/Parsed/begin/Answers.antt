@@ -16,7 +16,7 @@ returns-clause-left g c src one first more stands is =
     let stand = subst (λ p. StandsTree src p.store 0 p.root one) (sym same) stands in
     let shows = c.root_visit-visit.ensures src store one c.node.ensures.some stand in
     let room = ap (λ s. s.room) c.clear.ensures in
-    let both = root_left src store c.self.inside.root c.root_visit-visit.result one first more c.clear.new.self c.enter.new.stack
+    let both = root_left src store c.self.inside.root c.root_visit-visit.result one first more c.clear.new.self c.enter.new.stack _
     (ap (λ s. s.levels) c.clear.ensures) (λ node is_at. subst (λ r. node.levels ≤ r) (sym room) (c.self.invariant node is_at)) stand shows is
     (c.enter.ensures.entered src store shows.node) in
     (subst (λ p. Shows src p.store c.root_visit-visit.result first) same both.0, both.1)
