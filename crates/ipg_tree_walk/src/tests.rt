@@ -63,7 +63,7 @@ fn visits_in_order<A: Allocator + Clone + Drop>(
     let mut stack = Stack::with_room(again, 3)?;
     let node = store.node(id);
     let first = root_visit(top, store.node(top));
-    enter(&mut stack, first.kid, first.node, 0);
+    enter(&mut stack, first.kid, first.node, 0, 0);
     assert_eq!(rt;
         Some(first),
         at(
