@@ -1,5 +1,5 @@
 -- Lists that stand one by one for others, and loops over them.
-use Rattle.std.proofs.Common.{◌≡◌, ℕ, ◌+◌, ◌<◌, ◌≤◌, List, [], ◌∷◌, ◌++◌, length, get_or, drop, map, flat_map, refl, ap, ◌∙◌, sym, subst}
+use Rattle.std.proofs.Common.{◌≡◌, ℕ, ◌+◌, ◌<◌, ◌≤◌, List, [], ◌∷◌, ◌++◌, length, get_or, drop, flat_map, refl, ap, ◌∙◌, sym, subst}
 use Rattle.std.proofs.Common.{append_assoc, append-nil, add-one, subst₂}
 use Rattle.std.proofs.Math.Seq.{drop-cons}
 use Rattle.std.proofs.lemmas.List.{drop_all}
@@ -60,15 +60,6 @@ module _ {A B X Y : Type 0} (R : A → X → Type 0) (Q : B → Y → Type 0) (f
 
   pub at_end : (xs : List A) (i : ℕ) (out : List B) (whole : List Y) → length xs ≤ i → Through R Q f (drop i xs) out whole → Each Q out whole
   at_end xs i out whole all t = all_made out whole (subst (λ left. Through R Q f left out whole) (drop_all i xs all) t)
-
--- rows that are put behind others, each as it is
-pub mapped_on : {A B : Type 0} (f : A → B) (xs : List A) (i : ℕ) (d : A) (out whole : List B) → i < length xs → out ++ map f (drop i xs) ≡ whole
-    → (out ++ f (get_or xs i d) ∷ []) ++ map f (drop (i + 1) xs) ≡ whole
-mapped_on f xs i d out whole less is =
-    append_assoc out (f (get_or xs i d) ∷ []) (map f (drop (i + 1) xs)) ∙ ap (λ left. out ++ map f left) (sym (next_left xs i d less)) ∙ is
-
-pub mapped_all : {A B : Type 0} (f : A → B) (xs : List A) (i : ℕ) (out whole : List B) → length xs ≤ i → out ++ map f (drop i xs) ≡ whole → out ≡ whole
-mapped_all f xs i out whole all is = sym (append-nil out) ∙ ap (λ left. out ++ map f left) (sym (drop_all i xs all)) ∙ is
 
 -- ---- hits
 

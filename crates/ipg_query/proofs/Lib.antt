@@ -5,5 +5,6 @@ pub mod Valued
 pub mod Chosen
 pub mod Spreading
 pub mod Coming
+pub mod Piling
 pub mod Picking
 pub mod Placed

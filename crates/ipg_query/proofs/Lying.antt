@@ -1,5 +1,5 @@
 -- What lies in results, near and one by one.
-use Rattle.std.proofs.Common.{◌≡◌, ℕ, ◌+◌, ◌-◌, ◌^◌, ◌≤◌, List, [], ◌∷◌, ◌++◌, map, flat_map, refl, ap, sym, arith}
+use Rattle.std.proofs.Common.{◌≡◌, ℕ, ◌+◌, ◌-◌, ◌^◌, ◌≤◌, List, [], ◌∷◌, ◌++◌, flat_map, refl, ap, sym, arith}
 use Rattle.ipg_core.specs.Tree as tree
 use Rattle.ipg_core.specs.Tree.{Tree, Node, Sub, Token, Number, Raw, Array, Many, Kids, no_kids, kid}
 use Rattle.ipg_core.specs.Within.{TreeWithin}
@@ -8,7 +8,7 @@ use Rattle.ipg_mach_nodes.specs.Stored.{Stored, Source, StandsKid, StandKids}
 use Rattle.ipg_table.specs.Rows.{Each}
 use Rattle.ipg_tree_walk.specs.Visits.{kids_in, kids_in_tree, place_in}
 use Rattle.ipg_query.specs.Picked.{Found, found, each_of, spread, spread_each, all_in, all_in_kids, all_of}
-use Rattle.ipg_query.specs.Spots.{IsNear, AreNear, IsSpot, AreSpots, spot_at}
+use Rattle.ipg_query.specs.Spots.{IsNear, AreNear, IsSpot, spot_at}
 
 pub first_near : (at : ℕ) (one : tree.Kid) (more : Kids) → AreNear at (kid one more) → IsNear at one
 first_near at one more near = record { size = near.size; within = near.within.0; small = near.small }
@@ -33,14 +33,6 @@ module _ (src : Source) (st : Stored) (at : ℕ) where
   pub spot_is : (k : Kid) (one : tree.Kid) → StandsKid src st at k one → IsNear at one → IsSpot src st (spot_at at k) (found at one)
   spot_is k one stands near = record { at = refl; stands = stands; near = near }
 
-  -- rows of one part, as spots
-  pub spots_are : (rows : List Kid) (ones : Kids) → StandKids src st at rows ones → AreNear at ones → AreSpots src st (map (spot_at at) rows) (each_of at ones)
-  spots_are [] no_kids stand near = tt
-  spots_are [] (kid one more) stand near = absurd stand
-  spots_are (k ∷ rows) no_kids stand near = absurd stand
-  spots_are (k ∷ rows) (kid one more) stand near =
-      (spot_is k one stand.0 (first_near at one more near), spots_are rows more stand.1 (rest_near at one more near))
-
 abbrev pub spread_of : Found → List Found
 spread_of x = spread x.at x.child
 
@@ -63,7 +55,3 @@ module _ (src : Source) (st : Stored) (at : ℕ) where
   rows_are (k ∷ rows) no_kids stand near = absurd stand
   rows_are (k ∷ rows) (kid one more) stand near =
       (spot_is src st at k one stand.0 (first_near at one more near), rows_are rows more stand.1 (rest_near at one more near))
-
--- a result at the place of its spot
-pub found_there : (x : Found) (n : ℕ) → n ≡ x.at → found n x.child ≡ x
-found_there x n e = ap (λ k. found k x.child) e

@@ -1,17 +1,19 @@
 -- What is put behind spots of a row, and what lies below a result.
-use Rattle.std.proofs.Common.{◌≡◌, ℕ, ◌+◌, true, false, List, [], ◌∷◌, ◌++◌, length, map, flat_map, arith, refl, ap, ◌∙◌, sym, subst}
+use Rattle.std.proofs.Common.{◌≡◌, ℕ, ◌+◌, Bool, true, false, List, [], ◌∷◌, ◌++◌, length, filter, flat_map, arith, refl, ap, ◌∙◌, sym, subst}
 use Rattle.std.proofs.Common.{subst₂, append-nil, true≢false, if◌then◌else◌}
 use Rattle.ipg_core.specs.Tree as tree
 use Rattle.ipg_core.specs.Tree.{Tree, Node, Sub, Token, Number, Raw, Array, Many, Kids, no_kids, kid}
+use Rattle.std.specs.Prelude.{⊤}
 use Rattle.ipg_mach_nodes.specs.declared.kid.Kid.{Kid}
+use Rattle.ipg_mach_nodes.specs.declared.kid.Kid.TheVariants as row
 use Rattle.ipg_mach_nodes.specs.Stored.{Stored, Source, StandsKid, StandKids}
 use Rattle.ipg_mach_results.specs.Flat.{has_items}
 use Rattle.ipg_tree_walk.specs.Visits.{kids_in, kids_in_tree, place_in}
 use Rattle.ipg_query.specs.declared.spot.Spot.{Spot}
 use Rattle.ipg_query.specs.Picked.{Found, found, each_of, spread, spread_each, below, below_in, all_in, all_in_tree, all_in_kids, all_of}
-use Rattle.ipg_query.specs.Spots.{IsNear, AreNear, IsSpot, AreSpots, spot_at, own, inner}
-use Rattle.ipg_query.proofs.Going.{each_append, push_one}
-use Rattle.ipg_query.proofs.Lying.{in_near, spot_is, spots_are, all_is}
+use Rattle.ipg_query.specs.Spots.{IsNear, AreNear, IsSpot, AreSpots, own}
+use Rattle.ipg_query.proofs.Going.{push_one}
+use Rattle.ipg_query.proofs.Lying.{in_near, all_is}
 
 -- ---- a row
 
@@ -39,21 +41,20 @@ lone_spread at (Raw from to bytes) e = refl
 lone_spread at (Array sym items) e = absurd (true≢false e)
 lone_spread at (Many sym items) e = absurd (true≢false e)
 
-module _ (src : Source) (st : Stored) (at : ℕ) (one : tree.Kid) (out to : List Spot) (before : List Found) (made : AreSpots src st out before)
-    (near : IsNear at one) where
-  pub spread_items : (rows : List Kid) → has_items one ≡ true → StandKids src st (place_in at one) rows (kids_in one) → to ≡ out ++ map (spot_at at) rows
-      → AreSpots src st to (before ++ spread at one)
-  spread_items rows items stand put =
-      let there = items_place at one items in
-      let spots = spots_are src st at rows (kids_in one) (subst (λ n. StandKids src st n rows (kids_in one)) there stand)
-      (subst (λ n. AreNear n (kids_in one)) there (in_near at one near)) in
-      subst₂ (λ ys xs. AreSpots src st ys (before ++ xs)) (sym put) (sym (items_spread at one items))
-      (each_append (IsSpot src st) out (map (spot_at at) rows) before (each_of at (kids_in one)) made spots)
+module _ (src : Source) (st : Stored) (at : ℕ) (one : tree.Kid) (to : List Spot) (before : List Found) (p : Found → Bool) where
+  pub items_stand : (rows : List Kid) → has_items one ≡ true → StandKids src st (place_in at one) rows (kids_in one) → StandKids src st at rows (kids_in one)
+  items_stand rows items stand = subst (λ n. StandKids src st n rows (kids_in one)) (items_place at one items) stand
 
-  pub spread_lone : (k : Kid) → has_items one ≡ false → StandsKid src st at k one → to ≡ out ++ spot_at at k ∷ [] → AreSpots src st to (before ++ spread at one)
-  spread_lone k lone stands put =
-      subst₂ (λ ys xs. AreSpots src st ys (before ++ xs)) (sym put) (sym (lone_spread at one lone))
-      (push_one (IsSpot src st) out before (spot_at at k) (found at one) made (spot_is src st at k one stands near))
+  pub items_near : has_items one ≡ true → IsNear at one → AreNear at (kids_in one)
+  items_near items near = subst (λ n. AreNear n (kids_in one)) (items_place at one items) (in_near at one near)
+
+  pub spread_items : has_items one ≡ true → AreSpots src st to (before ++ filter p (each_of at (kids_in one)))
+      → AreSpots src st to (before ++ filter p (spread at one))
+  spread_items items made = subst (λ xs. AreSpots src st to (before ++ filter p xs)) (sym (items_spread at one items)) made
+
+  pub spread_lone : has_items one ≡ false → AreSpots src st to (before ++ filter p (found at one ∷ []))
+      → AreSpots src st to (before ++ filter p (spread at one))
+  spread_lone lone made = subst (λ xs. AreSpots src st to (before ++ filter p xs)) (sym (lone_spread at one lone)) made
 
 -- ---- below a result
 
@@ -74,9 +75,10 @@ items_below at (Array sym items) e = refl
 items_below at (Many sym items) e = refl
 
 module _ (src : Source) (st : Stored) (spot : Spot) (x : Found) (is : IsSpot src st spot x) where
-  pub none_below : (out : List Spot) (before : List Found) → has_items x.child ≡ true → AreSpots src st out before → AreSpots src st out (before ++ below x)
-  none_below out before items made =
-      subst (λ xs. AreSpots src st out (before ++ xs)) (items_below x.at x.child items) (subst (AreSpots src st out) (sym (append-nil before)) made)
+  pub none_below : (p : Found → Bool) (out : List Spot) (before : List Found) → has_items x.child ≡ true → AreSpots src st out before
+      → AreSpots src st out (before ++ filter p (below x))
+  none_below p out before items made =
+      subst (λ xs. AreSpots src st out (before ++ filter p xs)) (items_below x.at x.child items) (subst (AreSpots src st out) (sym (append-nil before)) made)
 
   pub place_is : (place : ℕ) → place ≡ place_in spot.at x.child → place ≡ place_in x.at x.child
   place_is place e = e ∙ ap (λ n. place_in n x.child) is.at
@@ -88,19 +90,11 @@ module _ (src : Source) (st : Stored) (spot : Spot) (x : Found) (is : IsSpot src
   pub rows_near : (place : ℕ) → place ≡ place_in spot.at x.child → AreNear place (kids_in x.child)
   rows_near place e = subst (λ n. AreNear n (kids_in x.child)) (sym e) (in_near spot.at x.child is.near)
 
-  pub all_below : (place : ℕ) (to : List Spot) (before : List Found) → has_items x.child ≡ false → place ≡ place_in spot.at x.child
-      → AreSpots src st to (before ++ spread_each place (kids_in x.child)) → AreSpots src st to (before ++ below x)
-  all_below place to before lone e made =
-      subst (λ xs. AreSpots src st to (before ++ xs))
+  pub all_below : (p : Found → Bool) (place : ℕ) (to : List Spot) (before : List Found) → has_items x.child ≡ false → place ≡ place_in spot.at x.child
+      → AreSpots src st to (before ++ filter p (spread_each place (kids_in x.child))) → AreSpots src st to (before ++ filter p (below x))
+  all_below p place to before lone e made =
+      subst (λ xs. AreSpots src st to (before ++ filter p xs))
       (ap (λ n. spread_each n (kids_in x.child)) (place_is place e) ∙ lone_below x.at x.child lone) made
-
-  pub inner_put : (place : ℕ) (rows : List Kid) (out to : List Spot) (before : List Found) → place ≡ place_in spot.at x.child
-      → StandKids src st (place_in spot.at x.child) rows (kids_in x.child) → AreSpots src st out before → to ≡ out ++ map (spot_at place) rows
-      → AreSpots src st to (before ++ inner x)
-  inner_put place rows out to before e stand made put =
-      subst₂ (λ ys n. AreSpots src st ys (before ++ each_of n (kids_in x.child))) (sym put) (place_is place e)
-      (each_append (IsSpot src st) out (map (spot_at place) rows) before (each_of place (kids_in x.child)) made
-      (spots_are src st place rows (kids_in x.child) (rows_stand place rows e stand) (rows_near place e)))
 
   -- ---- a result alone
 
@@ -112,6 +106,26 @@ module _ (src : Source) (st : Stored) (spot : Spot) (x : Found) (is : IsSpot src
   pub put_none : (out : List Spot) (before : List Found) → has_items x.child ≡ true → AreSpots src st out before → AreSpots src st out (before ++ own x)
   put_none out before items made =
       subst (λ b. AreSpots src st out (before ++ (if b then [] else x ∷ []))) (sym items) (subst (AreSpots src st out) (sym (append-nil before)) made)
+
+-- ---- a leaf
+
+abbrev pub IsLeafRow : Kid → Type 0
+IsLeafRow (row.Node id from to) = ⊥
+IsLeafRow (row.Text n from to) = ⊤
+IsLeafRow (row.Number prim from to high low) = ⊤
+IsLeafRow (row.Raw from to) = ⊤
+IsLeafRow (row.Array n items) = ⊥
+IsLeafRow (row.Many n items) = ⊥
+
+-- nothing lies in what stands in the row of a leaf
+pub leaf_alone : (src : Source) (st : Stored) (at place : ℕ) (k : Kid) (one : tree.Kid) → IsLeafRow k → StandsKid src st at k one
+    → (below_in place one ≡ []) × (all_in place one ≡ found place one ∷ [])
+leaf_alone src st at place k (Sub from to sub) is stands = absurd (subst IsLeafRow stands.1 is)
+leaf_alone src st at place k (Token from to bytes) is stands = (refl, refl)
+leaf_alone src st at place k (Number from to prim high low) is stands = (refl, refl)
+leaf_alone src st at place k (Raw from to bytes) is stands = (refl, refl)
+leaf_alone src st at place k (Array sym items) is stands = absurd (subst IsLeafRow stands.3 is)
+leaf_alone src st at place k (Many sym items) is stands = absurd (subst IsLeafRow stands.3 is)
 
 -- ---- all that lies in a result
 

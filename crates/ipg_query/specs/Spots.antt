@@ -1,5 +1,5 @@
 -- Spots of a stored tree, and which results of the tree they are.
-use Rattle.std.specs.Prelude.{◌≡◌, ℕ, ◌+◌, ◌^◌, ◌≤◌, List, [], ◌∷◌, ◌++◌, map, flat_map, Option, None, Some, if◌then◌else◌}
+use Rattle.std.specs.Prelude.{◌≡◌, ℕ, ◌+◌, ◌^◌, ◌≤◌, Bool, true, List, [], ◌∷◌, ◌++◌, map, flat_map, Option, None, Some, if◌then◌else◌}
 use Rattle.ipg_core.specs.Grammar.{Grammar}
 use Rattle.ipg_core.specs.Tree as tree
 use Rattle.ipg_core.specs.Tree.{Kids}
@@ -12,6 +12,8 @@ use Rattle.ipg_tree_walk.specs.Visits.{kids_in, place_in}
 use Rattle.ipg_query_path.specs.declared.path.Step.{Step}
 use Rattle.ipg_query_path.specs.declared.path.Step.TheVariants.{Named, Nth, Children, All}
 use Rattle.ipg_query.specs.declared.left.Left.{Left}
+use Rattle.ipg_query.specs.declared.names.Wanted.{Wanted}
+use Rattle.ipg_query.specs.declared.names.Wanted.TheVariants as wanted
 use Rattle.ipg_query.specs.declared.spot.Spot.{Spot}
 use Rattle.ipg_query.specs.declared.hit.Hit.{Hit}
 use Rattle.ipg_query.specs.Hits.{IsHit}
@@ -51,10 +53,6 @@ pub record Through {A B X Y : Type 0} (R : A → X → Type 0) (Q : B → Y → 
   pub made : Each Q out done
   pub is : done ++ flat_map f rest ≡ whole
 
--- the same of spots
-abbrev pub Goes : Source → Stored → (Found → List Found) → List Spot → List Spot → List Found → Type 0
-Goes src st f left out whole = Through (IsSpot src st) (IsSpot src st) f left out whole
-
 -- a result alone; nothing of an array or a repetition
 abbrev pub own : Found → List Found
 own x = if has_items x.child then [] else x ∷ []
@@ -77,9 +75,14 @@ deeper (Nth name k) x = []
 deeper Children x = []
 deeper All x = inner x
 
--- a result whose symbol has this name
-abbrev pub kept : Grammar → List ℕ → Found → List Found
-kept g name x = if is_named g name x then x ∷ [] else []
+-- and what is come to from there
+abbrev pub once_more : Grammar → Step → List Step → Found → List Found
+once_more g step rest x = members g (step ∷ rest) (deeper step x)
+
+-- a result that is wanted
+abbrev pub fits : Grammar → Wanted → Found → Bool
+fits g wanted.Any x = true
+fits g (wanted.Named name) x = is_named g name.now x
 
 -- ---- what is left to be done
 

@@ -1,14 +1,15 @@
 //! What `**` takes of a spot: the spot itself, and what lies in it, where it is taken again.
-ghost use Rattle.std.specs.Prelude.{◌≡◌, ℕ, true, List, [], ◌∷◌, ◌++◌, OnOk};
+ghost use Rattle.std.specs.Prelude.{◌≡◌, ℕ, true, List, [], ◌∷◌, ◌++◌, reverse, OnOk};
 ghost use Rattle.ipg_core.specs.Grammar.{Grammar};
 ghost use Rattle.ipg_core.specs.Tree as tree;
-ghost use Rattle.ipg_mach_nodes.specs.Stored.{Source, Stored, StandsKid};
-ghost use Rattle.ipg_query.specs.Picked.{Found, found, all_in, all_of, members};
-ghost use Rattle.ipg_query.specs.Spots.{IsSpot, AreSpots, own, inner, deeper, Rest, Comes, seen_one};
+ghost use Rattle.ipg_core.specs.Tree.{Kids};
+ghost use Rattle.ipg_mach_nodes.specs.Stored.{Source, Stored, StandsKid, StandKids};
+ghost use Rattle.ipg_query_path.specs.declared.path.Step.{Step as PathStep};
+ghost use Rattle.ipg_query.specs.Picked.{Found, found, each_of, below, all_in, all_of, members};
+ghost use Rattle.ipg_query.specs.Spots.{AreNear, IsSpot, AreSpots, own, once_more, Rest, Comes, seen, seen_one};
 
-use crate::below::push_each;
-use crate::left::Left;
-use crate::rows::{has_items, place_in, rows_in};
+use crate::left::{Left, push_left};
+use crate::rows::{has_items, is_leaf, place_in, rows_in};
 use crate::spot::{Spot, push};
 use ipg_mach_nodes::Kid;
 use ipg_query_path::Step;
@@ -26,31 +27,83 @@ pub fn push_own(spots: &mut Vec<Spot>, spot: Spot) -> Result<(), AllocError>
     push(spots, spot)
 }
 
-/// Puts the rows in a spot behind the others, arrays and repetitions as they are.
-fn push_inner<A: Allocator + Clone + Drop>(
-    p: &Parsed<'_, A>,
-    spots: &mut Vec<Spot>,
-    spot: Spot,
-) -> Result<(), AllocError>
-    ensures { (src : Source) (x : Found) (before : List Found) → IsSpot src p.now.parse.store spot x
-        → AreSpots src p.now.parse.store spots.old.items before → OnOk result (AreSpots src p.now.parse.store spots.new.items (before ++ inner x)) }
+/// Whether a step takes children, so that it comes to nothing where nothing lies.
+fn takes_children(step: &Step) -> bool
+    ensures { (g : Grammar) (rest : List PathStep) (x : Found) → result ≡ true → below x ≡ [] → members g (step.now ∷ rest) (x ∷ []) ≡ [] }
 {
-    push_each(spots, place_in(spot), rows_in(p, spot.kid))
+    match step {
+        Step::Named(_) => true,
+        Step::Nth(_, _) => true,
+        Step::Children => true,
+        Step::All => false,
+    }
 }
 
-/// Puts the spots behind the others at which the step is to be taken once more.
-pub fn push_deeper<A: Allocator + Clone + Drop>(
+/// Whether steps begin with `**` and then take children: nothing comes of them where nothing lies.
+fn are_barren(steps: &[Step]) -> bool
+    ensures { (g : Grammar) (x : Found) → result ≡ true → below x ≡ [] → all_of x ≡ x ∷ [] → members g steps.now (x ∷ []) ≡ [] }
+{
+    match steps.split_first() {
+        Some((Step::All, rest)) => match rest.split_first() {
+            Some((step, _)) => takes_children(step),
+            None => false,
+        },
+        _ => false,
+    }
+}
+
+/// Puts a spot on a pile, but for a leaf of which nothing comes.
+fn pile_spot<'q>(pile: &mut Vec<Left<'q>>, steps: &'q [Step], spot: Spot) -> Result<(), AllocError>
+    ensures { (src : Source) (st : Stored) (g : Grammar) (x : Found) (xs : List Found) → IsSpot src st spot x
+        → Comes src st g (reverse (seen pile.old.items)) xs
+        → OnOk result (Comes src st g (reverse (seen pile.new.items)) (members g steps.now (x ∷ []) ++ xs)) }
+{
+    if is_leaf(spot.kid) && are_barren(steps) {
+        return Ok(());
+    }
+    push_left(pile, steps, spot)
+}
+
+/// The same of rows of one part, the first of them on top.
+fn pile_rows<'q>(
+    pile: &mut Vec<Left<'q>>,
+    steps: &'q [Step],
+    at: u32,
+    rows: &[Kid],
+) -> Result<(), AllocError>
+    ensures { (src : Source) (st : Stored) (g : Grammar) (ones : Kids) (xs : List Found) → StandKids src st at rows.now ones → AreNear at ones
+        → Comes src st g (reverse (seen pile.old.items)) xs
+        → OnOk result (Comes src st g (reverse (seen pile.new.items)) (members g steps.now (each_of at ones) ++ xs)) }
+{
+    let mut left = rows.len();
+    while left > 0 {
+        left -= 1;
+        pile_spot(
+            pile,
+            steps,
+            Spot {
+                at,
+                kid: rows[left],
+            },
+        )?;
+    }
+    Ok(())
+}
+
+/// Puts on a pile where the first of the steps is to be taken once more.
+pub fn pile_deeper<'q, A: Allocator + Clone + Drop>(
     p: &Parsed<'_, A>,
-    spots: &mut Vec<Spot>,
+    pile: &mut Vec<Left<'q>>,
+    steps: &'q [Step],
     step: &Step,
     spot: Spot,
 ) -> Result<(), AllocError>
-    ensures { (src : Source) (x : Found) (before : List Found) → IsSpot src p.now.parse.store spot x
-        → AreSpots src p.now.parse.store spots.old.items before
-        → OnOk result (AreSpots src p.now.parse.store spots.new.items (before ++ deeper step.now x)) }
+    ensures { (src : Source) (g : Grammar) (rest : List PathStep) (x : Found) (xs : List Found) → steps.now ≡ step.now ∷ rest
+        → IsSpot src p.now.parse.store spot x → Comes src p.now.parse.store g (reverse (seen pile.old.items)) xs
+        → OnOk result (Comes src p.now.parse.store g (reverse (seen pile.new.items)) (once_more g step.now rest x ++ xs)) }
 {
     match step {
-        Step::All => push_inner(p, spots, spot),
+        Step::All => pile_rows(pile, steps, place_in(spot), rows_in(p, spot.kid)),
         Step::Named(_) => Ok(()),
         Step::Nth(_, _) => Ok(()),
         Step::Children => Ok(()),
@@ -79,12 +132,17 @@ fn behind_all(steps: &[Step]) -> &[Step]
     left
 }
 
+/// Whether steps begin with `**` twice.
+fn begin_with_two(steps: &[Step]) -> bool {
+    matches!(steps, [Step::All, Step::All, ..])
+}
+
 /// The same to do without each `**` that takes the spot alone: so thousands of them in a path cost a leaf one turn.
 pub fn without_idle<'q, A: Allocator + Clone + Drop>(p: &Parsed<'_, A>, next: Left<'q>) -> Left<'q>
     ensures { (src : Source) (g : Grammar) (more : List Rest) (xs : List Found) → Comes src p.now.parse.store g (seen_one next.entry ∷ more) xs
         → Comes src p.now.parse.store g (seen_one result ∷ more) xs }
 {
-    if is_alone(p, next.spot.kid) {
+    if begin_with_two(next.steps) && is_alone(p, next.spot.kid) {
         Left {
             steps: behind_all(next.steps),
             spot: next.spot,

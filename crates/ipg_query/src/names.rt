@@ -6,13 +6,21 @@ ghost use Rattle.ipg_core.specs.Tree as tree;
 ghost use Rattle.ipg_core.specs.Tree.{Tree, rule_of};
 ghost use Rattle.ipg_mach_nodes.specs.Stored.{Source, StandsKid, StandsTree};
 ghost use Rattle.ipg_table.specs.Rows.{StandFor};
-ghost use Rattle.ipg_query.specs.Picked.{name_of};
+ghost use Rattle.ipg_query.specs.Picked.{name_of, found};
+ghost use Rattle.ipg_query.specs.Spots.{fits};
 
 use ipg_core::grammar::Primitive;
 use ipg_mach_nodes::{Kid, RunId};
 use ipg_table::tables::Tables;
 use ipg_tree_walk::Parsed;
 use std::alloc::Allocator;
+
+/// Which children a step asks for: all, or those whose symbol has a name.
+#[derive(Clone, Copy)]
+pub enum Wanted<'n> {
+    Any,
+    Named(&'n [u8]),
+}
 
 /// The name of a rule; empty where there is no such rule.
 fn rule_name(tables: &Tables, rule: u32) -> &[u8]
@@ -67,9 +75,24 @@ fn name_of<'b, A: Allocator + Clone + Drop>(p: &'b Parsed<'_, A>, kid: Kid) -> &
 }
 
 /// Whether a row's symbol has this name.
-pub fn is_named<A: Allocator + Clone + Drop>(p: &Parsed<'_, A>, kid: Kid, name: &[u8]) -> bool
+fn is_named<A: Allocator + Clone + Drop>(p: &Parsed<'_, A>, kid: Kid, name: &[u8]) -> bool
     ensures { (src : Source) (g : Grammar) (at : ℕ) (one : tree.Kid) → StandFor p.now.parse.tables g → StandsKid src p.now.parse.store at kid one
         → result ≡ bytes_eq (name_of g one) name.now }
 {
     name_of(p, kid) == name
+}
+
+/// Whether a row is one of those.
+pub fn is_wanted<A: Allocator + Clone + Drop>(
+    p: &Parsed<'_, A>,
+    kid: Kid,
+    wanted: Wanted<'_>,
+) -> bool
+    ensures { (src : Source) (g : Grammar) (at place : ℕ) (one : tree.Kid) → StandFor p.now.parse.tables g → StandsKid src p.now.parse.store at kid one
+        → result ≡ fits g wanted.entry (found place one) }
+{
+    match wanted {
+        Wanted::Any => true,
+        Wanted::Named(name) => is_named(p, kid, name),
+    }
 }

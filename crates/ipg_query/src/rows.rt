@@ -1,9 +1,10 @@
 //! What lies in a row of a stored tree.
-ghost use Rattle.std.specs.Prelude.{◌≡◌, ℕ};
+ghost use Rattle.std.specs.Prelude.{◌≡◌, ℕ, true, [], ◌∷◌};
 ghost use Rattle.ipg_core.specs.Tree as tree;
 ghost use Rattle.ipg_mach_nodes.specs.Stored.{Source, Stored, StandsKid, StandKids};
 ghost use Rattle.ipg_tree_walk.specs.Visits.{kids_in, place_in};
 ghost use Rattle.ipg_mach_results.specs.Flat as flat;
+ghost use Rattle.ipg_query.specs.Picked.{found, below_in, all_in};
 ghost use Rattle.ipg_query.specs.Spots.{IsNear};
 
 use crate::spot::Spot;
@@ -16,6 +17,21 @@ pub fn has_items(kid: Kid) -> bool
     ensures { (src : Source) (st : Stored) (at : ℕ) (one : tree.Kid) → StandsKid src st at kid one → result ≡ flat.has_items one }
 {
     matches!(kid, Kid::Array { .. } | Kid::Many { .. })
+}
+
+/// Whether nothing can lie in it.
+pub fn is_leaf(kid: Kid) -> bool
+    ensures { (src : Source) (st : Stored) (at place : ℕ) (one : tree.Kid) → StandsKid src st at kid one → result ≡ true
+        → (below_in place one ≡ []) × (all_in place one ≡ found place one ∷ []) }
+{
+    match kid {
+        Kid::Text { .. } => true,
+        Kid::Number { .. } => true,
+        Kid::Raw { .. } => true,
+        Kid::Node { .. } => false,
+        Kid::Array { .. } => false,
+        Kid::Many { .. } => false,
+    }
 }
 
 /// The place of the input where the part begins that the rows in it lie in.

@@ -11,7 +11,7 @@ ghost use Rattle.ipg_query.specs.Picked as picked;
 ghost use Rattle.ipg_query.specs.Picked.{Found, Pick, found, shown};
 ghost use Rattle.ipg_query.specs.Spots.{IsSpot, IsShown, Comes, seen, seen_one};
 
-use crate::deeper::{push_deeper, without_idle};
+use crate::deeper::{pile_deeper, without_idle};
 use crate::fields::field_named;
 use crate::hit::Hit;
 use crate::left::{Left, pile_up, push_left};
@@ -103,13 +103,12 @@ fn push_hit<'a, A: Allocator + Clone + Drop>(
 }
 
 /// Takes the first of the steps that are left: what comes of that is on the pile, the first on top.
-/// In the lists any spots may stand, before and after.
+/// In `spots` any may stand, before and after.
 fn take<'q, A: Allocator + Clone + Drop>(
     alloc: Global,
     p: &Parsed<'_, A>,
     pile: &mut Vec<Left<'q>>,
     spots: &mut Vec<Spot>,
-    room: &mut Vec<Spot>,
     next: Left<'q>,
 ) -> Result<(), AllocError>
     ensures { (src : Source) (g : Grammar) (xs : List Found) → StandFor p.now.parse.tables g → 0 < length next.entry.steps.now
@@ -118,11 +117,9 @@ fn take<'q, A: Allocator + Clone + Drop>(
 {
     match next.steps.split_first() {
         Some((step, rest)) => {
+            pile_deeper(p, pile, next.steps, step, next.spot)?;
             spots.clear();
-            push_deeper(p, spots, step, next.spot)?;
-            pile_up(pile, next.steps, spots)?;
-            spots.clear();
-            push_taken(alloc, p, spots, room, step, next.spot)?;
+            push_taken(alloc, p, spots, step, next.spot)?;
             pile_up(pile, rest, spots)
         }
         None => Ok(()),
@@ -141,7 +138,6 @@ pub fn select<'a, A: Allocator + Clone + Drop>(
     let mut hits = Vec::new(alloc);
     let mut pile = Vec::new(alloc);
     let mut spots = Vec::new(alloc);
-    let mut room = Vec::new(alloc);
     push_left(&mut pile, query.steps.as_slice(), root_of(p))?;
     'piled: for _ in 0..u64::MAX {
         match pile.pop() {
@@ -150,7 +146,7 @@ pub fn select<'a, A: Allocator + Clone + Drop>(
                 if next.steps.is_empty() {
                     push_hit(p, &mut hits, &query.field, next.spot)?
                 } else {
-                    take(alloc, p, &mut pile, &mut spots, &mut room, next)?
+                    take(alloc, p, &mut pile, &mut spots, next)?
                 }
             }
             None => return Ok(hits),
