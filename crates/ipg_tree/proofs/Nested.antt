@@ -6,7 +6,7 @@ use Rattle.std.proofs.lemmas.Bool.Decides.{nat_tests}
 use Rattle.ipg_core.specs.Grammar.{Grammar}
 use Rattle.ipg_core.specs.Tree as tree
 use Rattle.ipg_core.specs.Tree.{Tree, Kid, Kids, no_kids, kid}
-use Rattle.ipg_tree_walk.specs.Visits.{Seen, seen, kid_visits, kids_visits, visits, whole}
+use Rattle.ipg_tree_walk.specs.Visits.{Seen, seen, kid_visits, kids_visits, visits, whole, size_of}
 use Rattle.ipg_tree.specs.Json.{node_head, array_head, many_head, end, kid_json, kids_json, more_json, tree_json, json}
 use Rattle.ipg_tree.specs.JsonWalk.{ends, between, closing, kid_text, kid_behind, texts_of}
 use Rattle.ipg_tree.specs.declared.json.Last.{Last}
@@ -21,14 +21,14 @@ lower : (depth : ℕ) (more : List Seen) → Low depth more → Low (depth + 1) 
 lower depth [] low = tt
 lower depth (one ∷ more) low = omega (arith, low)
 
-low_kids : (depth at : ℕ) (kids : Kids) (more : List Seen) → Low depth more → Low (depth + 1) (kids_visits (depth + 1) at kids ++ more)
-low_kids depth at no_kids more low = lower depth more low
-low_kids depth at (kid (tree.Sub from to sub) kids) more low = omega arith
-low_kids depth at (kid (tree.Token from to bytes) kids) more low = omega arith
-low_kids depth at (kid (tree.Number from to prim high number) kids) more low = omega arith
-low_kids depth at (kid (tree.Raw from to bytes) kids) more low = omega arith
-low_kids depth at (kid (tree.Array one items) kids) more low = omega arith
-low_kids depth at (kid (tree.Many one items) kids) more low = omega arith
+low_kids : (depth at size : ℕ) (kids : Kids) (more : List Seen) → Low depth more → Low (depth + 1) (kids_visits (depth + 1) at size kids ++ more)
+low_kids depth at size no_kids more low = lower depth more low
+low_kids depth at size (kid (tree.Sub from to sub) kids) more low = omega arith
+low_kids depth at size (kid (tree.Token from to bytes) kids) more low = omega arith
+low_kids depth at size (kid (tree.Number from to prim high number) kids) more low = omega arith
+low_kids depth at size (kid (tree.Raw from to bytes) kids) more low = omega arith
+low_kids depth at size (kid (tree.Array one items) kids) more low = omega arith
+low_kids depth at size (kid (tree.Many one items) kids) more low = omega arith
 
 pub ends_step : (n : ℕ) → 0 < n → ends n ≡ end ++ ends (n - 1)
 ends_step zero h = absurd (omega (arith, h))
@@ -83,44 +83,44 @@ module _ (g : Grammar) where
   nested head inner text = sym (append_assoc head (inner ++ end) text ∙ ap (λ t. head ++ t) (append_assoc inner end text))
 
   mutual
-    kid_said : (last : Last) (depth at : ℕ) (k : Kid) (more : List Seen) → Low depth more
-        → texts_of g last (kid_visits depth at k ++ more) ≡ between last depth ++ (kid_json g at k ++ texts_of g (Whole depth) more)
-    kid_said last depth at (tree.Sub from to (tree.Node rule size attrs start ends kids)) more low =
-        let head = node_head g (at + from) rule size start ends attrs in
-        ap (λ t. between last depth ++ (head ++ t)) (inside_said depth (at + from) kids more low)
+    kid_said : (last : Last) (depth at size : ℕ) (k : Kid) (more : List Seen) → Low depth more
+        → texts_of g last (kid_visits depth at size k ++ more) ≡ between last depth ++ (kid_json g at k ++ texts_of g (Whole depth) more)
+    kid_said last depth at size (tree.Sub from to (tree.Node rule long attrs start ends kids)) more low =
+        let head = node_head g (at + from) rule long start ends attrs in
+        ap (λ t. between last depth ++ (head ++ t)) (inside_said depth (at + from) long kids more low)
         ∙ ap (λ t. between last depth ++ t) (nested head (kids_json g (at + from) kids) (texts_of g (Whole depth) more))
-    kid_said last depth at (tree.Token from to bytes) more low = refl
-    kid_said last depth at (tree.Number from to prim high number) more low = refl
-    kid_said last depth at (tree.Raw from to bytes) more low = refl
-    kid_said last depth at (tree.Array one items) more low =
-        ap (λ t. between last depth ++ (array_head g one ++ t)) (inside_said depth at items more low)
+    kid_said last depth at size (tree.Token from to bytes) more low = refl
+    kid_said last depth at size (tree.Number from to prim high number) more low = refl
+    kid_said last depth at size (tree.Raw from to bytes) more low = refl
+    kid_said last depth at size (tree.Array one items) more low =
+        ap (λ t. between last depth ++ (array_head g one ++ t)) (inside_said depth at size items more low)
         ∙ ap (λ t. between last depth ++ t) (nested (array_head g one) (kids_json g at items) (texts_of g (Whole depth) more))
-    kid_said last depth at (tree.Many one items) more low =
-        ap (λ t. between last depth ++ (many_head g one ++ t)) (inside_said depth at items more low)
+    kid_said last depth at size (tree.Many one items) more low =
+        ap (λ t. between last depth ++ (many_head g one ++ t)) (inside_said depth at size items more low)
         ∙ ap (λ t. between last depth ++ t) (nested (many_head g one) (kids_json g at items) (texts_of g (Whole depth) more))
 
-    inside_said : (depth at : ℕ) (kids : Kids) (more : List Seen) → Low depth more
-        → texts_of g (Opened depth) (kids_visits (depth + 1) at kids ++ more) ≡ kids_json g at kids ++ (end ++ texts_of g (Whole depth) more)
-    inside_said depth at no_kids more low = opened_closes depth more low
-    inside_said depth at (kid k kids) more low =
-        let behind = kids_visits (depth + 1) at kids ++ more in
-        ap (texts_of g (Opened depth)) (append_assoc (kid_visits (depth + 1) at k) (kids_visits (depth + 1) at kids) more)
-        ∙ kid_said (Opened depth) (depth + 1) at k behind (low_kids depth at kids more low)
+    inside_said : (depth at size : ℕ) (kids : Kids) (more : List Seen) → Low depth more
+        → texts_of g (Opened depth) (kids_visits (depth + 1) at size kids ++ more) ≡ kids_json g at kids ++ (end ++ texts_of g (Whole depth) more)
+    inside_said depth at size no_kids more low = opened_closes depth more low
+    inside_said depth at size (kid k kids) more low =
+        let behind = kids_visits (depth + 1) at size kids ++ more in
+        ap (texts_of g (Opened depth)) (append_assoc (kid_visits (depth + 1) at size k) (kids_visits (depth + 1) at size kids) more)
+        ∙ kid_said (Opened depth) (depth + 1) at size k behind (low_kids depth at size kids more low)
         ∙ ap (λ t. t ++ (kid_json g at k ++ texts_of g (Whole (depth + 1)) behind)) (between_inside depth)
-        ∙ ap (λ t. kid_json g at k ++ t) (later_said depth at kids more low)
+        ∙ ap (λ t. kid_json g at k ++ t) (later_said depth at size kids more low)
         ∙ sym (append_assoc (kid_json g at k) (more_json g at kids) (end ++ texts_of g (Whole depth) more))
 
-    later_said : (depth at : ℕ) (kids : Kids) (more : List Seen) → Low depth more
-        → texts_of g (Whole (depth + 1)) (kids_visits (depth + 1) at kids ++ more) ≡ more_json g at kids ++ (end ++ texts_of g (Whole depth) more)
-    later_said depth at no_kids more low = one_closes depth more low
-    later_said depth at (kid k kids) more low =
-        let behind = kids_visits (depth + 1) at kids ++ more in
+    later_said : (depth at size : ℕ) (kids : Kids) (more : List Seen) → Low depth more
+        → texts_of g (Whole (depth + 1)) (kids_visits (depth + 1) at size kids ++ more) ≡ more_json g at kids ++ (end ++ texts_of g (Whole depth) more)
+    later_said depth at size no_kids more low = one_closes depth more low
+    later_said depth at size (kid k kids) more low =
+        let behind = kids_visits (depth + 1) at size kids ++ more in
         let e : (depth + 1) - (depth + 1) ≡ 0 = omega arith in
-        ap (texts_of g (Whole (depth + 1))) (append_assoc (kid_visits (depth + 1) at k) (kids_visits (depth + 1) at kids) more)
-        ∙ kid_said (Whole (depth + 1)) (depth + 1) at k behind (low_kids depth at kids more low)
+        ap (texts_of g (Whole (depth + 1))) (append_assoc (kid_visits (depth + 1) at size k) (kids_visits (depth + 1) at size kids) more)
+        ∙ kid_said (Whole (depth + 1)) (depth + 1) at size k behind (low_kids depth at size kids more low)
         ∙ ap (λ n. (ends n ++ 44 ∷ []) ++ (kid_json g at k ++ texts_of g (Whole (depth + 1)) behind)) e
-        ∙ ap (λ t. 44 ∷ (kid_json g at k ++ t)) (later_said depth at kids more low)
+        ∙ ap (λ t. 44 ∷ (kid_json g at k ++ t)) (later_said depth at size kids more low)
         ∙ ap (λ t. 44 ∷ t) (sym (append_assoc (kid_json g at k) (more_json g at kids) (end ++ texts_of g (Whole depth) more)))
 
   pub all_said : (one : Tree) → texts_of g Nothing (visits one) ≡ json g one
-  all_said one = ap (texts_of g Nothing) (sym (append-nil (visits one))) ∙ kid_said Nothing 0 0 (whole one) [] tt
+  all_said one = ap (texts_of g Nothing) (sym (append-nil (visits one))) ∙ kid_said Nothing 0 0 (size_of one) (whole one) [] tt
