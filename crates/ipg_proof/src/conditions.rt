@@ -6,6 +6,7 @@ ghost use Rattle.ipg_proof.specs.Calls as spec;
 ghost use Rattle.ipg_proof.specs.Seen.{seen};
 
 use crate::calls::Calls;
+use crate::room::ask_room;
 use ipg_facts::{joint, keep};
 use ipg_facts_laws::laws::{conditions_are_parts, joint_is_part};
 use ipg_lin::{Boxed, Formula};
@@ -19,6 +20,7 @@ pub fn keep_of(alloc: Global, calls: Calls, edge: u32) -> Result<(Formula, Boxed
     ensures part { IfOk result IsPart }
 {
     conditions_are_parts();
+    ask_room(alloc, calls.grammar, calls.edges[edge as usize])?;
     let part = keep(alloc, calls.grammar, calls.marks, calls.edges, edge)?;
     Ok(part)
 }

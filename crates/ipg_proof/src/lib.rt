@@ -12,6 +12,7 @@ mod live;
 mod placing;
 mod reader;
 mod reading;
+mod room;
 mod speaking;
 mod text;
 mod verifying;
