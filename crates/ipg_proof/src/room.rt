@@ -25,12 +25,19 @@ struct Room {
     keys: u64,
     /// The facts that its form carries.
     carried: u64,
-    /// The most that a form in it carries.
+    /// The most that a form carries that is made where it is read as a condition.
     most: u64,
     /// The facts that it is true.
     holds: u64,
     /// The facts that it is false.
     fails: u64,
+}
+
+impl Room {
+    /// The most that is carried where its form is made.
+    fn made(self) -> u64 {
+        self.most.max(self.carried)
+    }
 }
 
 /// The names of attributes, and what the bounds of arrays that have run take.
@@ -147,7 +154,7 @@ fn of_after(known: &Known, term: u32, left: Room) -> Room {
 
 fn of_two(op: Op2, a: Room, b: Room) -> Room {
     let words = sum(&[a.words, b.words, 4]);
-    let most = a.most.max(b.most);
+    let most = a.made().max(b.made());
     match op {
         Op2::Add | Op2::Sub | Op2::Mul => {
             let keys = sum(&[a.keys, b.keys]).max(words.saturating_add(KEY));
@@ -194,7 +201,7 @@ fn of_cond(c: Room, a: Room, b: Room) -> Room {
         words,
         keys: own.keys,
         carried,
-        most: c.most.max(a.most).max(b.most).max(carried),
+        most: c.most.max(a.most).max(b.most),
         holds: sum(&[tests, a.holds, b.holds]),
         fails: sum(&[tests, a.fails, b.fails]),
     }
@@ -257,7 +264,7 @@ fn of_ends(known: &Known, from: &CoreExpr, to: &CoreExpr) -> Put {
     let atoms = sum(&[l.keys, r.keys, KEY, ATOM]).saturating_mul(12);
     Put {
         stays: sum(&[carried, atoms]),
-        passes: l.most.max(r.most),
+        passes: l.made().max(r.made()),
     }
 }
 
@@ -270,7 +277,7 @@ fn of_many(known: &Known, from: &CoreExpr, to: &CoreExpr) -> Put {
             compared(l, r),
             compared(r, plain(4, KEY, 0, 0)),
         ]),
-        passes: l.most.max(r.most),
+        passes: l.made().max(r.made()),
     }
 }
 
@@ -319,7 +326,7 @@ fn of_set(known: &Known, value: &CoreExpr) -> Put {
     let value = of_expr(known, value);
     Put {
         stays: equated(plain(4, KEY, 0, 0), value),
-        passes: value.most,
+        passes: value.made(),
     }
 }
 
