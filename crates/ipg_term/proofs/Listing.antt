@@ -95,3 +95,9 @@ pub looped : (old new : Listing) (graph : Graph) (calls : Calls) (cycles : List 
     → AreRefuted old.graph calls old.at cycles → AnswersWith old new (Some c) → IsLoop calls c why → IsReasonIn graph calls why
 looped old new graph calls cycles c why same are answer loop =
     subst (λ g. IsReasonIn g calls why) same (first_loop old.graph calls old.at cycles c why are (next_of old new c answer) loop)
+
+-- the first cycle of all that are listed
+pub first_looked : {A : Type 0} (P : A → Type 0) (old new : Listing) (graph : Graph) (calls : Calls) (c : List ℕ) → old.graph ≡ graph → old.at ≡ Start
+    → AnswersWith old new (Some c) → (r : Result A TermWhy) → MatchResult r P (IsLoop calls c) → MatchResult r P (IsReasonIn graph calls)
+first_looked P old new graph calls c same start answer (Ok a) h = h
+first_looked P old new graph calls c same start answer (Err why) h = looped old new graph calls [] c why same (at_start old.graph calls old.at start) answer h

@@ -1,7 +1,7 @@
 -- A grammar is accepted with a certificate, or has a first cycle that can loop.
 use Rattle.std.proofs.Common.{◌≡◌, ℕ, zero, suc, ◌<◌, ℤ, List, [], ◌∷◌, ◌++◌, map, length, Bool, refl, sym, ap, subst, inl, inr, arith, append-nil}
-use Rattle.std.proofs.Common.{Option, Some, None}
-use Rattle.std.specs.Prelude.{IsTrue, slice_index_or, slice_get, option_map, option_to_list}
+use Rattle.std.proofs.Common.{Option, Some, None, Result, Ok, Err}
+use Rattle.std.specs.Prelude.{IsTrue, MatchResult, slice_index_or, slice_get, option_map, option_to_list}
 use Rattle.std.specs.List.{AllByRecursion}
 use Rattle.std.proofs.lemmas.Int.{ints}
 use Rattle.std.proofs.lemmas.List.Elements.{All-head}
@@ -14,14 +14,14 @@ use Rattle.ipg_graph.specs.Answers.{Start, End, IsRun}
 use Rattle.ipg_facts_edges.specs.Edges.{edges_of}
 use Rattle.ipg_lin.specs.Formula.{assigned}
 use Rattle.ipg_cert.specs.declared.refutation.Refutation.{Refutation}
-use Rattle.ipg_proof.specs.Calls.{calls_of, joint_of, keep_of, keeps, edge_checks, cycle_checks, live_graph}
+use Rattle.ipg_proof.specs.Calls.{Calls, calls_of, joint_of, keep_of, keeps, edge_checks, cycle_checks, live_graph}
 use Rattle.ipg_proof.specs.Cycles.{LiveCyclesAreCycles, LoopsAreLive}
 use Rattle.ipg_proof.specs.Proves.{Accepts, Proves}
 use Rattle.ipg_touch.specs.Laws.{OneLimit}
 use Rattle.ipg_solve_least.specs.Least.{IsLeast}
 use Rattle.ipg_term.specs.Loops.{CanLoop, Loops, IsReason}
 use Rattle.ipg_term.specs.Laws.{LoopsArentAccepted, OneLoops}
-use Rattle.ipg_term.specs.Refuted.{AreDead, AreRefuted, IsReasonIn}
+use Rattle.ipg_term.specs.Refuted.{EdgesCheck, AreDead, AreRefuted, IsReasonIn}
 use Rattle.ipg_term.specs.declared.fault.TermWhy.{TermWhy}
 use Rattle.ipg_term.specs.declared.fault.TermWhy.TheVariants.{MayLoop, Memory}
 use Rattle.ipg_term.proofs.Ordered.{is_total}
@@ -85,6 +85,29 @@ module _ (g : Grammar) (marks m : Marks) (edges : List Edge) (dead listed : List
       → IsReasonIn (live listed) (record { grammar = g; marks = m; edges = edges }) why → IsReason g why
   is_reason whole loops why reason =
       reason_by whole loops why (named (λ l k es. IsReasonIn (live l) (record { grammar = g; marks = k; edges = es }) why) reason)
+
+-- the first loop of the edges that aren't dead is the first of all
+pub reason_in_all : LiveCyclesAreCycles → LoopsAreLive → (calls : Calls) (edges : ℕ) (dead : List (ℕ × Refutation)) → calls.edges ≡ edges_of calls.grammar
+    → AreDead calls edges dead → (why : TermWhy) → IsReasonIn (live_graph calls.grammar (map (λ entry. entry.0) dead)) calls why
+    → IsReasonIn (live_graph calls.grammar []) calls why
+reason_in_all whole loops calls edges dead same ok Memory reason = tt
+reason_in_all whole loops calls edges dead same ok (MayLoop cycle values) reason =
+    let g = calls.grammar in
+    let named : calls ≡ calls_of g calls.marks = ap (λ (es : List Edge). record { grammar = g; marks = calls.marks; edges = es }) same in
+    record {
+      simple = whole g (map (λ entry. entry.0) dead) cycle reason.simple;
+      least = reason.least;
+      first = λ other simple before can.
+          reason.first other (loops g calls.marks dead other (subst (λ c. EdgesCheck c dead) named ok.check) simple (subst (λ c. CanLoop c other) named can))
+          before can;
+    }
+
+pub reasons_in_all : {A : Type 0} (P : A → Type 0) → LiveCyclesAreCycles → LoopsAreLive → (calls : Calls) (edges : ℕ) (dead : List (ℕ × Refutation))
+    → calls.edges ≡ edges_of calls.grammar → AreDead calls edges dead → (r : Result A TermWhy)
+    → MatchResult r P (IsReasonIn (live_graph calls.grammar (map (λ entry. entry.0) dead)) calls)
+    → MatchResult r P (IsReasonIn (live_graph calls.grammar []) calls)
+reasons_in_all P whole loops calls edges dead same ok (Ok a) h = h
+reasons_in_all P whole loops calls edges dead same ok (Err why) h = reason_in_all whole loops calls edges dead same ok why h
 
 -- ---- the edges of a cycle have conditions
 

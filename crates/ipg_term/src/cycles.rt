@@ -43,6 +43,58 @@ fn refuted_cycle(
     }
 }
 
+/// What the first cycle of the edges that aren't dead is, before all edges are decided.
+#[derive(Clone, Copy)]
+pub enum Look {
+    /// There is none, so that no other edge needs to be decided.
+    NoCycle,
+    /// It is refuted, though none of its edges is, and has to be listed.
+    Refuted,
+    /// Some edge of it isn't decided.
+    Open,
+}
+
+fn are_below(edges: &[u32], decided: u32) -> bool {
+    for edge in edges {
+        if decided <= *edge {
+            return false;
+        }
+    }
+    true
+}
+
+fn look_at(alloc: Global, calls: Calls, cycle: List<u32>, decided: u32) -> Result<Look, TermWhy>
+    requires { 0 < length (keeps (seen calls) cycle) }
+    ensures { MatchResult result (λ _. Unit) (IsLoop (seen calls.entry) cycle) }
+{
+    if !are_below(cycle.as_slice(), decided) {
+        return Ok(Look::Open);
+    }
+    match refuted_cycle(alloc, calls, cycle) {
+        Ok(_) => Ok(Look::Refuted),
+        Err(why) => Err(why),
+    }
+}
+
+/// Looks at the first cycle where the edges below a number are decided; it may loop.
+pub fn first_look(
+    alloc: Global,
+    calls: Calls,
+    dead: &[(u32, Refutation)],
+    decided: u32,
+) -> Result<Look, TermWhy>
+    requires { calls.edges.now ≡ edges_of calls.grammar.now }
+    ensures { let graph = live_graph calls.entry.grammar.now (map (λ entry. entry.0) dead.now)
+        in MatchResult result (λ _. Unit) (IsReasonIn graph (seen calls.entry)) }
+{
+    let mut listing = live_cycles(alloc, calls.grammar, calls.edges, dead)?;
+    let first = next_cycle(alloc, &mut listing)?;
+    match first {
+        None => Ok(Look::NoCycle),
+        Some(cycle) => look_at(alloc, calls, cycle, decided),
+    }
+}
+
 /// The simple cycles of the edges that aren't dead, each with a refutation; or the first that has none.
 pub fn refuted_cycles(
     alloc: Global,
