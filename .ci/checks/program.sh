@@ -147,6 +147,25 @@ if [ $? -ne 0 ] || [ "$(wc -l <"$folder/out")" -ne 15002 ]; then
   failed=1
 fi
 expect 0 $'0 S 0 4 start=0 end=4\n1 U32LE 0 4 val=2\n1 for Bytes 2\n2 Bytes 4 4 -\n2 Bytes 4 4 -\n' parse "$folder/items.ipg" "$folder/two" --arena 1
+# conditions and completed intervals that would take gigabytes are told before they are made; smaller ones are made
+test='EOI > 9'
+for ((level = 0; level < 31; level++)); do
+  test="($test ? EOI > $level : EOI < $((level + 3)))"
+  if [ $level -eq 9 ] || [ $level -eq 30 ]; then
+    echo "S -> ?($test) S[1, EOI] / \"\" ;" >"$folder/choices$level.ipg"
+  fi
+done
+expect 0 $'accepted\n' check "$folder/choices9.ipg"
+expect 7 '' check "$folder/choices30.ipg"
+switches() {
+  printf 'S -> "%0100000d" switch { ' 0
+  printf 'case (1) U8 %.0s' $(seq "$1")
+  echo 'else U8 } ;'
+}
+switches 20 >"$folder/few.ipg"
+switches 20000 >"$folder/branches.ipg"
+expect 0 $'accepted\n' check "$folder/few.ipg"
+expect 7 '' check "$folder/branches.ipg"
 # what a failed alternative stored is given back: two such trees don't fit one MiB, three that fail and one do
 items='C -> for i = 0 to EOI do B[i, i + 1] ; B -> U8 ;'
 echo "S -> C C[0, EOI] ; $items" >"$folder/both.ipg"

@@ -1,5 +1,6 @@
 //! The core grammar of a grammar as it is written.
 ghost use Rattle.std.specs.Prelude.{◌≡◌, Ok, Err, IfOk, MatchResult, map, slice_get};
+ghost use Rattle.ipg_complete.specs.Completion.{completed};
 ghost use Rattle.ipg_core.specs.Grammar.{name_at};
 ghost use Rattle.ipg_core.specs.Good.{Good};
 ghost use Rattle.ipg_names.specs.Readable.{IsReadable};
@@ -8,6 +9,7 @@ ghost use Rattle.ipg_app.specs.Lines.{said_of, line_bytes};
 
 use crate::grammar::grammar_in;
 use crate::refusal::{TermPlace, circular, name_refusal, no_touch};
+use crate::room::{MOST_COMPLETED, completed_size};
 use crate::said::Settled;
 use ipg_ast::Grammar;
 use ipg_complete::complete;
@@ -26,9 +28,19 @@ pub fn core_of(alloc: Global, g: &Grammar) -> Result<Result<Core, Settled>, Allo
     ensures { IfOk result (λ made. MatchResult made (λ core. CoreFrom g.now (Ok core)) (λ settled. CoreFrom g.now (Err (said_of settled)))) }
 {
     match named_in(alloc, g)? {
-        Ok(named) => core_in(alloc, complete(alloc, named)?),
+        Ok(named) => core_in(alloc, completed_in(alloc, named)?),
         Err(settled) => Ok(Err(settled)),
     }
+}
+
+/// The grammar with its intervals written out, unless that takes too much.
+fn completed_in(alloc: Global, named: Named) -> Result<Completed, AllocError>
+    ensures { IfOk result (λ c. c ≡ completed named) }
+{
+    if MOST_COMPLETED < completed_size(named.rules()) {
+        return Err(AllocError);
+    }
+    complete(alloc, named)
 }
 
 /// The core grammar of a text, or what is said of a text that has none.

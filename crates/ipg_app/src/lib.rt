@@ -17,6 +17,7 @@ mod path;
 mod querying;
 mod refusal;
 mod reply;
+mod room;
 pub mod run;
 mod said;
 mod script;
