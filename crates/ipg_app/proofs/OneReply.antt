@@ -99,8 +99,9 @@ IsScriptFault text at = first.IsFirstFault AreEdits script_text text at
 
 no_script_before : (text : List ℕ) (a b : ℕ) → IsScriptFault text a → IsScriptFault text b → a < b → ⊥
 no_script_before text a b p q less =
-    let more = fewer IsScriptOf (a + 1) b text (omega (arith, less)) q.before in
-    p.there (omega (arith, less, q.within)) more
+    let whole = q.before in
+    let more = fewer IsScriptOf (a + 1) b text (omega (arith, less)) (whole.0, whole.1, (whole.2, whole.3)) in
+    p.there (omega (arith, less, q.within)) (more.0, more.1, more.2.0, more.2.1)
 
 one_script_fault : (text : List ℕ) (a b : ℕ) → IsScriptFault text a → IsScriptFault text b → a ≡ b
 one_script_fault text a b p q = elim (order a b) [
