@@ -1,5 +1,5 @@
 -- A text that goes out behind another.
-use Rattle.std.proofs.Common.{◌≡◌, ℕ, ◌≤◌, List, [], ◌++◌, Option, Result, Ok, Err, sym, ◌∙◌, subst, append-nil, arith}
+use Rattle.std.proofs.Common.{ℕ, ◌≤◌, List, [], ◌++◌, Option, Result, Ok, Err, sym, ◌∙◌, subst, append-nil, arith}
 use Rattle.ipg_outside.specs.Faults.{Rose}
 use Rattle.ipg_outside.specs.Sink.{Output, Takes, Breaks, Tells}
 use Rattle.ipg_outside.specs.declared.sink.SinkFault.{SinkFault}

@@ -2,7 +2,7 @@
 use Rattle.std.proofs.Common.{◌≡◌, ◌≢◌, ℕ, ◌+◌, ◌≤◌, ◌⊎◌, inl, inr, List, [], ◌∷◌, ◌++◌, length, min, ◌-◌, ◌^◌, Result, Ok, Err, refl, sym, ap, ◌∙◌, subst}
 use Rattle.ipg_core.specs.Grammar.{Grammar}
 use Rattle.ipg_core.specs.Laws.{HeightsAgree}
-use Rattle.ipg_core.specs.Meaning.{Means, den}
+use Rattle.ipg_core.specs.Meaning.{den}
 use Rattle.ipg_core.specs.Run.{Stop, NoTree, OutOfRange, Deep}
 use Rattle.ipg_core.specs.Tree.{Tree}
 use Rattle.ipg_mach_moves.specs.Moves.{Key, Known}
@@ -11,9 +11,8 @@ use Rattle.ipg_mach_count_laws.specs.Kept.{AreAmong, AreSame, AreKnown, keys_of}
 use Rattle.ipg_mach_count_laws.specs.Laws.{FreshAtAnyHeight, OneFresh, KeysAreKnown}
 use Rattle.ipg_edit_laws.specs.Known.{known_after, KeysAfterAreKnown}
 use Rattle.ipg_edit_script.specs.declared.script.Edit.{Edit}
-use Rattle.ipg_app.specs.Editing.{Turns, Edits, EditsSay, answer_line, counted, words_of, tree_of, kept_behind, kept_by, edited_by, before, edits_said}
+use Rattle.ipg_app.specs.Editing.{Turns, EditsSay, answer_line, counted, words_of, tree_of, kept_behind, kept_by, edited_by, before, edits_said}
 use Rattle.ipg_app.specs.Laws.{OneEdits}
-use Rattle.ipg_app.specs.Said.{Said}
 use Rattle.ipg_app.proofs.OneParse.{one_answer}
 
 -- ---- sets of keys

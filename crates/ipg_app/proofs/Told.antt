@@ -1,16 +1,15 @@
 -- Answers that are told one after another.
-use Rattle.std.proofs.Common.{◌≡◌, ◌≢◌, ℕ, ◌+◌, ◌-◌, ◌<◌, ◌≤◌, ◌^◌, ◌⊎◌, inl, inr, suc, zero, List, [], ◌∷◌, ◌++◌, length, get_or, take, drop, Result, Ok, Err}
-use Rattle.std.proofs.Common.{refl, sym, ap, ◌∙◌, subst, append_assoc, append-nil, add-one, drop-cons, arith}
+use Rattle.std.proofs.Common.{◌≡◌, ℕ, ◌+◌, ◌<◌, ◌≤◌, ◌^◌, ◌⊎◌, inl, inr, suc, zero, List, [], ◌∷◌, ◌++◌, length, get_or, take, drop, Result, Ok, Err}
+use Rattle.std.proofs.Common.{refl, sym, ap, ◌∙◌, subst, append_assoc, add-one, drop-cons, arith}
 use Rattle.std.proofs.lemmas.List.{drop_all}
 use Rattle.std.proofs.lemmas.Result.{err_from_is_err_and}
 use Rattle.std.specs.List.{AllByRecursion}
-use Rattle.std.specs.Prelude.{IsErrAnd}
-use Rattle.ipg_core.specs.Good.{Good}
+use Rattle.std.specs.Prelude.{IsErrAnd, IfOk, Option}
+use Rattle.ipg_outside.specs.Sink.{Output}
 use Rattle.ipg_core.specs.Grammar.{Grammar}
 use Rattle.ipg_core.specs.Grown.{IsInput}
 use Rattle.ipg_core.specs.Meaning.{Means}
-use Rattle.ipg_core.specs.Run.{Stop, NoTree, OutOfRange, Deep}
-use Rattle.ipg_core.specs.Total.{Total}
+use Rattle.ipg_core.specs.Run.{Stop}
 use Rattle.ipg_core.specs.Tree.{Tree}
 use Rattle.ipg_mach_moves.specs.Moves.{Key}
 use Rattle.ipg_edit_laws.specs.Edited.{edited}
@@ -21,11 +20,13 @@ use Rattle.ipg_edit.specs.declared.session.Answer.{Answer}
 use Rattle.ipg_edit.specs.declared.session.Answer.TheVariants as answer
 use Rattle.ipg_edit_script.specs.declared.script.Edit.{Edit}
 use Rattle.ipg_edit_script.specs.Scripts.{IsEdit, AreEdits}
+use Rattle.ipg_app.specs.declared.status.Status.{Status}
 use Rattle.ipg_app.specs.declared.telling.Told.{Told}
 use Rattle.ipg_app.specs.declared.telling.EditsFault.{EditsFault}
 use Rattle.ipg_app.specs.declared.telling.EditsFault.TheVariants.{OutOfInput, Memory}
-use Rattle.ipg_app.specs.Editing.{Turns, Edits, EditsSay, Allows, words_of, counted, answer_line, tree_of, kept_behind, kept_by, edited_by, before}
+use Rattle.ipg_app.specs.Editing.{Edits, EditsSay, Allows, words_of, counted, answer_line, tree_of, kept_behind, kept_by, edited_by, before}
 use Rattle.ipg_app.specs.Editing.{edits_said}
+use Rattle.ipg_app.specs.Settled.{Replies}
 use Rattle.ipg_app.specs.Telling.{Ready, IsTold, IsShown, GoesOn, Steps, AreTold, TellsAll, words_by}
 use Rattle.ipg_app.proofs.Meant.{meant}
 
@@ -142,6 +143,16 @@ said_of_input g input edits these old text same e h = record {
   say = subst (λ es. EditsSay g 0 input [] es text) e (subst (λ s. EditsSay g 0 s [] these text) same h);
   is = refl;
 }
+
+-- what a session that begins with the input says, is said of the input
+pub as_due : {E : Type 0} (r : Result Status E) (g : Grammar) (input other : List ℕ) (edits these : List Edit) (old : Seen) (before : Option Output)
+    (counted : ℕ) (after : Option Output) (counts : ℕ) → other ≡ input → these ≡ edits
+    → IfOk r (λ status. (h : Grammar) → Ready h [] old → Replies (Edits h other these) before counted after counts status)
+    → Ready g [] old → IfOk r (Replies (Edits g input edits) before counted after counts)
+as_due (Ok status) g input other edits these old before counted after counts same e said ready =
+    subst (λ es. Replies (Edits g input es) before counted after counts status) e
+    (subst (λ s. Replies (Edits g s these) before counted after counts status) same (said g ready))
+as_due (Err fault) g input other edits these old before counted after counts same e said ready = tt
 
 -- edits from this number on are left; what may be said from here on may be said behind the lines from the first on
 pub record Going (g : Grammar) (edits : List Edit) (old : Seen) (k : ℕ) (now : Seen) (lines : List ℕ) : Type 0 where

@@ -1,6 +1,6 @@
 -- What `cert` writes of a grammar, `verify` says to prove it.
-use Rattle.std.proofs.Common.{◌≡◌, ℕ, ◌+◌, ◌≤◌, ◌<◌, ◌⊎◌, inl, inr, List, [], ◌∷◌, length, Bool}
-use Rattle.std.proofs.Common.{true, false, Ok, Err, Option, Some, None, Result, refl, sym, ap, ◌∙◌, subst}
+use Rattle.std.proofs.Common.{◌≡◌, ℕ, ◌+◌, ◌≤◌, inl, inr, List, [], ◌∷◌, length, Bool}
+use Rattle.std.proofs.Common.{true, false, Ok, Err, Some, Result, sym, ap, ◌∙◌, subst}
 use Rattle.std.proofs.Common.{arith, nat_le}
 use Rattle.std.specs.Prelude.{IsTrue, if◌then◌else◌}
 use Rattle.std.specs.List.{AllByRecursion}
@@ -8,7 +8,6 @@ use Rattle.std.proofs.lemmas.Bool.{true≢false}
 use Rattle.std.proofs.lemmas.Bool.Decides.{nat_tests}
 use Rattle.ipg_outside.specs.Files.{Told, absent, holds, MayHold}
 use Rattle.ipg_core.specs.Grammar.{Grammar}
-use Rattle.ipg_core.specs.MustTouch.{Marks, AreLimit}
 use Rattle.ipg_touch.specs.Laws.{OneLimit}
 use Rattle.ipg_graph.specs.Graph.{Graph}
 use Rattle.ipg_graph.specs.Answers.{Spot, Start, At, IsRun}
@@ -17,13 +16,13 @@ use Rattle.ipg_proof.specs.declared.certificate.Certificate.{Certificate}
 use Rattle.ipg_proof.specs.declared.fault.ProofWhy.{ProofWhy}
 use Rattle.ipg_proof.specs.declared.fault.ProofWhy.TheVariants.{Mismatch, Unsound, Memory}
 use Rattle.ipg_proof.specs.Calls.{calls_of, checked, dead_edges, cycles_of, live_graph}
-use Rattle.ipg_proof.specs.Places.{IsDue, Rise, IsFirstOff, IsFirstOther, IsMismatch, AreInPlace}
+use Rattle.ipg_proof.specs.Places.{Rise, IsFirstOff, IsFirstOther, IsMismatch, AreInPlace}
 use Rattle.ipg_proof.specs.Proves.{Proves, AreChecked, IsUnsound, IsFault, first_false}
-use Rattle.ipg_proof.specs.Texts.{text_of, IsTextOf}
+use Rattle.ipg_proof.specs.Texts.{IsTextOf}
 use Rattle.ipg_app.specs.Said.{Said, done}
-use Rattle.ipg_app.specs.Order.{Order, Answers, have, says}
-use Rattle.ipg_app.specs.Certificate.{Certifies, Reads, Judges, Fails, proof_said, verified}
-use Rattle.ipg_app.specs.Reply.{judge, verify, input_in, max_input}
+use Rattle.ipg_app.specs.Order.{Answers, have, says}
+use Rattle.ipg_app.specs.Certificate.{Certifies, Reads, Judges, proof_said, verified}
+use Rattle.ipg_app.specs.Reply.{judge, verify, max_input}
 use Rattle.ipg_app.specs.Laws.{CertIsVerified}
 
 -- ---- what proves a grammar has no fault

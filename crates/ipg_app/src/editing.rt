@@ -1,5 +1,5 @@
 //! Answers an input that a script edits.
-ghost use Rattle.std.specs.Prelude.{◌≡◌, ◌++◌, ◌≤◌, ◌^◌, length, IfOk, OnErr, Result};
+ghost use Rattle.std.specs.Prelude.{◌≡◌, ◌++◌, ◌≤◌, ◌^◌, [], length, IfOk, OnErr, Result};
 ghost use Rattle.ipg_core.specs.Good.{Good};
 ghost use Rattle.ipg_core.specs.Grammar.{Grammar};
 ghost use Rattle.ipg_core.specs.Grown.{IsInput};
@@ -14,7 +14,7 @@ ghost use Rattle.ipg_app.specs.Editing.{Edits, tree_of};
 ghost use Rattle.ipg_app.specs.Lines.{said_of};
 ghost use Rattle.ipg_app.specs.Said.{done};
 ghost use Rattle.ipg_app.specs.Settled.{GoesOut, Replies};
-ghost use Rattle.ipg_app.specs.Telling.{IsShown};
+ghost use Rattle.ipg_app.specs.Telling.{IsShown, Ready};
 
 use crate::answering::BYTES_PER_MIB;
 use crate::said::{Settled, line};
@@ -26,7 +26,7 @@ use ipg_edit::{Answer, Session};
 use ipg_edit_script::Edit;
 use ipg_num::List;
 use ipg_outside::{Sink, SinkFault};
-use ipg_table::tables::compile;
+use ipg_table::tables::{Tables, compile};
 use itoa::Buffer;
 use linked_list_allocator::LocalHeap;
 use std::alloc::{AllocError, Allocator, Global};
@@ -94,7 +94,34 @@ fn put_told<A: Allocator + Clone + Drop, S: Sink>(
     }
 }
 
-fn edit_in<S: Sink>(alloc: Global, due: &DueEdits, out: &mut S) -> Result<Status, AllocError>
+/// Writes what a session says before the first edit and after each, or what refuses an edit.
+fn say_all<A: Allocator + Clone + Drop, S: Sink>(
+    alloc: Global,
+    session: &mut Session<'_, A>,
+    edits: &[Edit],
+    out: &mut S,
+) -> Result<Status, AllocError>
+    requires each { AreEdits edits.now }
+    ensures done { IfOk result (λ status. (g : Grammar) → Ready g [] session.old → Replies (Edits g session.old.input edits.now)
+        (S.output out.old) (S.faults out.old) (S.output out.new) (S.faults out.new) status) }
+    ensures memory { OnErr result (S.output out.new ≡ S.output out.old) }
+{
+    match tell_all(alloc, session, edits) {
+        Ok(told) => Ok(put_told(&told, session, out)),
+        Err(EditsFault::OutOfInput { at }) => Ok(say(&out_of_input(alloc, at)?, out)),
+        Err(EditsFault::Memory) => Err(AllocError),
+    }
+}
+
+/// The same of a session that begins with the input.
+fn edit_on<S: Sink>(
+    alloc: Global,
+    tables: &Tables,
+    heap: &LocalHeap,
+    due: &DueEdits,
+    out: &mut S,
+) -> Result<Status, AllocError>
+    requires stand { StandFor tables.now due.now.grammar }
     requires small { length due.now.input.items ≤ 2 ^ 30 }
     requires each { AreEdits due.now.edits }
     ensures done { IfOk result (Replies (Edits due.now.grammar due.now.input.items due.now.edits)
@@ -102,14 +129,23 @@ fn edit_in<S: Sink>(alloc: Global, due: &DueEdits, out: &mut S) -> Result<Status
     ensures memory { OnErr result (S.output out.new ≡ S.output out.old) }
 {
     ends(&due.grammar, &due.input);
+    let mut session = Session::new(heap, tables, &due.input)?;
+    let said = say_all(alloc, &mut session, due.edits.as_slice(), out);
+    // (as a call, what is left of a session needn't be looked at here)
+    drop(session);
+    said
+}
+
+fn edit_in<S: Sink>(alloc: Global, due: &DueEdits, out: &mut S) -> Result<Status, AllocError>
+    requires small { length due.now.input.items ≤ 2 ^ 30 }
+    requires each { AreEdits due.now.edits }
+    ensures done { IfOk result (Replies (Edits due.now.grammar due.now.input.items due.now.edits)
+        (S.output out.old) (S.faults out.old) (S.output out.new) (S.faults out.new)) }
+    ensures memory { OnErr result (S.output out.new ≡ S.output out.old) }
+{
     let tables = compile(alloc, &due.grammar)?;
     let heap = LocalHeap::new(alloc, MIB * BYTES_PER_MIB)?;
-    let mut session = Session::new(&heap, &tables, &due.input)?;
-    match tell_all(alloc, &mut session, due.edits.as_slice()) {
-        Ok(told) => Ok(put_told(&told, &mut session, out)),
-        Err(EditsFault::OutOfInput { at }) => Ok(say(&out_of_input(alloc, at)?, out)),
-        Err(EditsFault::Memory) => Err(AllocError),
-    }
+    edit_on(alloc, &tables, &heap, due, out)
 }
 
 /// Answers an input before the first edit and after each, by a session in a heap of its own. Nothing is written before all answers

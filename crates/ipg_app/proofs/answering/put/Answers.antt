@@ -1,4 +1,4 @@
-use Rattle.std.proofs.Common.{◌≡◌, List, ℕ, refl, sym, ap, subst}
+use Rattle.std.proofs.Common.{List, ℕ, refl, sym, ap, subst}
 use Rattle.ipg_core.specs.Lines.{lines}
 use Rattle.ipg_query.specs.Picked.{picked}
 use Rattle.ipg_tree.specs.Json.{json}

@@ -22,8 +22,8 @@ returns-in-Ok g c =
     (λ reply h. settled_on told before after (edit input script core) told before after (edit_file input script same) reply
     (λ said. accepted_on told before after core same (edit_file input script) said checks) h) c.edit_file.ensures
 
-pub returns-in-Err : goal.returns-in-Err
-returns-in-Err g c =
+pub returns : goal.returns
+returns g c =
     let told = g.F.Files.told c.args.files.now in
     let counts = g.F.Files.faults c.args.files.now in
     let said = said_of c.in-Err.settled in

@@ -2,7 +2,6 @@ use Rattle.std.proofs.Common.{◌^◌}
 use Rattle.std.proofs.lemmas.Result.{IfOk-weaker}
 use Rattle.ipg_outside.specs.Files.{Told, ReadWhole}
 use Rattle.std.proofs.Common.{List, ℕ}
-use Rattle.ipg_app.specs.Order.{Order}
 use Rattle.ipg_app.specs.Reply.{edit_input, edits_of}
 use Rattle.ipg_app.specs.Settled.{IsSettled}
 use Rattle.ipg_app.specs.Lines.{said_of}

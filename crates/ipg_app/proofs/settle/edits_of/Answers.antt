@@ -1,4 +1,4 @@
-use Rattle.std.proofs.Common.{Ok, Err}
+use Rattle.std.proofs.Common.{Ok, Err, inl}
 use Rattle.ipg_app.specs.Editing.{Edits, ReadsScript}
 use Rattle.ipg_app.specs.Order.{says}
 use Rattle.ipg_app.specs.Lines.{said_of}
