@@ -65,7 +65,7 @@ def lines_of(tree):
 def keys_of_schema():
     """The sets of keys that the page's schema allows, each with those that it wants."""
     with open(PAGE, encoding="utf-8") as file:
-        schema = json.loads(re.search(r"```json schema\n(.*?)```", file.read(), re.S)[1])
+        schema = json.loads(re.search(r"```json\n(.*?)```", file.read(), re.S)[1])
     forms = schema["$defs"].values()
     return [(set(form["properties"]), set(form["required"])) for form in forms if "properties" in form and "required" in form]
 
