@@ -16,7 +16,7 @@ import sys
 folder = sys.argv[1]
 # a call a byte, each on that byte alone
 with open(os.path.join(folder, "calls.ipg"), "w") as file:
-    file.write("S -> U8 many Row[1] Bytes ; Row -> U8 ?(U8.val == 1) ;\n")
+    file.write("S -> for i = 0 to EOI do Row[i, i + 1] ; Row -> U8 ;\n")
 with open(os.path.join(folder, "calls"), "wb") as file:
     file.write(bytes([1]) * 1_000_000 + b"\0")
 END
