@@ -10,5 +10,9 @@ for tool in python3 ${browser:-chromium}; do
     exit 0
   }
 done
+timeout 60 "$browser" --headless --no-sandbox --disable-gpu --dump-dom 'data:text/html,<p>shown</p>' 2>/dev/null | grep -q shown || {
+  skip viewer "a browser that starts"
+  exit 0
+}
 ./ipg fmt crates/ipg/data/row.ipg >/dev/null || exit 1
 exec python3 -B .ci/viewer.py ./ipg "$browser"
