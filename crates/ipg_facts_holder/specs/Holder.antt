@@ -74,6 +74,11 @@ abbrev pub readers_of : Grammar → Option ℕ → List Bool
 readers_of g None = []
 readers_of g (Some attr) = readers g attr (length g.rules)
 
+-- the other mentions the term v, or the attribute that it sets
+abbrev pub needs : ℕ → Option ℕ → Option CoreTerm → Bool
+needs v sets None = false
+needs v sets (Some term) = mentions_some (Needs v sets) term
+
 -- the term v, which sets that attribute if it sets one, is a provider of the other
 unfoldable pub provides : Grammar → ℕ × ℕ → ℕ → Option ℕ → Option CoreTerm → Bool
 provides g at v sets None = false

@@ -190,6 +190,24 @@ fn provides(g: &Core, at: (u32, u32), of: Provider, marks: &[bool], term: Option
     }
 }
 
+/// Whether a term needs the provider, whatever local rules it calls.
+fn needs(of: Provider, term: Option<&CoreTerm>) -> bool
+    ensures { result ≡ spec.needs of.term of.sets (option_copied term.entry) }
+{
+    match term {
+        None => false,
+        Some(term) => mentions_some(Ask::Needs(of.term, of.sets), term),
+    }
+}
+
+fn some_need(terms: &[CoreTerm], of: Provider, behind: &[u32]) -> bool
+    ensures { result ≡ list_any (λ w. spec.needs of.term of.sets (slice_get terms.now w)) behind.now }
+{
+    behind
+        .iter()
+        .any(|term| needs(of, item_at(terms, *term as usize)))
+}
+
 fn provides_some(
     g: &Core,
     at: (u32, u32),
@@ -228,7 +246,8 @@ fn is_wanted(caller: &[CoreTerm], attr: Option<u32>) -> bool
     }
 }
 
-#[tactic(auto, unfolding(crate::specs::Holder::matters))]
+/// What is mentioned is looked for first: to find the readers of an attribute takes rounds over all rules.
+#[tactic(auto, unfolding(crate::specs::Holder::matters), using(crate::proofs::Needs::needed_matters))]
 fn matters(
     alloc: Global,
     g: &Core,
@@ -245,6 +264,9 @@ fn matters(
         sets: set_at(terms, term),
     };
     if is_wanted(caller, of.sets) {
+        return Ok(true);
+    }
+    if some_need(terms, of, behind) {
         return Ok(true);
     }
     let marks = readers_of(alloc, g, of.sets)?;
