@@ -2,22 +2,16 @@
 
 ghost use Rattle.std.specs.Prelude.{◌≡◌, IfOk, OnOk, ◌++◌};
 
-use crate::fact::{Draft, Fact, Form, Key, Part};
+use crate::fact::{Draft, Fact, Part};
 use ipg_num::List;
 use std::alloc::{AllocError, Global};
-
-pub fn copy_key(alloc: Global, key: &Key) -> Result<Key, AllocError>
-    ensures { IfOk result (λ key'. key' ≡ key.now) }
-{
-    Ok(List::from_vec(Vec::from_slice(alloc, key.as_slice())?))
-}
 
 fn copy_draft(alloc: Global, draft: &Draft) -> Result<Draft, AllocError>
     ensures { IfOk result (λ copy. copy ≡ draft.now) }
 {
     let mut terms = Vec::with_capacity(alloc, draft.terms.len())?;
     for term in draft.terms.as_slice() {
-        terms.push((copy_key(alloc, &term.0)?, term.1))?;
+        terms.push((term.0.copy()?, term.1))?;
     }
     Ok(Draft {
         terms: List::from_vec(terms),
@@ -57,12 +51,12 @@ pub fn put_copies(alloc: Global, out: &mut Vec<Fact>, facts: &[Fact]) -> Result<
     Ok(())
 }
 
-pub fn copy_part(alloc: Global, part: &Part) -> Result<Part, AllocError>
+pub fn copy_part(part: &Part) -> Result<Part, AllocError>
     ensures { IfOk result (λ copy. copy ≡ part.now) }
 {
     Ok(Part {
-        key: copy_key(alloc, &part.key)?,
-        facts: copy_members(alloc, part.facts.as_slice())?,
+        key: part.key.copy()?,
+        facts: part.facts.copy()?,
         factor: part.factor,
     })
 }
@@ -72,7 +66,7 @@ pub fn copy_parts(alloc: Global, parts: &[Part]) -> Result<Vec<Part>, AllocError
 {
     let mut copy = Vec::with_capacity(alloc, parts.len())?;
     for part in parts {
-        copy.push(copy_part(alloc, part)?)?;
+        copy.push(copy_part(part)?)?;
     }
     Ok(copy)
 }

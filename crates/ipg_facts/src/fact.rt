@@ -1,7 +1,8 @@
+use crate::shared::Shared;
 use ipg_num::List;
 
 /// A variable, known by a list of numbers that spells what it stands for.
-pub type Key = List<u64>;
+pub type Key = Shared<u64>;
 
 /// An atom over keys: the sum of multiples of variables and a constant is at most 0.
 #[derive(Drop)]
@@ -22,7 +23,7 @@ pub enum Fact {
 #[derive(Drop)]
 pub struct Part {
     pub key: Key,
-    pub facts: List<Fact>,
+    pub facts: Shared<Fact>,
     pub factor: i128,
 }
 

@@ -4,8 +4,9 @@ ghost use Rattle.std.specs.Prelude.{◌≡◌, IfOk, OnOk, ◌++◌, ◌∷◌, 
 ghost use Rattle.std.specs.List.{filter, list_all};
 ghost use Rattle.ipg_facts.specs.Form as spec;
 
-use crate::copying::{copy_key, copy_members, copy_part, copy_parts};
+use crate::copying::{copy_part, copy_parts};
 use crate::fact::{Draft, Fact, Form, Key, Part};
+use crate::shared::Shared;
 use ipg_num::List;
 use std::alloc::{AllocError, Global};
 
@@ -28,13 +29,13 @@ fn product(a: i128, b: i128) -> Result<i128, AllocError>
 }
 
 /// A variable that carries facts.
-pub fn variable(alloc: Global, key: Key, facts: List<Fact>) -> Result<Form, AllocError>
-    ensures { IfOk result (λ form. form ≡ spec.variable key facts) }
+pub fn variable(alloc: Global, key: Key, facts: Vec<Fact>) -> Result<Form, AllocError>
+    ensures { IfOk result (λ form. form ≡ spec.variable key facts.items) }
 {
     let mut parts = List::new(alloc);
     parts.push(Part {
         key,
-        facts,
+        facts: Shared::from_vec(alloc, facts)?,
         factor: 1,
     })?;
     Ok(Form { parts, constant: 0 })
@@ -56,7 +57,7 @@ fn add_factor(part: &mut Part, more: &Part) -> Result<(), AllocError>
     Ok(())
 }
 
-fn add_part(alloc: Global, parts: &mut Vec<Part>, part: &Part) -> Result<(), AllocError>
+fn add_part(parts: &mut Vec<Part>, part: &Part) -> Result<(), AllocError>
     ensures { OnOk result (parts.new.items ≡ spec.add_part parts.old.items part.now) }
 {
     for at in 0..parts.len() {
@@ -64,7 +65,7 @@ fn add_part(alloc: Global, parts: &mut Vec<Part>, part: &Part) -> Result<(), All
             return add_factor(&mut parts[at], part);
         }
     }
-    parts.push(copy_part(alloc, part)?)?;
+    parts.push(copy_part(part)?)?;
     Ok(())
 }
 
@@ -83,7 +84,7 @@ fn joined(alloc: Global, a: &[Part], b: &[Part]) -> Result<List<Part>, AllocErro
 {
     let mut parts = copy_parts(alloc, a)?;
     for part in b {
-        add_part(alloc, &mut parts, part)?;
+        add_part(&mut parts, part)?;
     }
     Ok(List::from_vec(parts))
 }
@@ -103,17 +104,17 @@ fn scaled_parts(alloc: Global, by: i128, parts: &[Part]) -> Result<List<Part>, A
 {
     let mut scaled = Vec::with_capacity(alloc, parts.len())?;
     for part in parts {
-        scaled.push(scaled_part(alloc, by, part)?)?;
+        scaled.push(scaled_part(by, part)?)?;
     }
     Ok(List::from_vec(scaled))
 }
 
-fn scaled_part(alloc: Global, by: i128, part: &Part) -> Result<Part, AllocError>
+fn scaled_part(by: i128, part: &Part) -> Result<Part, AllocError>
     ensures { IfOk result (λ scaled. scaled ≡ spec.scaled_part by part.now) }
 {
     Ok(Part {
-        key: copy_key(alloc, &part.key)?,
-        facts: copy_members(alloc, part.facts.as_slice())?,
+        key: part.key.copy()?,
+        facts: part.facts.copy()?,
         factor: product(part.factor, by)?,
     })
 }

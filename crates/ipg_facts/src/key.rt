@@ -6,8 +6,9 @@ ghost use Rattle.ipg_facts.specs.Key as spec;
 
 use crate::fact::Key;
 use crate::scope::name_of;
+use crate::shared::Shared;
 use ipg_core::grammar::{CoreExpr, CoreField, Name, Primitive, Sym};
-use ipg_num::{List, Op2};
+use ipg_num::Op2;
 use std::alloc::{AllocError, Global};
 
 /// The side of the edge's caller.
@@ -20,7 +21,7 @@ pub const POINT: u64 = 2;
 fn key(alloc: Global, numbers: &[u64]) -> Result<Key, AllocError>
     ensures { IfOk result (λ key. key ≡ numbers.now) }
 {
-    Ok(List::from_vec(Vec::from_slice(alloc, numbers)?))
+    Shared::from_vec(alloc, Vec::from_slice(alloc, numbers)?)
 }
 
 /// The length of the side's part.
@@ -64,7 +65,7 @@ pub fn named(alloc: Global, side: u64, term: u32, name: &[u8]) -> Result<Key, Al
     for byte in name {
         numbers.push(u64::from(*byte))?;
     }
-    Ok(List::from_vec(numbers))
+    Shared::from_vec(alloc, numbers)
 }
 
 /// The value of an expression that is spelled so.
@@ -73,7 +74,7 @@ pub fn value(alloc: Global, side: u64, words: &[u64]) -> Result<Key, AllocError>
 {
     let mut numbers = Vec::from_slice(alloc, &[side, 6])?;
     numbers.extend_from_slice(words)?;
-    Ok(List::from_vec(numbers))
+    Shared::from_vec(alloc, numbers)
 }
 
 fn operator_number(op: Op2) -> u64

@@ -17,6 +17,7 @@ mod numbers;
 mod put;
 mod reading;
 mod scope;
+mod shared;
 mod touching;
 
 pub use gaps::gap;

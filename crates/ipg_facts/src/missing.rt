@@ -11,14 +11,13 @@ use crate::put::{put_choice, put_leq, put_less};
 use crate::scope::{Scope, length_of, nought, width};
 use crate::touching::Taken;
 use ipg_core::grammar::{Primitive, Sym};
-use ipg_num::List;
 use std::alloc::{AllocError, Global};
 
 /// The place.
 fn point(alloc: Global) -> Result<Form, AllocError>
     ensures { IfOk result (λ form. form ≡ spec.point) }
 {
-    variable(alloc, whole(alloc, POINT)?, List::new(alloc))
+    variable(alloc, whole(alloc, POINT)?, Vec::new(alloc))
 }
 
 /// The place is one of the part.

@@ -4,7 +4,7 @@ ghost use Rattle.std.specs.Prelude.{◌≡◌, IfOk, OnOk, ◌++◌, ◌∷◌, 
 ghost use Rattle.std.specs.List.{filter};
 ghost use Rattle.ipg_facts.specs.Form as spec;
 
-use crate::copying::{copy_key, put_copies};
+use crate::copying::put_copies;
 use crate::fact::{Draft, Fact, Form, Key, Part};
 use crate::form::{counts, in_limits, minus, shifted};
 use ipg_num::List;
@@ -17,7 +17,7 @@ fn terms_of(alloc: Global, parts: &[Part]) -> Result<List<(Key, i64)>, AllocErro
     let mut terms = Vec::new(alloc);
     for part in parts {
         if counts(part) {
-            terms.push((copy_key(alloc, &part.key)?, narrow(part.factor)?))?;
+            terms.push((part.key.copy()?, narrow(part.factor)?))?;
         }
     }
     Ok(List::from_vec(terms))

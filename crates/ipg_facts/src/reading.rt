@@ -14,13 +14,13 @@ use crate::key::{CALLER, HOLDER, attribute, field, loop_variable, put_words, val
 use crate::put::{put_choice, put_differ, put_equal, put_leq, put_less};
 use crate::scope::{Scope, greatest_of, item_sym, least_width, length_of, name_of, nought};
 use ipg_core::grammar::{CoreExpr, CoreField, Sym};
-use ipg_num::{List, Op2, item_at};
+use ipg_num::{Op2, item_at};
 use std::alloc::{AllocError, Global};
 
 fn bare_variable(alloc: Global, key: Key) -> Result<Form, AllocError>
     ensures { IfOk result (λ form. form ≡ forms.variable key []) }
 {
-    variable(alloc, key, List::new(alloc))
+    variable(alloc, key, Vec::new(alloc))
 }
 
 /// The key of an expression's value.
@@ -273,7 +273,7 @@ fn item_form(
         field,
         &known,
     )?;
-    variable(alloc, value_key(alloc, scope, e)?, List::from_vec(facts))
+    variable(alloc, value_key(alloc, scope, e)?, facts)
 }
 
 fn after_form(
@@ -298,7 +298,7 @@ fn after_form(
         &known,
         left,
     )?;
-    variable(alloc, value_key(alloc, scope, e)?, List::from_vec(facts))
+    variable(alloc, value_key(alloc, scope, e)?, facts)
 }
 
 #[tactic(auto, unfolding(crate::specs::Reading::asserted))]
@@ -379,7 +379,7 @@ fn cond_form(
     let two = case_facts(alloc, &known, other)?;
     let mut facts = Vec::new(alloc);
     put_choice(alloc, &mut facts, one, two)?;
-    variable(alloc, value_key(alloc, scope, e)?, List::from_vec(facts))
+    variable(alloc, value_key(alloc, scope, e)?, facts)
 }
 
 /// The linear form of an expression.

@@ -14,7 +14,7 @@ use crate::form::{number, variable};
 use crate::key::whole;
 use ipg_core::grammar::{CoreTerm, Name, Primitive, Sym};
 use ipg_facts_holder::is_marked;
-use ipg_num::{List, item_at};
+use ipg_num::item_at;
 use std::alloc::{AllocError, Global};
 
 /// The caller's alternative, or its holder's.
@@ -34,7 +34,7 @@ pub struct Scope<'a> {
 pub fn length_of(alloc: Global, scope: &Scope) -> Result<Form, AllocError>
     ensures { IfOk result (λ form. form ≡ spec.length_of (scope_of scope.now)) }
 {
-    variable(alloc, whole(alloc, scope.side)?, List::new(alloc))
+    variable(alloc, whole(alloc, scope.side)?, Vec::new(alloc))
 }
 
 pub fn nought(alloc: Global) -> Form

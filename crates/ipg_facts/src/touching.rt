@@ -14,7 +14,6 @@ use crate::reading::put_ranges;
 use crate::scope::{Scope, greatest, length_of, nought, width};
 use ipg_core::grammar::{Primitive, Sym};
 use ipg_facts_holder::is_marked;
-use ipg_num::List;
 use std::alloc::{AllocError, Global};
 
 /// The interval `[l, r]` is valid.
@@ -36,13 +35,13 @@ pub fn put_is_valid(
 fn start_of(alloc: Global, scope: &Scope, term: u32) -> Result<Form, AllocError>
     ensures { IfOk result (λ form. form ≡ spec.start_of (scope_of scope.now) term) }
 {
-    variable(alloc, start(alloc, scope.side, term)?, List::new(alloc))
+    variable(alloc, start(alloc, scope.side, term)?, Vec::new(alloc))
 }
 
 fn end_of(alloc: Global, scope: &Scope, term: u32) -> Result<Form, AllocError>
     ensures { IfOk result (λ form. form ≡ spec.end_of (scope_of scope.now) term) }
 {
-    variable(alloc, end(alloc, scope.side, term)?, List::new(alloc))
+    variable(alloc, end(alloc, scope.side, term)?, Vec::new(alloc))
 }
 
 #[tactic(auto, unfolding(crate::specs::Members::touches_none), using(crate::proofs::Puts::then, crate::proofs::Puts::then_last))]
@@ -132,7 +131,7 @@ fn put_attr_ranges(
     ensures { OnOk result (out.new.items ≡ out.old.items ++ spec.attr_ranges (scope_of scope.now) term prim name.now) }
 {
     let key = named(alloc, scope.side, term, name)?;
-    let form = variable(alloc, key, List::new(alloc))?;
+    let form = variable(alloc, key, Vec::new(alloc))?;
     put_ranges(alloc, out, &form, greatest(prim, name))
 }
 
