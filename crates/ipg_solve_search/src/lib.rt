@@ -13,6 +13,7 @@ mod facts;
 mod gone;
 mod marks;
 mod packed;
+mod parity;
 mod parting;
 mod row;
 mod search;

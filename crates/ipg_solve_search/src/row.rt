@@ -79,7 +79,8 @@ impl Row {
     }
 }
 
-fn gcd(a: u64, b: u64) -> u64 {
+/// The greatest number that divides both.
+pub fn gcd(a: u64, b: u64) -> u64 {
     let mut a = a;
     let mut b = b;
     for _ in 0..128 {

@@ -32,6 +32,8 @@ enum Turn {
     Refuted,
     /// There is nothing to cut.
     Stuck,
+    /// A refutation takes more steps than may be kept.
+    TooLong,
 }
 
 impl From<Next> for Turn {
@@ -68,7 +70,7 @@ impl<'a> Seeker<'a> {
         }
         match pick {
             Some(pick) => self.open_pick(pick),
-            None => self.close_or_cut(),
+            None => self.close_or_cut(turn),
         }
     }
 
@@ -82,9 +84,12 @@ impl<'a> Seeker<'a> {
         Ok(self.open_members(pick.choice)?.into())
     }
 
-    fn close_or_cut(&mut self) -> Result<Turn, AllocError> {
+    fn close_or_cut(&mut self, turn: u64) -> Result<Turn, AllocError> {
         if let State::Closed = self.combine()? {
             return Ok(self.go_on()?.into());
+        }
+        if self.is_too_long(turn) {
+            return Ok(Turn::TooLong);
         }
         let parting = self.rounding_cut().or(self.middle_cut());
         self.cut(parting)
@@ -120,6 +125,7 @@ pub fn seek(alloc: Global, f: &Formula, b: &Boxed) -> Result<Option<Found>, Allo
                 return Ok(Some(Found::Refuted(r)));
             }
             Turn::Stuck => return Ok(None),
+            Turn::TooLong => return Err(AllocError),
         }
     }
     Ok(None)

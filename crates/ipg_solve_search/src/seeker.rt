@@ -1,5 +1,6 @@
 use crate::facts::{Facts, Look};
 use crate::marks::Marks;
+use crate::parity::Long;
 use crate::parting::Parting;
 use crate::steps::{Place, Steps};
 use ipg_cert::{Step, root_facts};
@@ -53,6 +54,8 @@ pub struct Seeker<'a> {
     pub looks: Vec<Looked>,
     pub branchings: Vec<Branching<'a>>,
     pub steps: Steps,
+    /// A case that may be too long to refute.
+    pub long: Option<Long>,
 }
 
 /// What became of the case at hand.
@@ -76,6 +79,7 @@ impl<'a> Seeker<'a> {
             looks: Vec::new(alloc),
             branchings: Vec::new(alloc),
             steps: Steps::new(alloc),
+            long: None,
         })
     }
 
