@@ -12,14 +12,14 @@ import sys
 import tempfile
 import time
 
-OF_FROM, OF_TO, OF_RULE = 11400714819323198485, 15485907386658061715, 14029467366897019727  # crates/ipg_memo/src/places.rt
+OF_FROM, OF_TO, OF_RULE = 11400714819323198485, 14686920831342365939, 14029467366897019727  # crates/ipg_memo/src/places.rt
 RULE = 9  # of `Sub` among the rules of the GIF grammar
 HEAD = b"GIF89a" + b"\x01\0\x01\0\0\0\0" + b"!\xfe"
 
 
 def high(rule, start, end):
-    """What a key's numbers are mixed to: a place among 2^32, which says how far among the heads it begins."""
-    return (start * OF_FROM + end * OF_TO + rule * OF_RULE >> 32) % 2**32
+    """What a key's numbers are mixed to: a place among 2^32, which says how far among the lines of heads it begins."""
+    return (start // 8 * OF_FROM + end // 8 * OF_TO + rule * OF_RULE >> 32) % 2**32
 
 
 def sizes(blocks, end, share):
@@ -54,7 +54,7 @@ def timed(command, data, memo):
 def main():
     blocks, share = (int(word) for word in (sys.argv[1:] + ["147000", "4"][len(sys.argv) - 1 :])[:2])
     command = os.environ.get("IPG", "./ipg")
-    length = len(HEAD) + (share + 2) * blocks + 2
+    length = len(HEAD) + (2 * share + 4) * blocks + 4096
     files = {"chosen": gif(sizes(blocks, length, share), length), "of one size": gif([4] * blocks, length)}
     for what, data in files.items():
         told = ", ".join(f"memo {memo} {timed(command, data, memo)}" for memo in ("on", "off"))

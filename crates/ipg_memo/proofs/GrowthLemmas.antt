@@ -7,7 +7,7 @@ use Rattle.ipg_memo.specs.declared.memo.Key.{Key}
 use Rattle.ipg_memo.specs.declared.reached.Reached.{Reached}
 use Rattle.ipg_memo.specs.declared.reached.Reached.TheVariants.{Row, Vacant, Bare}
 use Rattle.ipg_memo.specs.Table.{Table}
-use Rattle.ipg_memo.specs.Ways.{Rows, key_at, reached, IsMore, Finds, Stays, Leads, IsEnd, opened, linked}
+use Rattle.ipg_memo.specs.Ways.{Rows, key_at, reached, IsMore, Finds, Stays, Leads, IsEnd, IsWider, opened, linked}
 use Rattle.ipg_memo.proofs.WayLemmas.{Grown, stays_reached, leads_reached, opens_reached, vacant_cell, bare_row_under}
 
 set_keeps : (xs : List (Option ℕ)) (c i : ℕ) (y : Option ℕ) (n : ℕ) → slice_get xs c ≡ Some None → slice_get xs i ≡ Some (Some n)
@@ -61,6 +61,25 @@ stays_opened table row e = λ keys key r h. stays_reached keys keys table (opene
 pub stays_linked : (table : Table) (cell row : ℕ) → slice_get table.cells cell ≡ Some None → Stays table (linked table cell row)
 stays_linked table cell row e =
     λ keys key r h. stays_reached keys keys table (linked table cell row) (grown_linked keys keys table cell row (λ _ _ same. same) e) key r h
+
+grown_wider : (keys : ℕ → Option Key) (old : Table) (count : ℕ)
+    → Grown keys keys old (record { heads = old.heads; cells = old.cells ++ replicate count None; below = old.below })
+grown_wider keys old count = record {
+  heads = refl;
+  rows = λ r key h. h;
+  cells = λ c n h. append_keeps old.cells (replicate count None) c (Some n) h;
+  below = λ r b h. h;
+}
+
+pub stays_wider : (old new : Table) → IsWider old new → Stays old new
+stays_wider old new wider =
+    subst (Stays old) (sym wider.1)
+    (λ keys key r h. stays_reached keys keys old
+    (record { heads = old.heads; cells = old.cells ++ replicate wider.0 None; below = old.below }) (grown_wider keys old wider.0) key r h)
+
+-- tables with the same parts are one
+pub same_table : (t u : Table) → t.heads ≡ u.heads → t.cells ≡ u.cells → t.below ≡ u.below → t ≡ u
+same_table t u e f g = λ i. record { heads = e i; cells = f i; below = g i }
 
 pub vacant_in : (table : Table) (row d : ℕ) → d < 8 → slice_get (opened table row).cells (length table.cells + d) ≡ Some None
 vacant_in table row d h = past_end table.cells (replicate 8 None) d ∙ nones d h

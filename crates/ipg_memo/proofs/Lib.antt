@@ -1,3 +1,4 @@
+pub mod ChunksLemmas
 pub mod KeyedLemmas
 pub mod WayLemmas
 pub mod GrowthLemmas

@@ -1,7 +1,7 @@
 -- Rows that are gone over one after another.
 use Rattle.std.proofs.Common.{◌≡◌, ℕ, zero, suc, ◌+◌, ◌<◌, Bool, true, false, cond, [], ◌∷◌, length, take, get_or, refl, sym, ap, ◌∙◌, arith}
 use Rattle.std.proofs.lemmas.List.{take_more}
-use Rattle.std.proofs.lemmas.Option.{slice_get-get_or}
+use Rattle.std.proofs.lemmas.Option.{slice_get-get_or, get_or_from_slice_get}
 use Rattle.std.proofs.lemmas.Map.Entries.{place_from_lookup}
 use Rattle.std.specs.Prelude.{Option, None, Some, slice_get, option_map}
 use Rattle.std.specs.Map.{lookup}
@@ -69,3 +69,12 @@ module _ (rows : Rows) (n : ℕ) (none : Key × Entry) (lt : n < length rows) wh
       ap of_rows (take_more rows n none lt)
       ∙ from_entries_push keys_total exact_keys (take n rows) (get_or rows n none).0 (get_or rows n none).1
       (find_key (take n rows) (get_or rows n none).0 ∙ none_before o indexed)
+
+-- the same of a row that is known by its place
+pub one_more_as : (rows : Rows) (n : ℕ) (known : Key × Entry) → n < length rows → slice_get rows n ≡ Some known → (o : Option Table) → IsIndexed rows o
+    → (get (of_rows (take n rows)) known.0 ≡ None) × (of_rows (take (n + 1) rows) ≡ insert (of_rows (take n rows)) known.0 known.1)
+one_more_as rows n known lt at o indexed =
+    let same = get_or_from_slice_get rows n known known at in (
+      ap (λ (k : Key × Entry). get (of_rows (take n rows)) k.0) (sym same) ∙ fresh rows n known lt o indexed,
+      one_more rows n known lt o indexed ∙ ap (λ (k : Key × Entry). insert (of_rows (take n rows)) k.0 k.1) same,
+    )

@@ -135,6 +135,11 @@ finds_set rows table row key entry finds ends =
     let long = length-set rows row (key, entry) in
     subst (λ (f : ℕ → Option Key). reached f table k ≡ Row r) (sym (λ i n. keys n i)) (finds r k (omega (arith, lt, long)) (sym (keys r) ∙ h))
 
+pub finds_set_as : (rows wide : Rows) (table : Table) (row : ℕ) (key : Key) (entry : Entry) → wide ≡ slice_set rows row (key, entry)
+    → Finds rows table (length rows) → reached (key_at rows) table key ≡ Row row → Finds wide table (length wide)
+finds_set_as rows wide table row key entry e finds ends =
+    subst (λ (rs : Rows). Finds rs table (length rs)) (sym e) (finds_set rows table row key entry finds ends)
+
 entry_set : (rows : Rows) (row : ℕ) (key : Key) (entry : Entry) → key_at rows row ≡ Some key → slice_get (slice_set rows row (key, entry)) row ≡ Some (key, entry)
 entry_set [] row key entry e = absurd (cc)
 entry_set (x ∷ rows) zero key entry e = refl

@@ -1,7 +1,10 @@
 -- What the public contracts rest on.
 pub mod Keyed
 pub mod Moved
--- How keys are found: what functions inside the crate promise each other.
+-- How rows lie in memory: what functions inside the crate promise each other.
+pub mod Filled
+pub mod Chunks
+-- How keys are found.
 pub mod Linked
 pub mod Table
 pub mod Ways

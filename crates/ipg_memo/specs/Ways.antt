@@ -19,9 +19,13 @@ key_at rows row = option_map (λ known. known.0) (slice_get rows row)
 abbrev pub same_key : Key → Key → Bool
 same_key a b = nat_eq a.rule b.rule && (nat_eq a.from b.from && nat_eq a.to b.to)
 
--- the head of a key
+-- what a key's numbers are mixed to: the same for keys that differ in the last three bits of their places alone
+unfoldable pub mixed : Key → ℕ
+mixed key = key.from / 8 * 11400714819323198485 + key.to / 8 * 14686920831342365939 + key.rule * 14029467366897019727
+
+-- the head of a key: one of sixteen in a line
 unfoldable pub home : ℕ → Key → ℕ
-home heads key = (key.from * 11400714819323198485 + key.to * 15485907386658061715 + key.rule * 14029467366897019727) / 2 ^ 32 % 2 ^ 32 * heads / 2 ^ 32
+home heads key = mixed key / 2 ^ 32 % 2 ^ 32 * (heads / 16) / 2 ^ 32 * 16 + (key.from + 2 * key.to + mixed key / 2 ^ 12) % 16
 
 -- the cell under a row that a key goes to, by a bit of each of its numbers; so many bits are left
 unfoldable pub side : Key → ℕ → ℕ
@@ -92,6 +96,10 @@ pub record Leads (old new : Table) (end : Reached) (row : ℕ) : Type 0 where
 abbrev pub opened : Table → (row : ℕ) → Table
 opened table row =
     record { heads = table.heads; cells = table.cells ++ replicate 8 None; below = slice_set table.below row (Some (length table.cells)) }
+
+-- cells more, which lie under no row
+abbrev pub IsWider : (old new : Table) → Type 0
+IsWider old new = (count : ℕ) × (new ≡ record { heads = old.heads; cells = old.cells ++ replicate count None; below = old.below })
 
 -- a row more, which a cell names
 abbrev pub linked : Table → (cell row : ℕ) → Table

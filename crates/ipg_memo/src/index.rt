@@ -1,6 +1,8 @@
-ghost use Rattle.std.specs.Prelude.{◌≡◌, ◌-◌, ◌<◌, ◌≤◌, ◌^◌, length, slice_get, option_copied, Some, IfOk, OnOk, OnErr};
+ghost use Rattle.std.specs.Prelude.{◌≡◌, ℕ, ◌+◌, ◌-◌, ◌<◌, ◌≤◌, ◌^◌, ◌++◌, Option, None, Some, length, slice_get, slice_set, replicate, option_copied};
+ghost use Rattle.std.specs.Prelude.{IfOk, OnOk, OnErr};
 ghost use Rattle.ipg_memo.specs.Ways as ways;
 
+use crate::chunks::Chunks;
 use crate::link::Link;
 use crate::memo::{Entry, Key};
 use crate::places::{BITS, home, side};
@@ -14,20 +16,27 @@ const SIDES: usize = 8;
 /// Places lie below this.
 const PLACES: usize = u32::MAX as usize;
 
+/// Keys with their entries, in the order in which they came.
+pub(crate) type Rows<A> = Chunks<(Key, Entry), A>;
+
 /// Where each row's key leads to it.
 #[derive(Drop)]
 pub(crate) struct Index<A: Allocator> {
     heads: u32,
-    cells: Vec<Link, A>,
+    top: Vec<Link, A>,
+    /// The cells under rows.
+    under: Chunks<Link, A>,
+    /// Where the cells under each row begin.
     below: Vec<Link, A>,
 }
 
 impl<A: Allocator> Model for Index<A> {
+    ghost use Rattle.std.specs.Prelude.{◌++◌};
     ghost use Rattle.ipg_memo.specs.Table.{Table};
 
     ghost Value = { Table };
 
-    ghost view = { λ a. record { heads = a.heads; cells = a.cells.items; below = a.below.items } };
+    ghost view = { λ a. record { heads = a.heads; cells = a.top.items ++ a.under.items; below = a.below.items } };
 }
 
 fn link_at(links: &[Link], at: usize) -> Option<Link>
@@ -36,10 +45,18 @@ fn link_at(links: &[Link], at: usize) -> Option<Link>
     links.get(at).copied()
 }
 
-pub(crate) fn row_at(rows: &[(Key, Entry)], at: usize) -> Option<&(Key, Entry)>
-    ensures { option_copied result ≡ slice_get rows.now at }
+/// Eight cells more, which name no row. Where memory runs out, there may be some of them.
+fn widen<A: Allocator + Clone + Drop>(cells: &mut Chunks<Link, A>) -> Result<(), AllocError>
+    ensures ok { OnOk result (cells.new.items ≡ cells.old.items ++ replicate 8 None) }
+    ensures err { OnErr result ((count : ℕ) × (cells.new.items ≡ cells.old.items ++ replicate count None)) }
 {
-    rows.get(at)
+    let mut count = 0;
+    while count < SIDES {
+        cells.reserve()?;
+        cells.push_spare(Link::none());
+        count += 1;
+    }
+    Ok(())
 }
 
 impl<A: Allocator + Clone + Drop> Index<A> {
@@ -63,11 +80,11 @@ impl<A: Allocator + Clone + Drop> Index<A> {
 
     /// On from a row, unless the row has the key.
     #[inline(always)]
-    fn at_row(&self, rows: &[(Key, Entry)], key: &Key, left: u32, row: usize) -> Step
+    fn at_row(&self, rows: &Rows<A>, key: &Key, left: u32, row: usize) -> Step
         requires { left ≤ 32 }
-        ensures { result ≡ ways.at_row self.now key.now left row (ways.key_at rows.now row) }
+        ensures { result ≡ ways.at_row self.now key.now left row (ways.key_at rows.now.items row) }
     {
-        match row_at(rows, row) {
+        match rows.get(row) {
             None => Step::Stops(Reached::Lost),
             Some(known) => {
                 if *key == known.0 {
@@ -79,13 +96,40 @@ impl<A: Allocator + Clone + Drop> Index<A> {
         }
     }
 
+    #[inline(always)]
+    fn cell_at(&self, cell: usize) -> Option<Link>
+        ensures { result ≡ slice_get self.now.cells cell }
+    {
+        let heads = self.top.len();
+        if cell < heads {
+            link_at(&self.top, cell)
+        } else {
+            self.under.get(cell - heads).copied()
+        }
+    }
+
+    /// Lets a cell name another row, or none.
+    fn set_cell(&mut self, cell: usize, link: Link)
+        requires { cell < length self.old.cells }
+        ensures heads { self.new.heads ≡ self.old.heads }
+        ensures cells { self.new.cells ≡ slice_set self.old.cells cell link }
+        ensures below { self.new.below ≡ self.old.below }
+    {
+        let heads = self.top.len();
+        if cell < heads {
+            self.top[cell] = link;
+        } else {
+            self.under.set(cell - heads, link);
+        }
+    }
+
     /// On from a cell.
     #[inline(always)]
-    fn step(&self, rows: &[(Key, Entry)], key: &Key, left: u32, cell: usize) -> Step
+    fn step(&self, rows: &Rows<A>, key: &Key, left: u32, cell: usize) -> Step
         requires { left ≤ 32 }
-        ensures { result ≡ ways.step (ways.key_at rows.now) self.now key.now left cell }
+        ensures { result ≡ ways.step (ways.key_at rows.now.items) self.now key.now left cell }
     {
-        match link_at(&self.cells, cell) {
+        match self.cell_at(cell) {
             None => Step::Stops(Reached::Lost),
             Some(link) => match link.place() {
                 None => Step::Stops(Reached::Vacant(cell)),
@@ -96,8 +140,8 @@ impl<A: Allocator + Clone + Drop> Index<A> {
 
     /// Where the way of a key ends. It passes 33 rows at most.
     #[inline(always)]
-    pub(crate) fn reach(&self, rows: &[(Key, Entry)], key: &Key) -> Reached
-        ensures { result ≡ ways.reached (ways.key_at rows.now) self.now key.now }
+    pub(crate) fn reach(&self, rows: &Rows<A>, key: &Key) -> Reached
+        ensures { result ≡ ways.reached (ways.key_at rows.now.items) self.now key.now }
     {
         let mut cell = home(self.heads, key);
         let mut left = BITS;
@@ -119,13 +163,13 @@ impl<A: Allocator + Clone + Drop> Index<A> {
         ensures ok { OnOk result (self.new ≡ ways.opened self.old row) }
         ensures begin { IfOk result (λ begin. begin ≡ length self.old.cells) }
         ensures small { IfOk result (λ begin. begin < 2 ^ 32) }
-        ensures err { OnErr result (self.new ≡ self.old) }
+        ensures err { OnErr result (ways.IsWider self.old self.new) }
     {
-        let begin = self.cells.len();
+        let begin = self.top.len() + self.under.len();
         if begin >= PLACES {
             return Err(AllocError);
         }
-        self.cells.resize(begin + SIDES, Link::none())?;
+        widen(&mut self.under)?;
         self.below[row] = Link::to(begin);
         Ok(begin)
     }
@@ -138,7 +182,7 @@ impl<A: Allocator + Clone + Drop> Index<A> {
         ensures err { OnErr result (self.new ≡ self.old) }
     {
         self.below.push(Link::none())?;
-        self.cells[cell] = Link::to(row);
+        self.set_cell(cell, Link::to(row));
         Ok(())
     }
 
@@ -163,25 +207,35 @@ impl<A: Allocator + Clone + Drop> Index<A> {
         }
     }
 
+    /// Lets the key of a row lead to it.
+    fn enter_row(&mut self, rows: &Rows<A>, row: usize) -> Result<(), AllocError>
+        requires row { row < length rows.now.items }
+        requires finds { ways.Finds rows.now.items self.old row }
+        ensures { OnOk result (ways.Finds rows.now.items self.new (row + 1)) }
+    {
+        let end = self.reach(rows, &rows.read(row).0);
+        self.add(end, row)
+    }
+
     /// An index of these rows with so many heads.
-    pub(crate) fn over(rows: &[(Key, Entry)], heads: u32, alloc: &A) -> Result<Index<A>, AllocError>
-        ensures { IfOk result (λ index. ways.Finds rows.now index (length rows.now)) }
+    pub(crate) fn over(rows: &Rows<A>, heads: u32, alloc: &A) -> Result<Index<A>, AllocError>
+        ensures { IfOk result (λ index. ways.Finds rows.now.items index (length rows.now.items)) }
     {
         let mut index = Index {
             heads,
-            cells: Vec::new(alloc.clone()?),
+            top: Vec::with_capacity(alloc.clone()?, heads as usize)?,
+            under: Chunks::new(alloc.clone()?),
             below: Vec::with_capacity(alloc.clone()?, heads as usize)?,
         };
-        index.cells.resize(heads as usize, Link::none())?;
-        for (row, known) in rows.iter().enumerate() {
-            let end = index.reach(rows, &known.0);
-            index.add(end, row)?;
+        index.top.resize(heads as usize, Link::none())?;
+        for row in 0..rows.len() {
+            index.enter_row(rows, row)?;
         }
         Ok(index)
     }
 
     /// Whether there are as many rows as it has heads.
-    pub(crate) fn is_full(&self, rows: &[(Key, Entry)]) -> bool {
+    pub(crate) fn is_full(&self, rows: &Rows<A>) -> bool {
         self.heads as usize <= rows.len()
     }
 

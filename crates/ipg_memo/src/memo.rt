@@ -7,7 +7,8 @@ ghost use Rattle.ipg_memo.specs.Table.{Table};
 ghost use Rattle.ipg_memo.specs.Ways as ways;
 ghost use Rattle.ipg_memo.specs.Ways.{Finds};
 
-use crate::index::{Index, row_at};
+use crate::chunks::Chunks;
+use crate::index::{Index, Rows};
 use crate::reached::Reached;
 use ipg_region::RunId;
 use std::alloc::{AllocError, Allocator};
@@ -36,7 +37,7 @@ pub enum Entry {
 /// The answers so far, by their keys.
 #[derive(Drop)]
 pub struct Memo<A: Allocator> {
-    rows: Vec<(Key, Entry), A>,
+    rows: Rows<A>,
     index: Option<Index<A>>,
 }
 
@@ -57,11 +58,11 @@ impl<A: Allocator> Model for Memo<A> {
 
 /// The entry of the row that a way ended at.
 #[inline(always)]
-fn entry_of(rows: &[(Key, Entry)], end: Reached) -> Option<Entry>
-    ensures { result ≡ ways.entry_at rows.now end }
+fn entry_of<A: Allocator + Clone + Drop>(rows: &Rows<A>, end: Reached) -> Option<Entry>
+    ensures { result ≡ ways.entry_at rows.now.items end }
 {
     match end {
-        Reached::Row(row) => match row_at(rows, row) {
+        Reached::Row(row) => match rows.get(row) {
             Some(known) => Some(known.1),
             None => None,
         },
@@ -71,7 +72,7 @@ fn entry_of(rows: &[(Key, Entry)], end: Reached) -> Option<Entry>
 
 /// A row more, of the key whose way ended so.
 fn append<A: Allocator + Clone + Drop>(
-    rows: &mut Vec<(Key, Entry), A>,
+    rows: &mut Rows<A>,
     index: &mut Index<A>,
     end: Reached,
     key: Key,
@@ -83,15 +84,15 @@ fn append<A: Allocator + Clone + Drop>(
     ensures ok { OnOk result (of_rows rows.new.items ≡ map.insert (of_rows rows.old.items) key entry) }
     ensures err { OnErr result (rows.new.items ≡ rows.old.items) }
 {
-    rows.reserve(1)?;
+    rows.reserve()?;
     index.add(end, rows.len())?;
-    rows.push_reserved((key, entry));
+    rows.push_spare((key, entry));
     Ok(())
 }
 
 /// Gives a key this entry.
 fn enter<A: Allocator + Clone + Drop>(
-    rows: &mut Vec<(Key, Entry), A>,
+    rows: &mut Rows<A>,
     index: &mut Index<A>,
     key: Key,
     entry: Entry,
@@ -103,7 +104,7 @@ fn enter<A: Allocator + Clone + Drop>(
 {
     let end = index.reach(rows, &key);
     if let Reached::Row(row) = end {
-        rows[row] = (key, entry);
+        rows.set(row, (key, entry));
         return Ok(());
     }
     append(rows, index, end, key, entry)
@@ -168,15 +169,15 @@ fn carry_all<A: Allocator + Clone + Drop>(
     from: u32,
     to: u32,
     with: u32,
-    rows: &[(Key, Entry)],
+    rows: &Rows<A>,
 ) -> Result<(), AllocError>
     requires ordered { from ≤ to }
-    requires indexed { (index : Option Table) × ways.IsIndexed rows.now index }
+    requires indexed { (index : Option Table) × ways.IsIndexed rows.now.items index }
     requires empty { new.old ≡ map.empty }
-    ensures { OnOk result (IsMoved from to with (of_rows rows.now) new.new) }
+    ensures { OnOk result (IsMoved from to with (of_rows rows.now.items) new.new) }
 {
-    for known in rows {
-        carry_one(new, from, to, with, known)?;
+    for row in 0..rows.len() {
+        carry_one(new, from, to, with, rows.read(row))?;
     }
     Ok(())
 }
@@ -187,7 +188,7 @@ impl<A: Allocator + Clone + Drop> Memo<A> {
         ensures { result ≡ map.empty }
     {
         Memo {
-            rows: Vec::new(alloc),
+            rows: Chunks::new(alloc),
             index: None,
         }
     }
@@ -238,13 +239,13 @@ impl<A: Allocator + Clone + Drop> Memo<A> {
         self.index = None;
     }
 
-    /// A memo without entries, with room for as many as there are rows.
-    fn with_room(rows: &Vec<(Key, Entry), A>) -> Result<Memo<A>, AllocError>
+    /// A memo without entries, with heads for as many as there are rows.
+    fn with_room(rows: &Rows<A>) -> Result<Memo<A>, AllocError>
         ensures { IfOk result (λ memo. memo ≡ map.empty) }
     {
         let alloc = rows.allocator();
         let heads = (rows.len().min(MOST_HEADS) as u32).saturating_mul(2);
-        let none = Vec::with_capacity(alloc.clone()?, rows.len())?;
+        let none = Chunks::new(alloc.clone()?);
         let index = Index::over(&none, heads.max(LEAST_HEADS), alloc)?;
         Ok(Memo {
             rows: none,

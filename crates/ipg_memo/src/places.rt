@@ -3,15 +3,31 @@ ghost use Rattle.ipg_memo.specs.Ways as ways;
 
 use crate::memo::Key;
 
-/// The factors that mix a key's numbers: odd, and with bits that look random.
+/// The factors that mix a key's numbers: 2^64 over the golden ratio, what takes it to 2^64 times the square root of 2, and one
+/// with bits that look random. So keys evenly apart get places evenly apart, whether `from` goes up, or both do.
 const OF_FROM: u128 = 11400714819323198485;
 
-const OF_TO: u128 = 15485907386658061715;
+const OF_TO: u128 = 14686920831342365939;
 
 const OF_RULE: u128 = 14029467366897019727;
 
+/// So many heads lie side by side, in a line of a processor's cache.
+const LINE: u32 = 16;
+
 /// So many bits has each number of a key.
 pub(crate) const BITS: u32 = 32;
+
+/// What a key's numbers are mixed to. Keys that differ only in the last three bits of their places come to the same.
+#[tactic(auto, unfolding(crate::specs::Ways::mixed))]
+#[inline(always)]
+fn mixed(key: &Key) -> u128
+    ensures value { result ≡ ways.mixed key.now }
+    ensures small { result < 2 ^ 98 }
+{
+    u128::from(key.from / 8) * OF_FROM
+        + u128::from(key.to / 8) * OF_TO
+        + u128::from(key.rule) * OF_RULE
+}
 
 /// The head of a key.
 #[tactic(auto, unfolding(crate::specs::Ways::home))]
@@ -19,11 +35,11 @@ pub(crate) const BITS: u32 = 32;
 pub(crate) fn home(heads: u32, key: &Key) -> usize
     ensures { result ≡ ways.home heads key.now }
 {
-    let mixed = u128::from(key.from) * OF_FROM
-        + u128::from(key.to) * OF_TO
-        + u128::from(key.rule) * OF_RULE;
+    let mixed = mixed(key);
     let high = ((mixed >> 32) % (1 << 32)) as u64;
-    ((high * u64::from(heads)) >> 32) as usize
+    let line = (high * u64::from(heads / LINE)) >> 32;
+    let slot = (u128::from(key.from) + 2 * u128::from(key.to) + (mixed >> 12)) % 16;
+    (line * u64::from(LINE) + slot as u64) as usize
 }
 
 /// The cell under a row that a key goes to, while so many bits are left.

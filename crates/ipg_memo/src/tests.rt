@@ -36,7 +36,7 @@ fn entries_in_global(rt: HostRuntime) -> Result<(), Fail> {
 
 #[test]
 fn entries_in_a_heap(rt: HostRuntime) -> Result<(), Fail> {
-    let heap = LocalHeap::new(rt.alloc(), 4096)?;
+    let heap = LocalHeap::new(rt.alloc(), 1 << 15)?;
     puts_and_gets(&heap, &rt)
 }
 
@@ -101,6 +101,23 @@ fn keys_that_differ_in_high_bits(rt: HostRuntime) -> Result<(), Fail> {
             to: 0x4000_0000 - high * 0x4_0000,
         });
         assert_eq!(rt; found, Some(Entry::Node(RunId { place: high })));
+    }
+    Ok(())
+}
+
+/// Three bytes more: an edit puts five in place of two.
+#[test]
+fn entries_move_with_an_edit(rt: HostRuntime) -> Result<(), Fail> {
+    let mut memo = Memo::new(rt.alloc());
+    let places = [(1u32, 0u32, 4u32), (1, 4, 10), (2, 8, 12)];
+    for (rule, from, to) in places {
+        memo.put(Key { rule, from, to }, Entry::Node(RunId { place: from }))?;
+    }
+    let after = memo.moved(5, 7, 5)?;
+    assert_eq!(rt; after.len(), 2);
+    for (rule, from, to, place) in [(1u32, 0u32, 4u32, 0u32), (2, 11, 15, 8)] {
+        let found = after.get(Key { rule, from, to });
+        assert_eq!(rt; found, Some(Entry::Node(RunId { place })));
     }
     Ok(())
 }

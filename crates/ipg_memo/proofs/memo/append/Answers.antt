@@ -6,16 +6,16 @@ use Rattle.ipg_memo.proofs.memo.append.Goals as goal
 
 pub returns-in_err-add-clause-finds : goal.returns-in_err-add-clause-finds
 returns-in_err-add-clause-finds g c =
-    finds_stay c.args.rows.now.items c.reserve.new.self.items c.args.index.now c.add.new.self c.reserve.ensures.items c.requires.finds c.add.ensures.stays
+    finds_stay c.args.rows.now.items c.reserve.new.self.items c.args.index.now c.add.new.self c.reserve.ensures.kept c.requires.finds c.add.ensures.stays
 
 pub returns-clause-finds : goal.returns-clause-finds
 returns-clause-finds g c =
-    finds_pushed_as c.args.rows.now.items c.push_reserved.new.self.items c.args.index.now c.add.new.self c.args.key c.args.entry c.args.end c.len.result
-    (c.push_reserved.ensures.items ∙ ap (λ (rows : Rows). rows ++ (c.args.key, c.args.entry) ∷ []) c.reserve.ensures.items)
-    (c.len.ensures ∙ c.reserve.new.self.ok.0 ∙ ap length c.reserve.ensures.items)
+    finds_pushed_as c.args.rows.now.items c.push_spare.new.self.items c.args.index.now c.add.new.self c.args.key c.args.entry c.args.end c.len.result
+    (c.push_spare.ensures ∙ ap (λ (rows : Rows). rows ++ (c.args.key, c.args.entry) ∷ []) c.reserve.ensures.kept)
+    (c.len.ensures.value ∙ ap length c.reserve.ensures.kept)
     c.requires.finds c.requires.ends c.in_ok-add.ensures.ok
 
 pub returns-clause-ok : goal.returns-clause-ok
 returns-clause-ok g c =
-    ap of_rows (c.push_reserved.ensures.items ∙ ap (λ (rows : Rows). rows ++ (c.args.key, c.args.entry) ∷ []) c.reserve.ensures.items)
+    ap of_rows (c.push_spare.ensures ∙ ap (λ (rows : Rows). rows ++ (c.args.key, c.args.entry) ∷ []) c.reserve.ensures.kept)
     ∙ pushed c.args.rows.now.items c.args.index.now c.args.key c.args.entry c.args.end c.requires.finds c.requires.ends c.in_ok-add.ensures.free

@@ -3,7 +3,7 @@ use Rattle.std.proofs.lemmas.Option.{slice_get_within}
 use Rattle.std.specs.Prelude.{None}
 use Rattle.ipg_memo.specs.Ways.{IsFree}
 use Rattle.ipg_memo.proofs.GrowthLemmas.{on_ok, either, ok_always, vacant_of, bare_of, room_after, leads_vacant_as, stays_vacant_as, stays_same}
-use Rattle.ipg_memo.proofs.GrowthLemmas.{stays_opened_as, leads_bare_as, stays_bare_as}
+use Rattle.ipg_memo.proofs.GrowthLemmas.{stays_opened_as, leads_bare_as, stays_bare_as, stays_wider}
 use Rattle.ipg_memo.proofs.index.Index.add.Goals as goal
 
 pub link-requires-clause-cell : goal.link-requires-clause-cell
@@ -57,3 +57,6 @@ returns-in_ok-begin-in-Bare-clause-ok g c =
 
 pub returns-in_ok-begin-in-Bare-clause-free : goal.returns-in_ok-begin-in-Bare-clause-free
 returns-in_ok-begin-in-Bare-clause-free g c = ok_always c.link-in-Bare.result (subst IsFree (sym c.in-Bare.is) tt)
+
+pub returns-in_err-begin-in-Bare-clause-stays : goal.returns-in_err-begin-in-Bare-clause-stays
+returns-in_err-begin-in-Bare-clause-stays g c = stays_wider c.args.self.now c.open.new.self c.in_err-begin-in-Bare.ensures.err

@@ -1,15 +1,14 @@
 use Rattle.std.proofs.Common.{ap, sym, ◌∙◌}
 use Rattle.std.specs.FinMap as map
 use Rattle.ipg_memo.specs.Keyed.{Entries}
-use Rattle.ipg_memo.specs.Ways.{Rows, key_at, reached, entry_at}
+use Rattle.ipg_memo.specs.Ways.{entry_at}
 use Rattle.ipg_memo.proofs.RowLemmas.{got_indexed, got_nothing}
 use Rattle.ipg_memo.proofs.memo.Memo.get.Goals as goal
 
 pub returns-in-Some : goal.returns-in-Some
 returns-in-Some g c =
     c.entry_of.ensures
-    ∙ ap (λ (rows : Rows). entry_at rows c.reach.result) c.deref.ensures.value
-    ∙ ap (entry_at c.self.inside.rows.items) (c.reach.ensures ∙ ap (λ (rows : Rows). reached (key_at rows) c.in-Some.index c.args.key) c.deref-in-Some.ensures.value)
+    ∙ ap (entry_at c.self.inside.rows.items) c.reach.ensures
     ∙ sym (got_indexed c.self.inside.rows.items c.self.inside.index c.in-Some.index c.args.key c.self.invariant c.in-Some.is)
     ∙ ap (λ (m : Entries). map.get m c.args.key) c.self.view_is
 

@@ -5,4 +5,4 @@ use Rattle.ipg_memo.proofs.memo.Memo.len.Goals as goal
 
 pub returns : goal.returns
 returns g c =
-    c.len.ensures ∙ c.self.inside.rows.ok.0 ∙ sym (counted_indexed c.self.inside.rows.items c.self.inside.index c.self.invariant) ∙ ap map.len c.self.view_is
+    c.len.ensures.value ∙ sym (counted_indexed c.self.inside.rows.items c.self.inside.index c.self.invariant) ∙ ap map.len c.self.view_is
