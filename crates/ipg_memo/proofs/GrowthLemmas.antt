@@ -7,8 +7,9 @@ use Rattle.ipg_memo.specs.declared.memo.Key.{Key}
 use Rattle.ipg_memo.specs.declared.reached.Reached.{Reached}
 use Rattle.ipg_memo.specs.declared.reached.Reached.TheVariants.{Row, Vacant, Bare}
 use Rattle.ipg_memo.specs.Table.{Table}
-use Rattle.ipg_memo.specs.Ways.{Rows, key_at, reached, IsMore, Finds, Stays, Leads, IsEnd, IsWider, opened, linked}
+use Rattle.ipg_memo.specs.Ways.{Rows, key_at, reached, IsMore, Finds, Stays, StaysParted, Leads, IsEnd, IsWider, opened, linked}
 use Rattle.ipg_memo.proofs.WayLemmas.{Grown, stays_reached, leads_reached, opens_reached, vacant_cell, bare_row_under}
+use Rattle.ipg_memo.proofs.PartedLemmas.{parts_vacant, parts_bare, parted_opened}
 
 set_keeps : (xs : List (Option ℕ)) (c i : ℕ) (y : Option ℕ) (n : ℕ) → slice_get xs c ≡ Some None → slice_get xs i ≡ Some (Some n)
     → slice_get (slice_set xs c y) i ≡ Some (Some n)
@@ -90,6 +91,7 @@ leads_vacant table cell row e = record {
   leads = λ keys more rows key ends at.
       leads_reached keys more table (linked table cell row) key cell row (grown_linked keys more table cell row rows e)
       (set_here table.cells cell None (Some row) e) at ends;
+  parts = parts_vacant table cell row;
 }
 
 pub leads_bare : (table : Table) (above d row : ℕ) → slice_get table.below above ≡ Some None → d < 8
@@ -106,6 +108,7 @@ leads_bare table above d row e small =
           (opens_reached keys table wide key above d (length table.cells) (grown_opened keys table above e)
           (set_here table.below above None (Some (length table.cells)) e) vacant ends)
           at;
+      parts = parts_bare table above d row;
     }
 
 pub finds_more : (rows : Rows) (old new : Table) (end : Reached) (row : ℕ) (key : Key) → Leads old new end row → Finds rows old row
@@ -131,9 +134,13 @@ pub either : {X E P Q R : Type 0} (r : Result X E) → OnOk r P → OnErr r Q �
 either (Ok x) p q f g = f p
 either (Err e) p q f g = g q
 
-pub ok_always : {X E P : Type 0} (r : Result X E) → P → OnOk r P
-ok_always (Ok x) p = p
-ok_always (Err e) p = tt
+pub err_always : {X E Q : Type 0} (r : Result X E) → Q → OnErr r Q
+err_always (Ok x) q = tt
+err_always (Err e) q = q
+
+pub on_err : {X E P Q : Type 0} (r : Result X E) → OnErr r P → (P → Q) → OnErr r Q
+on_err (Ok x) p f = tt
+on_err (Err e) p f = f p
 
 pub vacant_of : (table : Table) (end : Reached) (cell : ℕ) → IsEnd table end → end ≡ Vacant cell → slice_get table.cells cell ≡ Some None
 vacant_of table end cell ends e = vacant_cell ends.0 table ends.1 cell (ends.2 ∙ e)
@@ -159,6 +166,10 @@ stays_same old new e = subst (Stays old) (sym e) (λ keys key r h. h)
 
 pub stays_opened_as : (old mid new : Table) (row : ℕ) → slice_get old.below row ≡ Some None → mid ≡ opened old row → new ≡ mid → Stays old new
 stays_opened_as old mid new row bare e f = subst (Stays old) (sym (f ∙ e)) (stays_opened old row bare)
+
+pub parted_opened_as : (old mid new : Table) (row : ℕ) → mid ≡ opened old row → new ≡ mid → StaysParted old new
+parted_opened_as old mid new row e f =
+    subst (StaysParted old) (sym (f ∙ e)) (λ keys count p. parted_opened keys old count p row)
 
 pub leads_bare_as : (old mid new : Table) (end : Reached) (above d row begin : ℕ) → slice_get old.below above ≡ Some None → d < 8 → end ≡ Bare above d
     → mid ≡ opened old above → begin ≡ length old.cells → new ≡ linked mid (begin + d) row → Leads old new end row

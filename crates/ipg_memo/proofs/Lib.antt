@@ -1,7 +1,9 @@
 pub mod ChunksLemmas
 pub mod KeyedLemmas
 pub mod WayLemmas
+pub mod PartedLemmas
 pub mod GrowthLemmas
 pub mod RowLemmas
+pub mod WholeLemmas
 pub mod MovedLemmas
 pub mod PrefixLemmas

@@ -53,15 +53,15 @@ module _ (rows : Rows) (n : ℕ) (none : Key × Entry) (lt : n < length rows) wh
 
   none_before : (o : Option Table) → IsIndexed rows o → lookup (same_key (get_or rows n none).0) (take n rows) ≡ None
   none_before None e = let short = ap length e in absurd (omega (arith, lt, short))
-  none_before (Some table) finds = sym (not_before table finds (lookup (same_key (get_or rows n none).0) (take n rows)) refl)
+  none_before (Some table) whole = sym (not_before table whole.finds (lookup (same_key (get_or rows n none).0) (take n rows)) refl)
 
   pub fresh : (o : Option Table) → IsIndexed rows o → get (of_rows (take n rows)) (get_or rows n none).0 ≡ None
   fresh o indexed = get_key (take n rows) (get_or rows n none).0 ∙ none_before o indexed
 
   pub own_entry : (o : Option Table) → IsIndexed rows o → get (of_rows rows) (get_or rows n none).0 ≡ Some (get_or rows n none).1
   own_entry None e = let short = ap length e in absurd (omega (arith, lt, short))
-  own_entry (Some table) finds =
-      got rows table (get_or rows n none).0 finds ∙ ap (entry_at rows) (finds n (get_or rows n none).0 lt here_key) ∙ ap (option_map (λ (k : Key × Entry). k.1)) here
+  own_entry (Some table) whole =
+      got rows table (get_or rows n none).0 whole.finds ∙ ap (entry_at rows) (whole.finds n (get_or rows n none).0 lt here_key) ∙ ap (option_map (λ (k : Key × Entry). k.1)) here
 
   pub one_more : (o : Option Table) → IsIndexed rows o
       → of_rows (take (n + 1) rows) ≡ insert (of_rows (take n rows)) (get_or rows n none).0 (get_or rows n none).1

@@ -84,7 +84,7 @@ free_none : (rows : Rows) (end : Reached) → IsFree end → entry_at rows end �
 free_none rows (Row row) free = absurd free
 free_none rows (Vacant cell) free = refl
 free_none rows (Bare row side) free = refl
-free_none rows Lost free = refl
+free_none rows Lost free = absurd free
 
 pub pushed : (rows : Rows) (table : Table) (key : Key) (entry : Entry) (end : Reached) → Finds rows table (length rows)
     → reached (key_at rows) table key ≡ end → IsFree end → of_rows (rows ++ (key, entry) ∷ []) ≡ insert (of_rows rows) key entry
@@ -92,13 +92,13 @@ pushed rows table key entry end finds ends free =
     from_entries_push keys_total exact_keys rows key entry
     (find_key rows key ∙ looked rows table key finds ∙ ap (entry_at rows) ends ∙ free_none rows end free)
 
-more_rows : (rows : Rows) (known : Key × Entry) (r : ℕ) (k : Key) → key_at rows r ≡ Some k → key_at (rows ++ known ∷ []) r ≡ Some k
+pub more_rows : (rows : Rows) (known : Key × Entry) (r : ℕ) (k : Key) → key_at rows r ≡ Some k → key_at (rows ++ known ∷ []) r ≡ Some k
 more_rows rows known r k = by (slice_get rows r) refl where
   by : (o : Option (Key × Entry)) → slice_get rows r ≡ o → option_map (λ (k : Key × Entry). k.0) o ≡ Some k → key_at (rows ++ known ∷ []) r ≡ Some k
   by None e h = absurd (cc)
   by (Some x) e h = ap (option_map (λ (k : Key × Entry). k.0)) (append_keeps rows (known ∷ []) r x e) ∙ h
 
-last_row : (rows : Rows) (known : Key × Entry) → slice_get (rows ++ known ∷ []) (length rows) ≡ Some known
+pub last_row : (rows : Rows) (known : Key × Entry) → slice_get (rows ++ known ∷ []) (length rows) ≡ Some known
 last_row rows known = let e : length rows ≡ length rows + 0 = omega arith in ap (slice_get (rows ++ known ∷ [])) e ∙ past_end rows (known ∷ []) 0
 
 before_last : (rows : Rows) (known : Key × Entry) (r : ℕ) (k : Key) → r < length rows → key_at (rows ++ known ∷ []) r ≡ Some k → key_at rows r ≡ Some k
@@ -120,7 +120,7 @@ finds_pushed rows old new key entry end finds ends leads =
     r (omega (arith, lt, long)) k h
 
 -- the same rows, but one with another entry of its key
-keys_set : (rows : Rows) (row : ℕ) (key : Key) (entry : Entry) → key_at rows row ≡ Some key → (r : ℕ) → key_at (slice_set rows row (key, entry)) r ≡ key_at rows r
+pub keys_set : (rows : Rows) (row : ℕ) (key : Key) (entry : Entry) → key_at rows row ≡ Some key → (r : ℕ) → key_at (slice_set rows row (key, entry)) r ≡ key_at rows r
 keys_set [] row key entry e r = refl
 keys_set (x ∷ rows) zero key entry e zero = sym e
 keys_set (x ∷ rows) zero key entry e (suc r) = refl
@@ -226,11 +226,11 @@ finds_pushed_as rows wide old new key entry end row e f finds ends leads =
 
 pub got_indexed : (rows : Rows) (o : Option Table) (table : Table) (q : Key) → IsIndexed rows o → o ≡ Some table
     → get (of_rows rows) q ≡ entry_at rows (reached (key_at rows) table q)
-got_indexed rows o table q finds e = got rows table q (subst (IsIndexed rows) e finds)
+got_indexed rows o table q whole e = got rows table q (subst (IsIndexed rows) e whole).finds
 
 pub got_nothing : (rows : Rows) (o : Option Table) (q : Key) → IsIndexed rows o → o ≡ None → get (of_rows rows) q ≡ None
 got_nothing rows o q finds e = ap (λ (rs : Rows). get (of_rows rs) q) (subst (IsIndexed rows) e finds) ∙ get-empty key_cmp q
 
 pub counted_indexed : (rows : Rows) (o : Option Table) → IsIndexed rows o → len (of_rows rows) ≡ length rows
 counted_indexed rows None e = ap (λ (rs : Rows). len (of_rows rs)) e ∙ len-empty key_cmp Entry ∙ ap length (sym e)
-counted_indexed rows (Some table) finds = counted rows table finds
+counted_indexed rows (Some table) whole = counted rows table whole.finds

@@ -1,5 +1,5 @@
 -- Ways stay as they are where the rows, the cells and what lies below the rows only grow.
-use Rattle.std.proofs.Common.{◌≡◌, ℕ, zero, suc, ◌+◌, ◌-◌, ◌<◌, Bool, true, false, cond, ◌&&◌, refl, sym, ap, subst, ◌∙◌, arith, nat_eq}
+use Rattle.std.proofs.Common.{◌≡◌, ℕ, zero, suc, ◌+◌, ◌-◌, ◌<◌, ◌≤◌, Bool, true, false, cond, ◌&&◌, refl, sym, ap, subst, ◌∙◌, arith, nat_eq}
 use Rattle.std.proofs.lemmas.Bool.Decides.{nat_tests}
 use Rattle.std.specs.Prelude.{Option, None, Some, slice_get}
 use Rattle.ipg_memo.specs.declared.memo.Key.{Key}
@@ -8,7 +8,8 @@ use Rattle.ipg_memo.specs.declared.reached.Reached.TheVariants.{Row, Vacant, Bar
 use Rattle.ipg_memo.specs.declared.reached.Step.{Step}
 use Rattle.ipg_memo.specs.declared.reached.Step.TheVariants.{Stops, Goes}
 use Rattle.ipg_memo.specs.Table.{Table}
-use Rattle.ipg_memo.specs.Ways.{same_key, home, side, from_cells, past, at_row, at_cell, step, end_of, way, reached, IsMore}
+use Rattle.ipg_memo.specs.Places.{home, side}
+use Rattle.ipg_memo.specs.Ways.{same_key, from_cells, past, at_row, at_cell, step, end_of, way, reached, named_by, count_on, passed, IsMore}
 
 -- a step that stays where all only grows
 IsKept : Step → Type 0
@@ -214,7 +215,7 @@ leads_reached keys more old new key c row grown names known e =
     ∙ leads_way keys more old new key c row grown names known 32 (home old.heads key) e
 
 -- the code's walk
-never_goes : (keys : ℕ → Option Key) (table : Table) (key : Key) (cell c : ℕ) → step keys table key zero cell ≡ Goes c → ⊥
+pub never_goes : (keys : ℕ → Option Key) (table : Table) (key : Key) (cell c : ℕ) → step keys table key zero cell ≡ Goes c → ⊥
 never_goes keys table key cell c e = goes_at (slice_get table.cells cell) e where
   goes_test : (b : Bool) (row : ℕ) → cond b (Stops (Row row)) (Stops Lost) ≡ Goes c → ⊥
   goes_test true row e = absurd (cc)
@@ -270,7 +271,7 @@ bare_test : {P : Type 0} (b : Bool) (row : ℕ) (s : Step) (r d : ℕ) → (s �
 bare_test true row s r d below e = absurd (cc)
 bare_test false row s r d below e = below e
 
-small_side : (key : Key) (left : ℕ) → side key left < 8
+pub small_side : (key : Key) (left : ℕ) → side key left < 8
 unfolding side
 small_side key left = omega arith
 
@@ -440,3 +441,20 @@ has_way keys table key row (suc left) cell e =
 
 pub row_has_key : (keys : ℕ → Option Key) (table : Table) (key : Key) (row : ℕ) → reached keys table key ≡ Row row → keys row ≡ Some key
 row_has_key keys table key row e = has_way keys table key row 32 (home table.heads key) e
+
+-- a way passes a row for each bit that is left, and one more
+one_named : (o : Option (Option ℕ)) → named_by o ≤ 1
+one_named None = omega arith
+one_named (Some None) = omega arith
+one_named (Some (Some row)) = omega arith
+
+count_few : (s : Step) (on : ℕ → ℕ) (most : ℕ) → ((c : ℕ) → on c ≤ most) → count_on s on ≤ most
+count_few (Stops end) on most few = omega arith
+count_few (Goes c) on most few = few c
+
+pub passed_few : (keys : ℕ → Option Key) (table : Table) (key : Key) (left cell : ℕ) → passed keys table key left cell ≤ left + 1
+unfolding passed
+passed_few keys table key zero cell = one_named (slice_get table.cells cell)
+passed_few keys table key (suc left) cell =
+    let here = one_named (slice_get table.cells cell) in
+    let on = count_few (step keys table key (suc left) cell) (passed keys table key left) (left + 1) (passed_few keys table key left) in omega (arith, here, on)

@@ -7,4 +7,6 @@ pub mod Chunks
 -- How keys are found.
 pub mod Linked
 pub mod Table
+pub mod Places
+pub mod Parted
 pub mod Ways

@@ -1,5 +1,5 @@
 -- The way of a key: from its head on, and at each row of another key to one of the eight cells under it.
-use Rattle.std.specs.Prelude.{◌≡◌, ℕ, zero, suc, ◌+◌, ◌-◌, ◌*◌, ◌/◌, ◌%◌, ◌^◌, ◌<◌, Bool, cond, ◌&&◌, Option, None, Some, List, [], ◌∷◌, ◌++◌, length, slice_get, slice_set, replicate, nat_eq, option_map}
+use Rattle.std.specs.Prelude.{◌≡◌, ℕ, zero, suc, ◌+◌, ◌<◌, Bool, cond, ◌&&◌, Option, None, Some, List, [], ◌∷◌, ◌++◌, length, slice_get, slice_set, replicate, nat_eq, option_map}
 use Rattle.ipg_memo.specs.declared.memo.Key.{Key}
 use Rattle.ipg_memo.specs.declared.memo.Entry.{Entry}
 use Rattle.ipg_memo.specs.declared.reached.Reached.{Reached}
@@ -7,6 +7,8 @@ use Rattle.ipg_memo.specs.declared.reached.Reached.TheVariants.{Row, Vacant, Bar
 use Rattle.ipg_memo.specs.declared.reached.Step.{Step}
 use Rattle.ipg_memo.specs.declared.reached.Step.TheVariants.{Stops, Goes}
 use Rattle.ipg_memo.specs.Table.{Table}
+use Rattle.ipg_memo.specs.Places.{home, side}
+use Rattle.ipg_memo.specs.Parted.{IsSmall, IsParted}
 
 -- the entries, in the order in which their keys came
 abbrev pub Rows : Type 0
@@ -18,18 +20,6 @@ key_at rows row = option_map (λ known. known.0) (slice_get rows row)
 
 abbrev pub same_key : Key → Key → Bool
 same_key a b = nat_eq a.rule b.rule && (nat_eq a.from b.from && nat_eq a.to b.to)
-
--- what a key's numbers are mixed to: the same for keys that differ in the last three bits of their places alone
-unfoldable pub mixed : Key → ℕ
-mixed key = key.from / 8 * 11400714819323198485 + key.to / 8 * 14686920831342365939 + key.rule * 14029467366897019727
-
--- the head of a key: one of sixteen in a line
-unfoldable pub home : ℕ → Key → ℕ
-home heads key = mixed key / 2 ^ 32 % 2 ^ 32 * (heads / 16) / 2 ^ 32 * 16 + (key.from + 2 * key.to + mixed key / 2 ^ 12) % 16
-
--- the cell under a row that a key goes to, by a bit of each of its numbers; so many bits are left
-unfoldable pub side : Key → ℕ → ℕ
-side key left = key.rule / 2 ^ (32 - left) % 2 * 4 + key.from / 2 ^ (32 - left) % 2 * 2 + key.to / 2 ^ (32 - left) % 2
 
 -- on from a row of another key
 abbrev pub from_cells : Key → (left row : ℕ) → Option (Option ℕ) → Step
@@ -65,6 +55,25 @@ way keys table key (suc left) cell = end_of (step keys table key (suc left) cell
 abbrev pub reached : (ℕ → Option Key) → Table → Key → Reached
 reached keys table key = way keys table key 32 (home table.heads key)
 
+-- how many rows a cell names
+abbrev pub named_by : Option (Option ℕ) → ℕ
+named_by None = 0
+named_by (Some None) = 0
+named_by (Some (Some row)) = 1
+
+abbrev pub count_on : Step → (ℕ → ℕ) → ℕ
+count_on (Stops reached) on = 0
+count_on (Goes cell) on = on cell
+
+-- how many rows a way passes, with the one that it ends at
+unfoldable pub passed : (ℕ → Option Key) → Table → Key → (left cell : ℕ) → ℕ
+passed keys table key zero cell = named_by (slice_get table.cells cell)
+passed keys table key (suc left) cell =
+    named_by (slice_get table.cells cell) + count_on (step keys table key (suc left) cell) (passed keys table key left)
+
+abbrev pub rows_passed : (ℕ → Option Key) → Table → Key → ℕ
+rows_passed keys table key = passed keys table key 32 (home table.heads key)
+
 -- each of the first rows is found by its key
 abbrev pub Finds : Rows → Table → ℕ → Type 0
 Finds rows table count = (row : ℕ) (key : Key) → row < count → key_at rows row ≡ Some key → reached (key_at rows) table key ≡ Row row
@@ -76,21 +85,27 @@ IsMore keys more = (row : ℕ) (key : Key) → keys row ≡ Some key → more ro
 abbrev pub IsEnd : Table → Reached → Type 0
 IsEnd table end = (keys : ℕ → Option Key) × (key : Key) × (reached keys table key ≡ end)
 
--- no row has the key whose way ended so
+-- no row has the key whose way ended so, and there is a place for one
 abbrev pub IsFree : Reached → Type 0
 IsFree (Row row) = ⊥
 IsFree (Vacant cell) = Unit {0}
 IsFree (Bare row side) = Unit {0}
-IsFree Lost = Unit {0}
+IsFree Lost = ⊥
 
 -- what was found is found
 abbrev pub Stays : (old new : Table) → Type 0
 Stays old new = (keys : ℕ → Option Key) (key : Key) (row : ℕ) → reached keys old key ≡ Row row → reached keys new key ≡ Row row
 
--- the keys whose way ended so lead to a row, and what was found is found: whichever rows come behind
+-- what was parted is
+abbrev pub StaysParted : (old new : Table) → Type 0
+StaysParted old new = (keys : ℕ → Option Key) (count : ℕ) → IsParted keys old count → IsParted keys new count
+
+-- the keys whose way ended so lead to a row, what was found is found, and what was parted is: whichever rows come behind
 pub record Leads (old new : Table) (end : Reached) (row : ℕ) : Type 0 where
   pub stays : (keys more : ℕ → Option Key) → IsMore keys more → (key : Key) (r : ℕ) → reached keys old key ≡ Row r → reached more new key ≡ Row r
   pub leads : (keys more : ℕ → Option Key) → IsMore keys more → (key : Key) → reached keys old key ≡ end → more row ≡ Some key → reached more new key ≡ Row row
+  pub parts : (keys more : ℕ → Option Key) → IsMore keys more → (key : Key) → IsSmall key → reached keys old key ≡ end → more row ≡ Some key
+      → IsParted keys old row → IsParted more new (row + 1)
 
 -- eight cells more, which lie under a row
 abbrev pub opened : Table → (row : ℕ) → Table
@@ -112,7 +127,20 @@ entry_at rows (Vacant cell) = None
 entry_at rows (Bare row side) = None
 entry_at rows Lost = None
 
--- each row is found; without an index there are none
+-- a way that isn't lost
+abbrev pub Ends : Reached → Type 0
+Ends end = end ≡ Lost → ⊥
+
+-- no two rows have one key
+abbrev pub AreDistinct : Rows → Type 0
+AreDistinct rows = (i j : ℕ) (key : Key) → key_at rows i ≡ Some key → key_at rows j ≡ Some key → i ≡ j
+
+-- each of the first rows is found, and their keys part
+pub record IsWhole (rows : Rows) (table : Table) (count : ℕ) : Type 0 where
+  pub finds : Finds rows table count
+  pub parted : IsParted (key_at rows) table count
+
+-- all rows are found, and their keys part; without an index there are none
 abbrev pub IsIndexed : Rows → Option Table → Type 0
 IsIndexed rows None = rows ≡ []
-IsIndexed rows (Some table) = Finds rows table (length rows)
+IsIndexed rows (Some table) = IsWhole rows table (length rows)

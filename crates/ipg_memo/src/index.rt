@@ -1,5 +1,6 @@
 ghost use Rattle.std.specs.Prelude.{◌≡◌, ℕ, ◌+◌, ◌-◌, ◌<◌, ◌≤◌, ◌^◌, ◌++◌, Option, None, Some, length, slice_get, slice_set, replicate, option_copied};
 ghost use Rattle.std.specs.Prelude.{IfOk, OnOk, OnErr};
+ghost use Rattle.ipg_memo.specs.Parted.{IsSmall, IsParted};
 ghost use Rattle.ipg_memo.specs.Ways as ways;
 
 use crate::chunks::Chunks;
@@ -43,6 +44,15 @@ fn link_at(links: &[Link], at: usize) -> Option<Link>
     ensures { result ≡ slice_get links.now at }
 {
     links.get(at).copied()
+}
+
+/// So many cells, which name no row.
+fn no_links<A: Allocator + Drop>(alloc: A, count: usize) -> Result<Vec<Link, A>, AllocError>
+    ensures { IfOk result (λ links. links.items ≡ replicate count None) }
+{
+    let mut links = Vec::with_capacity(alloc, count)?;
+    links.resize(count, Link::none())?;
+    Ok(links)
 }
 
 /// Eight cells more, which name no row. Where memory runs out, there may be some of them.
@@ -138,10 +148,14 @@ impl<A: Allocator + Clone + Drop> Index<A> {
         }
     }
 
-    /// Where the way of a key ends. It passes 33 rows at most.
+    /// Where the way of a key ends: never for want of bits, and after 33 rows at most.
     #[inline(always)]
     pub(crate) fn reach(&self, rows: &Rows<A>, key: &Key) -> Reached
-        ensures { result ≡ ways.reached (ways.key_at rows.now.items) self.now key.now }
+        requires parted { (count : ℕ) × IsParted (ways.key_at rows.now.items) self.now count }
+        ensures value { result ≡ ways.reached (ways.key_at rows.now.items) self.now key.now }
+        ensures ends { ways.Ends result }
+        ensures few { ways.rows_passed (ways.key_at rows.now.items) self.now key.now ≤ 33 }
+        ensures bits { IsSmall key.now }
     {
         let mut cell = home(self.heads, key);
         let mut left = BITS;
@@ -186,13 +200,13 @@ impl<A: Allocator + Clone + Drop> Index<A> {
         Ok(())
     }
 
-    /// Lets the keys whose way ends so lead to this row. Where a row has the key already, or the way is lost, that
-    /// counts as want of memory.
+    /// Lets the keys whose way ends so lead to this row.
     pub(crate) fn add(&mut self, end: Reached, row: usize) -> Result<(), AllocError>
-        requires { ways.IsEnd self.old end }
+        requires ends { ways.IsEnd self.old end }
+        requires free { ways.IsFree end }
         ensures stays { ways.Stays self.old self.new }
         ensures ok { OnOk result (ways.Leads self.old self.new end row) }
-        ensures free { OnOk result (ways.IsFree end) }
+        ensures err { OnErr result (ways.StaysParted self.old self.new) }
     {
         if row >= PLACES {
             return Err(AllocError);
@@ -203,15 +217,16 @@ impl<A: Allocator + Clone + Drop> Index<A> {
                 let begin = self.open(above)?;
                 self.link(begin + side, row)
             }
-            Reached::Row(_) | Reached::Lost => Err(AllocError),
+            Reached::Row(_) | Reached::Lost => unreachable!(),
         }
     }
 
     /// Lets the key of a row lead to it.
     fn enter_row(&mut self, rows: &Rows<A>, row: usize) -> Result<(), AllocError>
         requires row { row < length rows.now.items }
-        requires finds { ways.Finds rows.now.items self.old row }
-        ensures { OnOk result (ways.Finds rows.now.items self.new (row + 1)) }
+        requires distinct { ways.AreDistinct rows.now.items }
+        requires whole { ways.IsWhole rows.now.items self.old row }
+        ensures { OnOk result (ways.IsWhole rows.now.items self.new (row + 1)) }
     {
         let end = self.reach(rows, &rows.read(row).0);
         self.add(end, row)
@@ -219,15 +234,16 @@ impl<A: Allocator + Clone + Drop> Index<A> {
 
     /// An index of these rows with so many heads.
     pub(crate) fn over(rows: &Rows<A>, heads: u32, alloc: &A) -> Result<Index<A>, AllocError>
-        ensures { IfOk result (λ index. ways.Finds rows.now.items index (length rows.now.items)) }
+        requires enough { 16 ≤ heads }
+        requires distinct { ways.AreDistinct rows.now.items }
+        ensures { IfOk result (λ index. ways.IsWhole rows.now.items index (length rows.now.items)) }
     {
         let mut index = Index {
             heads,
-            top: Vec::with_capacity(alloc.clone()?, heads as usize)?,
+            top: no_links(alloc.clone()?, heads as usize)?,
             under: Chunks::new(alloc.clone()?),
             below: Vec::with_capacity(alloc.clone()?, heads as usize)?,
         };
-        index.top.resize(heads as usize, Link::none())?;
         for row in 0..rows.len() {
             index.enter_row(rows, row)?;
         }
@@ -240,7 +256,10 @@ impl<A: Allocator + Clone + Drop> Index<A> {
     }
 
     /// How many heads an index for more rows has.
-    pub(crate) fn more_heads(&self) -> u32 {
+    pub(crate) fn more_heads(&self) -> u32
+        requires { 16 ≤ self.now.heads }
+        ensures { 16 ≤ result }
+    {
         self.heads.saturating_mul(2)
     }
 }

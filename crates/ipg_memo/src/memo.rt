@@ -3,9 +3,10 @@ ghost use Rattle.std.specs.FinMap as map;
 ghost use Rattle.ipg_memo.specs.Keyed.{Entries, of_rows};
 ghost use Rattle.ipg_memo.specs.Moved as edits;
 ghost use Rattle.ipg_memo.specs.Moved.{IsBehind, IsMoved, IsThereOrPut};
+ghost use Rattle.ipg_memo.specs.Parted.{IsSmall};
 ghost use Rattle.ipg_memo.specs.Table.{Table};
 ghost use Rattle.ipg_memo.specs.Ways as ways;
-ghost use Rattle.ipg_memo.specs.Ways.{Finds};
+ghost use Rattle.ipg_memo.specs.Ways.{IsWhole};
 
 use crate::chunks::Chunks;
 use crate::index::{Index, Rows};
@@ -78,9 +79,11 @@ fn append<A: Allocator + Clone + Drop>(
     key: Key,
     entry: Entry,
 ) -> Result<(), AllocError>
-    requires finds { Finds rows.old.items index.old (length rows.old.items) }
+    requires whole { IsWhole rows.old.items index.old (length rows.old.items) }
     requires ends { ways.reached (ways.key_at rows.old.items) index.old key ≡ end }
-    ensures finds { Finds rows.new.items index.new (length rows.new.items) }
+    requires free { ways.IsFree end }
+    requires bits { IsSmall key }
+    ensures whole { IsWhole rows.new.items index.new (length rows.new.items) }
     ensures ok { OnOk result (of_rows rows.new.items ≡ map.insert (of_rows rows.old.items) key entry) }
     ensures err { OnErr result (rows.new.items ≡ rows.old.items) }
 {
@@ -97,8 +100,8 @@ fn enter<A: Allocator + Clone + Drop>(
     key: Key,
     entry: Entry,
 ) -> Result<(), AllocError>
-    requires finds { Finds rows.old.items index.old (length rows.old.items) }
-    ensures finds { Finds rows.new.items index.new (length rows.new.items) }
+    requires whole { IsWhole rows.old.items index.old (length rows.old.items) }
+    ensures whole { IsWhole rows.new.items index.new (length rows.new.items) }
     ensures ok { OnOk result (of_rows rows.new.items ≡ map.insert (of_rows rows.old.items) key entry) }
     ensures err { OnErr result (rows.new.items ≡ rows.old.items) }
 {

@@ -1,5 +1,6 @@
 ghost use Rattle.std.specs.Prelude.{◌≡◌, ◌≤◌, ◌<◌, ◌^◌};
-ghost use Rattle.ipg_memo.specs.Ways as ways;
+ghost use Rattle.ipg_memo.specs.Places as places;
+ghost use Rattle.ipg_memo.specs.Parted.{IsSmall};
 
 use crate::memo::Key;
 
@@ -18,10 +19,10 @@ const LINE: u32 = 16;
 pub(crate) const BITS: u32 = 32;
 
 /// What a key's numbers are mixed to. Keys that differ only in the last three bits of their places come to the same.
-#[tactic(auto, unfolding(crate::specs::Ways::mixed))]
+#[tactic(auto, unfolding(crate::specs::Places::mixed))]
 #[inline(always)]
 fn mixed(key: &Key) -> u128
-    ensures value { result ≡ ways.mixed key.now }
+    ensures value { result ≡ places.mixed key.now }
     ensures small { result < 2 ^ 98 }
 {
     u128::from(key.from / 8) * OF_FROM
@@ -30,10 +31,11 @@ fn mixed(key: &Key) -> u128
 }
 
 /// The head of a key.
-#[tactic(auto, unfolding(crate::specs::Ways::home))]
+#[tactic(auto, unfolding(crate::specs::Places::home))]
 #[inline(always)]
 pub(crate) fn home(heads: u32, key: &Key) -> usize
-    ensures { result ≡ ways.home heads key.now }
+    ensures value { result ≡ places.home heads key.now }
+    ensures bits { IsSmall key.now }
 {
     let mixed = mixed(key);
     let high = ((mixed >> 32) % (1 << 32)) as u64;
@@ -43,11 +45,11 @@ pub(crate) fn home(heads: u32, key: &Key) -> usize
 }
 
 /// The cell under a row that a key goes to, while so many bits are left.
-#[tactic(auto, unfolding(crate::specs::Ways::side))]
+#[tactic(auto, unfolding(crate::specs::Places::side))]
 #[inline(always)]
 pub(crate) fn side(key: &Key, left: u32) -> usize
     requires { left ≤ 32 }
-    ensures value { result ≡ ways.side key.now left }
+    ensures value { result ≡ places.side key.now left }
     ensures small { result < 8 }
 {
     let bit = BITS - left;

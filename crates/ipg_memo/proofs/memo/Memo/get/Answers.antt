@@ -8,7 +8,7 @@ use Rattle.ipg_memo.proofs.memo.Memo.get.Goals as goal
 pub returns-in-Some : goal.returns-in-Some
 returns-in-Some g c =
     c.entry_of.ensures
-    ∙ ap (entry_at c.self.inside.rows.items) c.reach.ensures
+    ∙ ap (entry_at c.self.inside.rows.items) c.reach.ensures.value
     ∙ sym (got_indexed c.self.inside.rows.items c.self.inside.index c.in-Some.index c.args.key c.self.invariant c.in-Some.is)
     ∙ ap (λ (m : Entries). map.get m c.args.key) c.self.view_is
 
