@@ -191,6 +191,28 @@ impl<A: Allocator + Clone + Drop> State<A> {
             }),
         }
     }
+
+    /// Writes the lines of the tree that is shown, without taking memory, and gives all back as it was.
+    fn print<S: Sink>(
+        self,
+        tables: &Tables,
+        input: &[u8],
+        out: &mut S,
+    ) -> (State<A>, Result<(), SinkFault>)
+        ensures stays { holding result.0 ≡ holding self }
+        ensures lines { (g : Grammar) (one : AnyTree) → StandFor tables.now g
+            → Shows one (record { tables = tables.now; input = input.now; holding = holding self })
+            → Puts result.1 (lines g one 0) (S.output out.old) (S.faults out.old) (S.output out.new) (S.faults out.new) }
+    {
+        match self {
+            State::Shown(tree, memo) => {
+                let mut parsed = Parsed::attach(tables, input, tree);
+                let said = print(&mut parsed, out);
+                (State::Shown(parsed.detach(), memo), said)
+            }
+            other => (other, Ok(())),
+        }
+    }
 }
 
 impl<'t, A: Allocator + Clone + Drop> Session<'t, A> {
@@ -295,17 +317,10 @@ impl<'t, A: Allocator + Clone + Drop> Session<'t, A> {
         ensures lines { (g : Grammar) (one : AnyTree) → StandFor self.old.tables g → Shows one self.old
             → Puts result (lines g one 0) (S.output out.old) (S.faults out.old) (S.output out.new) (S.faults out.new) }
     {
-        match replace(&mut self.state, State::Nothing) {
-            State::Shown(tree, memo) => {
-                let mut parsed = Parsed::attach(self.tables, self.input.as_slice(), tree);
-                let said = print(&mut parsed, out);
-                self.state = State::Shown(parsed.detach(), memo);
-                said
-            }
-            other => {
-                self.state = other;
-                Ok(())
-            }
-        }
+        let state = replace(&mut self.state, State::Nothing);
+        let (state, said) = state.print(self.tables, self.input.as_slice(), out);
+        // (as a call, what lay there meanwhile needn't be looked at here)
+        drop(replace(&mut self.state, state));
+        said
     }
 }
