@@ -28,4 +28,4 @@ least() {
 }
 
 least "$work/peer region global 2000000" "$ours region global 2000000" "$ours region heap 2000000"
-least "$work/peer memo global 1000000" "$ours memo global 1000000" "$ours memo heap 1000000"
+least "$work/peer memo global 1000000" "$work/peer folded global 1000000" "$ours memo global 1000000" "$ours memo heap 1000000"
