@@ -1,0 +1,10 @@
+-- texts that were put, one behind another
+pub mod Putting
+-- what is kept of a text that is put together
+pub mod Cuts
+-- what comes next of digits
+pub mod Pieces
+-- what a walk shows
+pub mod Walked
+-- places that no leaf has
+pub mod Runs

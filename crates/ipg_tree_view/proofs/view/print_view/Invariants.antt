@@ -1,0 +1,26 @@
+use Rattle.std.proofs.Common.{◌≡◌, ◌++◌, List, flat_map}
+use Rattle.std.specs.Prelude.{None}
+use Rattle.ipg_core.specs.Grammar.{Grammar}
+use Rattle.ipg_core.specs.Tree.{Tree}
+use Rattle.ipg_mach_nodes.specs.Stored.{Source}
+use Rattle.ipg_tree_walk.specs.Visits.{Seen}
+use Rattle.ipg_tree_walk.specs.Parse.{Left, steps_left}
+use Rattle.ipg_tree_view.specs.Bare.{runs}
+use Rattle.ipg_tree_view.specs.View.{view_by, seen_view, gap_view}
+use Rattle.ipg_tree.specs.Shares.{IsTree}
+use Rattle.ipg_tree_view.proofs.Putting.{Progress}
+use Rattle.ipg_tree_view.proofs.view.print_view.Given as goal
+
+abbrev pub invariant-loop-visit : goal.invariant-loop-visit
+invariant-loop-visit g l = record {
+  parse : l.p.parse ≡ l.fn.p.parse;
+  so_far :
+      (src : Source) (grammar : Grammar) (one : Tree) → IsTree l.fn.p.parse src grammar one
+      → (left : List Seen) × Left src l.p left
+      × Progress (view_by grammar l.fn.p.parse.input one l.bare)
+      (flat_map (seen_view grammar l.fn.p.parse.input) left ++ flat_map (gap_view l.fn.p.parse.input) (runs 0 None l.bare))
+      (g.S.Sink.output l.fn.out) (g.S.Sink.faults l.fn.out) (g.S.Sink.output l.out) (g.S.Sink.faults l.out);
+}
+
+abbrev pub decreases-loop-visit : goal.decreases-loop-visit
+decreases-loop-visit g l = steps_left l.p

@@ -1,0 +1,19 @@
+use Rattle.std.proofs.Common.{◌++◌, ◌-◌, ◌+◌, ◌^◌, ◌≤◌, [], ap, sym, ◌∙◌, subst, append-nil}
+use Rattle.std.specs.Prelude.{codes, decimal}
+use Rattle.ipg_tree_view.specs.View.{indented}
+use Rattle.ipg_tree_view.proofs.Cuts.{lacks_as, lacks_none, piece_is}
+use Rattle.ipg_tree_view.proofs.Putting.{as_text}
+use Rattle.ipg_tree_view.proofs.view.put_raw.Goals as goal
+
+pub returns : goal.returns
+returns g c small =
+    let visit = c.args.visit in
+    let digits = decimal (visit.to - visit.from) in
+    let said = codes "Bytes " ++ digits in
+    let all = indented visit.depth said in
+    let opened = c.push.ensures all digits (c.indent-text.ensures said) in
+    let text = lacks_none _ all (c.push_number.ensures all []
+    (lacks_as _ all _ _ (ap decimal (sym c.saturating_sub.ensures) ∙ sym (append-nil (decimal c.saturating_sub.result))) opened)) in
+    as_text c.put_piece.result _ _ _ _ _ _
+    (piece_is c.args.p.now.parse.input visit.depth visit.from visit.to said _ _ c.piece_of.ensures.at c.piece_of.ensures.bytes)
+    (c.put_piece.ensures said text (subst (λ k. k + 2 ^ 32 ≤ 2 ^ 64) (sym c.piece_of.ensures.at) small))

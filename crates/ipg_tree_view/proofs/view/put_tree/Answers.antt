@@ -1,0 +1,6 @@
+use Rattle.ipg_tree_view.proofs.Walked.{says}
+use Rattle.ipg_tree_view.proofs.view.put_tree.Goals as goal
+
+pub returns-in-Some : goal.returns-in-Some
+returns-in-Some g c src grammar begin one stand stands small =
+    c.put_node.ensures grammar one stand (says src _ begin _ _ one c.in-Some.is stands) small
