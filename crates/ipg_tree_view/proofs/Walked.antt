@@ -91,7 +91,8 @@ pub record TreeSeen (src : Source) (st : Stored) (g : Grammar) (visit : Visit) (
   pub stands : StandsNode src st at visit.node one
   pub is : tree_head g visit.depth visit.from one ≡ text
 
-tree_seen_at : (src : Source) (st : Stored) (g : Grammar) (input : List ℕ) (visit : Visit) (depth at : ℕ) (k : tree.Kid) → IsNodeRow visit.kid → visit.depth ≡ depth → visit.from ≡ at + from_of k
+tree_seen_at : (src : Source) (st : Stored) (g : Grammar) (input : List ℕ) (visit : Visit) (depth at : ℕ) (k : tree.Kid) → IsNodeRow visit.kid
+    → visit.depth ≡ depth → visit.from ≡ at + from_of k
     → StandsKid src st at visit.kid k → NodeOf st visit.kid visit.node → TreeSeen src st g visit (kid_view g input depth at k)
 tree_seen_at src st g input visit depth at (tree.Sub from to sub) is ed ef stands node = record {
   at = at + from;

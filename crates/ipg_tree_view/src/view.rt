@@ -164,7 +164,8 @@ fn put_rest<S: Sink>(
     piece: Piece<'_>,
 ) -> Result<(), SinkFault>
     ensures { piece.entry.at + 2 ^ 32 ≤ 2 ^ 64
-        → Puts result (spec.more_line (piece.entry.at + 16) (take 16 (drop 16 piece.entry.bytes.now)) ++ (spec.more_line (piece.entry.at + 32) (take 16 (drop 32 piece.entry.bytes.now))
+        → Puts result (spec.more_line (piece.entry.at + 16) (take 16 (drop 16 piece.entry.bytes.now))
+        ++ (spec.more_line (piece.entry.at + 32) (take 16 (drop 32 piece.entry.bytes.now))
         ++ spec.count_line depth piece.entry.at (length piece.entry.bytes.now)))
         (S.output out.old) (S.faults out.old) (S.output out.new) (S.faults out.new) }
 {

@@ -16,5 +16,6 @@ returns c grammar all end stand h =
     let is = ap (λ t. 32 ∷ t) (append_assoc (name ++ codes "=") value end ∙ append_assoc name (codes "=") (value ++ end)
     ∙ ap (λ n. n ++ rest) (sym (c.attr_name.ensures grammar stand))) in
     let kept : to_z w64 (of_z w64 c.args.attr.1) ≡ c.args.attr.1 = omega (arith, ints) in
-    c.push_signed.ensures all end (lacks_as _ all _ _ (ap (λ z. signed_decimal z ++ end) (sym kept)) (c.push-3.ensures all (value ++ end) (c.push-2.ensures all rest
+    c.push_signed.ensures all end (lacks_as _ all _ _ (ap (λ z. signed_decimal z ++ end) (sym kept))
+    (c.push-3.ensures all (value ++ end) (c.push-2.ensures all rest
     (c.push.ensures all (c.attr_name.result.now ++ rest) (lacks_as _ all _ _ is h)))))

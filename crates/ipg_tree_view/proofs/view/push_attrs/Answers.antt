@@ -9,7 +9,8 @@ use Rattle.ipg_tree_view.proofs.view.push_attrs.Goals as goal
 pub loop-attr-preserved : goal.loop-attr-preserved
 loop-attr-preserved c grammar all stand h =
     c.push_attr.ensures grammar all _ stand
-    (lacks_as _ all _ _ (next_spaced (attr_word grammar) c.args.attrs.now c.loop-attr.attr-index _ c.loop-attr-test.true) (c.loop-attr.invariant grammar all stand h))
+    (lacks_as _ all _ _ (next_spaced (attr_word grammar) c.args.attrs.now c.loop-attr.attr-index _ c.loop-attr-test.true)
+    (c.loop-attr.invariant grammar all stand h))
 
 pub returns : goal.returns
 returns c grammar all stand h =

@@ -13,4 +13,5 @@ returns g c small =
     let text = lacks_none _ all (c.push.ensures all [] (c.push_number.ensures all (codes " more") (c.indent-text.ensures (n ++ codes " more")))) in
     let behind : c.saturating_add-2.result ≡ c.args.at + 48 = c.saturating_add-2.ensures ∙ omega (arith, small) in
     let same : min deeper 12 ≡ min (c.args.depth + 1) 12 = let e = c.saturating_add.ensures in omega (arith, e) in
-    as_text c.put_line.result _ _ _ _ _ _ (count_is c.args.depth c.args.at c.args.count deeper _ (omega (arith, c.if-count-le48.false)) behind same) (c.put_line.ensures all text)
+    as_text c.put_line.result _ _ _ _ _ _ (count_is c.args.depth c.args.at c.args.count deeper _ (omega (arith, c.if-count-le48.false)) behind same)
+    (c.put_line.ensures all text)

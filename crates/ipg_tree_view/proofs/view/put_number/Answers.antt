@@ -12,7 +12,8 @@ returns g c small =
     let digits = decimal c.args.value in
     let said = primitive_name c.args.prim ++ 32 ∷ digits in
     let all = indented visit.depth said in
-    let named = c.push.ensures all (32 ∷ digits) (lacks_as _ all _ _ (ap (λ n. n ++ 32 ∷ digits) (sym c.primitive_name.ensures.name)) (c.indent-text.ensures said)) in
+    let named = c.push.ensures all (32 ∷ digits)
+    (lacks_as _ all _ _ (ap (λ n. n ++ 32 ∷ digits) (sym c.primitive_name.ensures.name)) (c.indent-text.ensures said)) in
     let text = lacks_none _ all (c.push_number.ensures all [] (lacks_as _ all _ _ (sym (append-nil digits)) (c.push-2.ensures all digits named))) in
     as_text c.put_piece.result _ _ _ _ _ _
     (piece_is c.args.p.now.parse.input visit.depth visit.from visit.to said _ _ c.piece_of.ensures.at c.piece_of.ensures.bytes)
