@@ -8,3 +8,5 @@ pub mod Pieces
 pub mod Walked
 -- places that no leaf has
 pub mod Runs
+-- all that is written is plain
+pub mod Plain

@@ -2,5 +2,7 @@
 pub mod Bare
 -- the tree beside the bytes
 pub mod View
+-- what holds of it
+pub mod Laws
 -- a text of a line, put together: what functions inside the crate promise each other
 pub mod Cutting

@@ -4,6 +4,7 @@
 mod bare;
 mod columns;
 mod cut;
+pub mod laws;
 mod names;
 mod tail;
 #[cfg(test)]
