@@ -31,18 +31,21 @@ module _ (heights : HeightsAgree) where
     one_text show.Lines g input one a b e f = e ∙ sym f
     one_text (show.Picked query) g input one a b e f = e ∙ sym f
     one_text show.Json g input one a b e f = e ∙ sym f
+    one_text show.View g input one a b e f = e ∙ sym f
     one_text show.Bytes g input one a b e f = (once (leaves_of one) (length input)).one_back a b e f
 
     never_both : (show : Show) (g : Grammar) (input : List ℕ) (one : Tree) (a : List ℕ) (at : ℕ) → Shows show g input one a → Misses show input one at → ⊥
     never_both show.Lines g input one a at e f = f
     never_both (show.Picked query) g input one a at e f = f
     never_both show.Json g input one a at e f = f
+    never_both show.View g input one a at e f = f
     never_both show.Bytes g input one a at e f = let none = (once (leaves_of one) (length input)).never_both a (Gap at) e f in absurd (cc)
 
     one_place : (show : Show) (input : List ℕ) (one : Tree) (at other : ℕ) → Misses show input one at → Misses show input one other → at ≡ other
     one_place show.Lines input one at other e f = absurd e
     one_place (show.Picked query) input one at other e f = absurd e
     one_place show.Json input one at other e f = absurd e
+    one_place show.View input one at other e f = absurd e
     one_place show.Bytes input one at other e f = elim ((once (leaves_of one) (length input)).one_fault (Gap at) (Gap other) e f) [
       | inl none ↦ absurd (cc)
       | inr more ↦ elim more [ inl none ↦ absurd (cc) | inr same ↦ cc ]

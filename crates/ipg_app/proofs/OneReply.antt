@@ -22,7 +22,7 @@ use Rattle.ipg_query_path.specs.Paths.{IsPath, IsFirstFault}
 use Rattle.ipg_app_words.specs.Request as words
 use Rattle.ipg_app_words.specs.Request.{Request, Use, Fmt, Trial, Query, Load, request_of}
 use Rattle.ipg_app.specs.declared.task.Show.{Show}
-use Rattle.ipg_app.specs.declared.task.Show.TheVariants.{Lines, Picked, Bytes, Json}
+use Rattle.ipg_app.specs.declared.task.Show.TheVariants.{Lines, Picked, Bytes, Json, View}
 use Rattle.ipg_app.specs.Certificate.{Reads, Judges, cert_text, proof_said}
 use Rattle.ipg_app.specs.Checks.{Checks}
 use Rattle.ipg_app.specs.Editing.{ReadsScript, Edits, edit_text}
@@ -293,6 +293,7 @@ module _ (told : List ℕ → Told) where
     one_request (Some (Use grammar words.Cover)) settled = one_use grammar Cover tt
     one_request (Some (Use grammar (words.Rebuild input))) settled = one_use grammar (Parse Bytes input) tt
     one_request (Some (Use grammar (words.Json input))) settled = one_use grammar (Parse Json input) tt
+    one_request (Some (Use grammar (words.View input))) settled = one_use grammar (Parse View input) tt
     one_request (Some (Use grammar (words.Edit input script))) settled = one_use grammar (Edit input script) tt
     one_request (Some (Load table input)) settled =
         one_read table (λ bytes. have (input_in bytes) (load_in input)) (known table)

@@ -135,15 +135,6 @@ module _ (g : Grammar) (k : ℕ) (kept : List Key) (edit : Edit) (given : Answer
 
 -- ---- all edits
 
--- what is said of a session's input is said of the input that it was made of
-pub said_of_input : (g : Grammar) (input : List ℕ) (edits these : List Edit) (old : Seen) (text : Result (List ℕ) ℕ) → old.input ≡ input → these ≡ edits
-    → EditsSay g 0 old.input [] these text → Edits g input edits (edits_said text)
-said_of_input g input edits these old text same e h = record {
-  text = text;
-  say = subst (λ es. EditsSay g 0 input [] es text) e (subst (λ s. EditsSay g 0 s [] these text) same h);
-  is = refl;
-}
-
 -- what a session that begins with the input says, is said of the input
 pub as_due : {E : Type 0} (r : Result Status E) (g : Grammar) (input other : List ℕ) (edits these : List Edit) (old : Seen) (before : Option Output)
     (counted : ℕ) (after : Option Output) (counts : ℕ) → other ≡ input → these ≡ edits

@@ -57,6 +57,7 @@ HasOneReply (Some (Use grammar words.Table)) = ⊥
 HasOneReply (Some (Use grammar words.Cover)) = Unit {0}
 HasOneReply (Some (Use grammar (words.Rebuild input))) = Unit {0}
 HasOneReply (Some (Use grammar (words.Json input))) = Unit {0}
+HasOneReply (Some (Use grammar (words.View input))) = Unit {0}
 HasOneReply (Some (Use grammar (words.Edit input script))) = Unit {0}
 HasOneReply (Some (Fmt grammar)) = Unit {0}
 HasOneReply (Some (Trial kind n)) = ⊥

@@ -14,7 +14,7 @@ use Rattle.ipg_formats.specs.Text.{text_of}
 use Rattle.ipg_app_words.specs.Request as words
 use Rattle.ipg_app_words.specs.Request.{Request, Use, Fmt, Trial, Query, Load, request_of}
 use Rattle.ipg_app.specs.declared.task.Show.{Show}
-use Rattle.ipg_app.specs.declared.task.Show.TheVariants.{Lines, Picked, Bytes, Json}
+use Rattle.ipg_app.specs.declared.task.Show.TheVariants.{Lines, Picked, Bytes, Json, View}
 use Rattle.ipg_app.specs.Said.{Said, done, done_line, usage, no_parse, range, too_large}
 use Rattle.ipg_app.specs.CoreOf.{grammar_in, CoreOf}
 use Rattle.ipg_app.specs.Checks.{Checks}
@@ -238,6 +238,7 @@ task_of words.Table = Table
 task_of words.Cover = Cover
 task_of (words.Rebuild input) = Parse Bytes input
 task_of (words.Json input) = Parse Json input
+task_of (words.View input) = Parse View input
 task_of (words.Edit input script) = Edit input script
 
 abbrev pub order_by : Task → Grammar → Order

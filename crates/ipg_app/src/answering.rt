@@ -10,6 +10,7 @@ ghost use Rattle.ipg_mach_nodes.specs.Stored.{Source};
 ghost use Rattle.ipg_query.specs.Hits.{IsTree};
 ghost use Rattle.ipg_query.specs.Picked.{picked};
 ghost use Rattle.ipg_tree.specs.Json.{json};
+ghost use Rattle.ipg_tree_view.specs.View.{view};
 ghost use Rattle.ipg_app.specs.Answered.{Answers, Fails, PutsText, PutsTree};
 ghost use Rattle.ipg_app.specs.Queried.{picks_text};
 ghost use Rattle.ipg_app.specs.declared.task.Show.TheVariants as show;
@@ -24,6 +25,7 @@ use ipg_query::select;
 use ipg_query_path::Query;
 use ipg_table::tables::compile;
 use ipg_tree::{print, print_json};
+use ipg_tree_view::{bare_places, print_view};
 use linked_list_allocator::LocalHeap;
 use std::alloc::{AllocError, Allocator, Global};
 
@@ -104,6 +106,23 @@ fn put_json<A: Allocator + Clone + Drop, S: Sink>(
     }
 }
 
+/// Writes a parsed tree beside its input, once it is known which bytes no leaf has.
+fn put_view<A: Allocator + Clone + Drop, S: Sink>(
+    alloc: Global,
+    input: &[u8],
+    parsed: &mut Parsed<'_, A>,
+    out: &mut S,
+) -> Result<Given, AnswerFault>
+    ensures { (src : Source) (g : Grammar) (one : Tree) → IsTree parsed.old.parse src g one → parsed.old.parse.input ≡ input.now
+        → PutsText result (view g input.now one) (S.output out.old) (S.faults out.old) (S.output out.new) (S.faults out.new) }
+{
+    let bare = bare_places(alloc, parsed, input)?;
+    match print_view(parsed, &bare, out) {
+        Ok(()) => Ok(Given::Tree),
+        Err(_) => Err(AnswerFault::Write),
+    }
+}
+
 /// Writes what a path picks of a parsed tree, once all of it is picked.
 fn put_picked<A: Allocator + Clone + Drop, S: Sink>(
     alloc: Global,
@@ -169,6 +188,7 @@ fn put<A: Allocator + Clone + Drop, S: Sink>(
         Show::Picked(query) => put_picked(alloc, query, parsed, out),
         Show::Bytes => put_bytes(alloc, input, parsed, out),
         Show::Json => put_json(parsed, out),
+        Show::View => put_view(alloc, input, parsed, out),
     }
 }
 

@@ -96,6 +96,11 @@ fn task_of(task: Wanted<'_>) -> Task<'_>
             room: TREE_ROOM,
             show: Show::Json,
         },
+        Wanted::View { input } => Task::Parse {
+            input,
+            room: TREE_ROOM,
+            show: Show::View,
+        },
         Wanted::Check => Task::Check,
         Wanted::Cert => Task::Cert,
         Wanted::Verify { certificate } => Task::Verify { certificate },

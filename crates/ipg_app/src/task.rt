@@ -14,6 +14,8 @@ pub enum Show {
     Bytes,
     /// Its JSON text.
     Json,
+    /// Its lines beside the bytes.
+    View,
 }
 
 /// What is done with a core grammar.

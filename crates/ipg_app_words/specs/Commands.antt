@@ -43,6 +43,9 @@ rebuild = with_rule (on_grammar (codes "rebuild")) (required (codes "FILE"))
 abbrev pub json : App
 json = with_rule (on_grammar (codes "json")) (required (codes "FILE"))
 
+abbrev pub view : App
+view = with_rule (on_grammar (codes "view")) (required (codes "FILE"))
+
 abbrev pub edit : App
 edit = with_rule (with_rule (on_grammar (codes "edit")) (required (codes "FILE"))) (required (codes "SCRIPT"))
 

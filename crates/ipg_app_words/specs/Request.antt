@@ -22,6 +22,7 @@ pub data Task : Type 0 where
   Cover : Task
   Rebuild : (input : Text) → Task
   Json : (input : Text) → Task
+  View : (input : Text) → Task
   Edit : (input script : Text) → Task
 
 pub data Request : Type 0 where
@@ -52,6 +53,11 @@ abbrev pub json_task : List Row → Option Task
 json_task rows = do
   input ← first_of (codes "FILE") rows
   Some (Json input)
+
+abbrev pub view_task : List Row → Option Task
+view_task rows = do
+  input ← first_of (codes "FILE") rows
+  Some (View input)
 
 abbrev pub edit_task : List Row → Option Task
 edit_task rows = do
@@ -131,7 +137,8 @@ request_by name words = if bytes_eq name (codes "parse") then use_words command.
     else (if bytes_eq name (codes "rebuild") then use_words command.rebuild rebuild_task words
     else (if bytes_eq name (codes "edit") then use_words command.edit edit_task words
     else (if bytes_eq name (codes "json") then use_words command.json json_task words
-    else None))))))))))))
+    else (if bytes_eq name (codes "view") then use_words command.view view_task words
+    else None)))))))))))))
 
 -- nothing where the words are no command's
 abbrev pub request_of : List Text → Option Request

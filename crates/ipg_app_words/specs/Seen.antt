@@ -1,6 +1,6 @@
 -- What the words ask for, as the code has it.
 use Rattle.std.specs.Prelude.{ℕ, List, Bool, not, ◌==◌, ◌&&◌, slice_index}
-use Rattle.ipg_app_words.specs.Request.{Task, Parse, Check, Cert, Verify, Table, Cover, Rebuild, Json, Edit, Request, Use, Fmt, Trial, Query, Load}
+use Rattle.ipg_app_words.specs.Request.{Task, Parse, Check, Cert, Verify, Table, Cover, Rebuild, Json, View, Edit, Request, Use, Fmt, Trial, Query, Load}
 use Rattle.ipg_app_words.specs.declared.asking.Asked.{Asked}
 use Rattle.ipg_app_words.specs.declared.asking.Asked.TheVariants as asked
 use Rattle.ipg_app_words.specs.declared.asking.Wanted.{Wanted}
@@ -15,6 +15,7 @@ task_seen wanted.Table = Table
 task_seen wanted.Cover = Cover
 task_seen (wanted.Rebuild input) = Rebuild input.now
 task_seen (wanted.Json input) = Json input.now
+task_seen (wanted.View input) = View input.now
 task_seen (wanted.Edit input script) = Edit input.now script.now
 
 abbrev pub seen : Asked → Request

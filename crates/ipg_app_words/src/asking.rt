@@ -31,6 +31,10 @@ pub enum Wanted<'a> {
     Json {
         input: &'a str,
     },
+    /// The tree of an input beside its bytes.
+    View {
+        input: &'a str,
+    },
     /// The answers of an input that a script edits.
     Edit {
         input: &'a str,

@@ -74,6 +74,12 @@ pub fn json<'a>(alloc: Global) -> Result<Command<'a>, AllocError>
     on_grammar(alloc, "json")?.arg(required(alloc, "FILE"))
 }
 
+pub fn view<'a>(alloc: Global) -> Result<Command<'a>, AllocError>
+    ensures { IfOk result (λ command. app_of command ≡ spec.view) }
+{
+    on_grammar(alloc, "view")?.arg(required(alloc, "FILE"))
+}
+
 pub fn edit<'a>(alloc: Global) -> Result<Command<'a>, AllocError>
     ensures { IfOk result (λ command. app_of command ≡ spec.edit) }
 {

@@ -4,11 +4,11 @@ ghost use Rattle.std.specs.String.{string_bytes};
 ghost use Rattle.clap.specs.Words.{rows_of, found_of};
 ghost use Rattle.ipg_app_words.specs.Commands as command;
 ghost use Rattle.ipg_app_words.specs.Request as spec;
-ghost use Rattle.ipg_app_words.specs.Request.{request_of, request_by, edit_task, json_task, parse_task, rebuild_task, verify_task};
+ghost use Rattle.ipg_app_words.specs.Request.{request_of, request_by, edit_task, json_task, parse_task, rebuild_task, verify_task, view_task};
 ghost use Rattle.ipg_app_words.specs.Seen.{seen, task_seen};
 
 use crate::asking::{Asked, Wanted};
-use crate::commands::{edit, json, load, on_grammar, parse, query, rebuild, trial, verify};
+use crate::commands::{edit, json, load, on_grammar, parse, query, rebuild, trial, verify, view};
 use crate::matching::{taken, value};
 use crate::settings::{count, memo, mib};
 use clap::ArgMatches;
@@ -45,6 +45,7 @@ fn request_by<'a>(
         "rebuild" => rebuild_request(alloc, words),
         "edit" => edit_request(alloc, words),
         "json" => json_request(alloc, words),
+        "view" => view_request(alloc, words),
         _ => Ok(None),
     }
 }
@@ -81,6 +82,15 @@ fn json_request<'a>(alloc: Global, words: &'a [String]) -> Result<Option<Asked<'
 {
     match taken(json(alloc)?, words)? {
         Some(matches) => Ok(use_of(&matches, json_wanted(&matches))),
+        None => Ok(None),
+    }
+}
+
+fn view_request<'a>(alloc: Global, words: &'a [String]) -> Result<Option<Asked<'a>>, AllocError>
+    ensures { IfOk result (λ asked. option_map seen asked ≡ spec.use_words command.view view_task (map string_bytes words.now)) }
+{
+    match taken(view(alloc)?, words)? {
+        Some(matches) => Ok(use_of(&matches, view_wanted(&matches))),
         None => Ok(None),
     }
 }
@@ -209,6 +219,14 @@ fn json_wanted<'a>(matches: &ArgMatches<'a>) -> Option<Wanted<'a>>
     ensures { option_map task_seen result ≡ json_task (rows_of (found_of matches.now)) }
 {
     Some(Wanted::Json {
+        input: value(matches, "FILE")?,
+    })
+}
+
+fn view_wanted<'a>(matches: &ArgMatches<'a>) -> Option<Wanted<'a>>
+    ensures { option_map task_seen result ≡ view_task (rows_of (found_of matches.now)) }
+{
+    Some(Wanted::View {
         input: value(matches, "FILE")?,
     })
 }

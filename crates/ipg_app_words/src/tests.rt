@@ -56,7 +56,7 @@ fn reads_settings(rt: HostRuntime) -> anyhow::Result<()> {
     Ok(())
 }
 
-const REFUSED: [&[&str]; 48] = [
+const REFUSED: [&[&str]; 49] = [
     &[],
     &["parse"],
     &["parse", "g"],
@@ -93,6 +93,7 @@ const REFUSED: [&[&str]; 48] = [
     &["cover", "g", "f"],
     &["rebuild", "g"],
     &["json", "g"],
+    &["view", "g"],
     &["edit", "g", "f"],
     &["fmt", "g", "f"],
     &["cert", "--help"],

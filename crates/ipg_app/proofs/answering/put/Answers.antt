@@ -2,6 +2,7 @@ use Rattle.std.proofs.Common.{List, ℕ, refl, sym, ap, subst}
 use Rattle.ipg_core.specs.Lines.{lines}
 use Rattle.ipg_query.specs.Picked.{picked}
 use Rattle.ipg_tree.specs.Json.{json}
+use Rattle.ipg_tree_view.specs.View.{view}
 use Rattle.ipg_app.specs.Queried.{picks_text}
 use Rattle.ipg_app.specs.Shown.{Shows}
 use Rattle.ipg_app.proofs.Meant.{puts_of}
@@ -18,6 +19,12 @@ returns-in-Json g c src grammar one h same =
     let text = json grammar one in
     let shows = subst (λ show. Shows show grammar c.args.input.now one text) (sym c.in-Json.is) refl in
     puts_of c.args.show.now grammar c.args.input.now one text c.put_json.result _ _ _ _ shows (c.put_json.ensures src grammar one h)
+
+pub returns-in-View : goal.returns-in-View
+returns-in-View g c src grammar one h same =
+    let text = view grammar c.args.input.now one in
+    let shows = subst (λ show. Shows show grammar c.args.input.now one text) (sym c.in-View.is) refl in
+    puts_of c.args.show.now grammar c.args.input.now one text c.put_view.result _ _ _ _ shows (c.put_view.ensures src grammar one h same)
 
 pub returns-in-Picked : goal.returns-in-Picked
 returns-in-Picked g c src grammar one h same =
