@@ -31,8 +31,8 @@ returns-in-Ok g c src grammar one h same =
     (c.in_ok-bare.ensures.bare src grammar one tree) in
     (refl, whole_as _ _ _ _ _ _ is (c.in-Ok.ensures.view src grammar one here))
 
-pub returns-in-Err : goal.returns-in-Err
-returns-in-Err g c src grammar one h same =
+pub returns : goal.returns
+returns g c src grammar one h same =
     let tree = printable c.args.parsed.now.parse src grammar one h in
     let here = subst (λ q. printed.IsTree q src grammar one) (sym c.in_ok-bare.ensures.parse) tree in
     let is = view_is grammar c.args.input.now one _ _ _ _ c.in_ok-bare.ensures.parse same c.deref.ensures.value
