@@ -1,0 +1,2 @@
+-- what `help` and `version` write
+pub mod Help
