@@ -1,5 +1,6 @@
 -- What is kept of a text that is put together.
-use Rattle.std.proofs.Common.{◌≡◌, ℕ, zero, suc, ◌+◌, ◌-◌, ◌*◌, ◌<◌, ◌≤◌, List, [], ◌∷◌, ◌++◌, length, map, take, set, min, refl, sym, ap, ◌∙◌, subst, arith, append_assoc, append-nil, true, false}
+use Rattle.std.proofs.Common.{◌≡◌, ℕ, zero, suc, ◌+◌, ◌-◌, ◌*◌, ◌<◌, ◌≤◌, List, [], ◌∷◌, ◌++◌, length, map, take}
+use Rattle.std.proofs.Common.{set, min, refl, sym, ap, ◌∙◌, subst, arith, append_assoc, append-nil, true, false}
 use Rattle.std.specs.Prelude.{nat_lt, nat_le, codes, decimal, if◌then◌else◌, Bool, ◌/◌, ◌%◌}
 use Rattle.ipg_core.specs.Grammar.{Grammar}
 use Rattle.ipg_core.specs.Lines.{digit}

@@ -1,5 +1,6 @@
 -- A tree beside its bytes is written in characters of ASCII and line feeds.
-use Rattle.std.proofs.Common.{◌≡◌, ℕ, zero, suc, ◌+◌, ◌-◌, ◌*◌, ◌/◌, ◌%◌, ◌^◌, ◌<◌, List, [], ◌∷◌, ◌++◌, length, map, take, drop, flat_map, refl, sym, ap, ◌∙◌, arith}
+use Rattle.std.proofs.Common.{◌≡◌, ℕ, zero, suc, ◌+◌, ◌-◌, ◌*◌, ◌/◌, ◌%◌, ◌^◌, ◌<◌, List, [], ◌∷◌}
+use Rattle.std.proofs.Common.{◌++◌, length, map, take, drop, flat_map, refl, sym, ap, ◌∙◌, arith}
 use Rattle.std.proofs.Common.{Bool, true, false, ◌&&◌}
 use Rattle.std.specs.Prelude.{◌||◌, nat_eq, nat_le, nat_lt, codes, decimal, slice_index, if◌then◌else◌, None}
 use Rattle.std.specs.Int.{w32, to_be_bytes, bytes_high_first, byte_at}
@@ -11,7 +12,8 @@ use Rattle.ipg_core.specs.Tree as tree
 use Rattle.ipg_core.specs.Tree.{Kid}
 use Rattle.ipg_tree_walk.specs.Visits.{visits}
 use Rattle.ipg_tree_view.specs.Bare.{bare_of, runs}
-use Rattle.ipg_tree_view.specs.View.{blanks, printable, offset, cells, filled, columns, cut, line, more_line, bare_line, indented, interval, node_text, items_text, count_line, piece, piece_of, kid_view, seen_view, gap_view}
+use Rattle.ipg_tree_view.specs.View.{blanks, printable, offset, cells, filled, columns, cut, line, more_line, bare_line, indented, interval}
+use Rattle.ipg_tree_view.specs.View.{node_text, items_text, count_line, piece, piece_of, kid_view, seen_view, gap_view}
 use Rattle.ipg_tree_view.specs.Laws.{is_plain, IsPlain, ViewIsPlain}
 
 abbrev AreBytes : List ℕ → Type 0

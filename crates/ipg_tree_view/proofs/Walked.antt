@@ -1,5 +1,6 @@
 -- What a walk over a tree shows, visit by visit.
-use Rattle.std.proofs.Common.{◌≡◌, ℕ, zero, suc, ◌+◌, ◌<◌, ◌≤◌, List, [], ◌∷◌, ◌++◌, length, map, drop, get_or, refl, sym, ap, ◌∙◌, subst, Option, Some, None, add-one, arith}
+use Rattle.std.proofs.Common.{◌≡◌, ℕ, zero, suc, ◌+◌, ◌<◌, ◌≤◌, List, [], ◌∷◌, ◌++◌, length, map, drop}
+use Rattle.std.proofs.Common.{get_or, refl, sym, ap, ◌∙◌, subst, Option, Some, None, add-one, arith}
 use Rattle.std.specs.Prelude.{Bool, true, false, not, ◌&&◌, ◌-◌, ◌*◌, ◌^◌, slice_get, ⊤, codes, decimal}
 use Rattle.std.proofs.Math.Seq.{drop-cons}
 use Rattle.ipg_core.specs.declared.grammar.CoreRule.{CoreRule}

@@ -1,6 +1,7 @@
 //! The tree beside the bytes.
 
-ghost use Rattle.std.specs.Prelude.{◌≡◌, ◌+◌, ◌-◌, ◌*◌, ◌<◌, ◌≤◌, ◌^◌, ◌++◌, ◌∷◌, [], ℕ, ℤ, List, map, take, drop, length, codes, slice_get, Some, None, Option, Bool, flat_map, decimal};
+ghost use Rattle.std.specs.Prelude.{◌≡◌, ◌+◌, ◌-◌, ◌*◌, ◌<◌, ◌≤◌, ◌^◌, ◌++◌, ◌∷◌, [], ℕ, ℤ, List, map};
+ghost use Rattle.std.specs.Prelude.{take, drop, length, codes, slice_get, Some, None, Option, Bool, flat_map, decimal};
 ghost use Rattle.ipg_core.specs.declared.grammar.Sym.{Sym};
 ghost use Rattle.ipg_core.specs.Grammar.{Grammar};
 ghost use Rattle.ipg_core.specs.Lines as lines;
