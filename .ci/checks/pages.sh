@@ -11,5 +11,5 @@ top=$PWD
 . dist/sources.sh
 ./ipg check @gif >/dev/null || exit 1
 is_built || program=dist/ipg
-pages=(README.md formats/README.md docs/{PATTERNS,REFUSALS,TUTORIAL,MANY,QUERY,JSON,VIEW,EDITS,COVER,TABLE,CERTIFICATE}.md)
+pages=(README.md formats/README.md docs/{EXPLAIN,PATTERNS,REFUSALS,TUTORIAL,MANY,QUERY,JSON,VIEW,EDITS,COVER,TABLE,CERTIFICATE}.md)
 exec python3 .ci/pages.py "$program" "${pages[@]}"

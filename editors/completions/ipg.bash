@@ -9,9 +9,10 @@ _ipg() {
   esac
   if [ -z "$choices" ]; then
     case ${COMP_WORDS[1]}:$COMP_CWORD in
-      *:1) choices="parse query check cert verify table load cover rebuild edit json view fmt trial" ;;
+      *:1) choices="parse query check cert verify table load cover rebuild edit json view fmt trial explain help version" ;;
       trial:2) choices="elf pe gif pcap" ;;
-      parse:2 | query:2 | check:2 | cert:2 | verify:2 | table:2 | cover:2 | rebuild:2 | edit:2 | json:2 | view:2 | fmt:2) choices="@elf @pe @gif @pcap" ;;
+      help:2) choices="parse query check cert verify table load cover rebuild edit json view fmt trial explain help version" ;;
+      parse:2 | query:2 | check:2 | explain:2 | cert:2 | verify:2 | table:2 | cover:2 | rebuild:2 | edit:2 | json:2 | view:2 | fmt:2) choices="@elf @pe @gif @pcap" ;;
       parse:*) case $word in -*) choices="--memo --arena" ;; esac ;;
     esac
   fi

@@ -4,6 +4,8 @@ pub mod Stages
 pub mod Replying
 pub mod OneCore
 pub mod OneCheck
+pub mod OneReason
+pub mod Explained
 pub mod OneVerdict
 pub mod OneParse
 pub mod Meant
@@ -15,4 +17,5 @@ pub mod Rebuilt
 pub mod Told
 pub mod Behind
 pub mod OneEdits
+pub mod OneTrial
 pub mod OneReply

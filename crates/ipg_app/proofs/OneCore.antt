@@ -29,7 +29,7 @@ touches_once one_limit g one other h k = h.is ∙ ap (λ m. unless_loose g (loos
 -- ---- the order is one, or gets stuck at one term
 
 module _ (one_limit : OneLimit) (orders_once : OrdersOnce) (good_is_not_stuck : GoodIsNotStuck) (stuck_once : StuckOnce) where
-  not_both : (c : Unordered) (g : Grammar) (said : Said) → Orders c (Ok g) → Circles c said → ⊥
+  pub not_both : (c : Unordered) (g : Grammar) (said : Said) → Orders c (Ok g) → Circles c said → ⊥
   not_both c g said h k = good_is_not_stuck g k.at k.term h.0 (subst (λ x. IsFirstStuck x k.at k.term) (sym h.1) k.first)
 
   circles_once : (c : Unordered) (one other : Said) → Circles c one → Circles c other → one ≡ other
@@ -46,7 +46,7 @@ module _ (one_limit : OneLimit) (orders_once : OrdersOnce) (good_is_not_stuck : 
       ∙ ap (λ u. circular k.first.rule.name k.at.1 u) same.1
       ∙ sym k.is
 
-  orders_same : (c : Unordered) (one other : Answer) → Orders c one → Orders c other → one ≡ other
+  pub orders_same : (c : Unordered) (one other : Answer) → Orders c one → Orders c other → one ≡ other
   orders_same c (Ok g) (Ok h) a b = ap Ok (orders_once g h a.0 b.0 (a.1 ∙ sym b.1))
   orders_same c (Ok g) (Err said) a b = absurd (not_both c g said a b)
   orders_same c (Err said) (Ok h) a b = absurd (not_both c h said b a)
@@ -57,7 +57,7 @@ module _ (one_limit : OneLimit) (orders_once : OrdersOnce) (good_is_not_stuck : 
       let same = orders_same c h.ordered k.ordered h.orders k.orders in
       on_once k.ordered Touches (touches_once one_limit) one other (subst (λ r. On r Touches one) same h.touches) k.touches
 
-  from_once : (g : written.Grammar) (one other : Answer) → CoreFrom g one → CoreFrom g other → one ≡ other
+  pub from_once : (g : written.Grammar) (one other : Answer) → CoreFrom g one → CoreFrom g other → one ≡ other
   from_once g one other h k = on_once (resolved g) (λ (n : Resolved). OrdersAndTouches (completed n)) (λ n. whole_once (completed n)) one other h k
 
   pub one_core : OneCore

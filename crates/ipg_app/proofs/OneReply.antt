@@ -20,18 +20,21 @@ use Rattle.ipg_query_path.specs.declared.path.Query as paths
 use Rattle.ipg_query_path.specs.Laws.{OnePath}
 use Rattle.ipg_query_path.specs.Paths.{IsPath, IsFirstFault}
 use Rattle.ipg_app_words.specs.Request as words
-use Rattle.ipg_app_words.specs.Request.{Request, Use, Fmt, Trial, Query, Load, request_of}
+use Rattle.ipg_app_words.specs.Request.{Request, Use, Fmt, Trial, Query, Load, Explain, Help, Version, request_of}
 use Rattle.ipg_app.specs.declared.task.Show.{Show}
 use Rattle.ipg_app.specs.declared.task.Show.TheVariants.{Lines, Picked, Bytes, Json, View}
 use Rattle.ipg_app.specs.Certificate.{Reads, Judges, cert_text, proof_said}
 use Rattle.ipg_app.specs.Checks.{Checks}
 use Rattle.ipg_app.specs.Editing.{ReadsScript, Edits, edit_text}
 use Rattle.ipg_app.specs.CoreOf.{CoreOf, grammar_in}
-use Rattle.ipg_app.specs.Laws.{OneCore, OneCheck, OneParse, OneEdits, OneReply, HasOneReply}
+use Rattle.ipg_app.specs.Laws.{OneCore, OneCheck, OneParse, OneEdits, OneExplained, OneTrial, OneReply, HasOneReply}
 use Rattle.ipg_app.specs.Order.{Order, Answers, says, finds, reads, only, have}
 use Rattle.ipg_app.specs.Path.{ReadsPath, query_syntax}
 use Rattle.ipg_app.specs.Reply.{Task, Parse, Check, Cert, Verify, Table, Cover, Edit, text_by, core_of, accepted, input_in, parse_input, judge, formatted}
-use Rattle.ipg_app.specs.Reply.{order_by, order_on, use_order, load_in, Parses, edit_file, edit_input, edits_of}
+use Rattle.ipg_app.specs.Reply.{order_by, order_on, use_order, load_in, Parses, edit_file, edit_input, edits_of, trial_of, try_core}
+use Rattle.ipg_app.specs.Explained.{Explains}
+use Rattle.ipg_app.specs.Helped.{help_said, version_said}
+use Rattle.ipg_app.specs.Trial.{kind_by, parts_in, Tries}
 use Rattle.ipg_app.specs.Covering.{CoverSays, may_gap}
 use Rattle.ipg_cover.specs.Laws.{CoveredHasNoGap, OneGap}
 use Rattle.ipg_app.specs.Tables.{Loads, load_said}
@@ -226,7 +229,7 @@ module _ (told : List ℕ → Told) where
 
   module _ (one_core : OneCore) (one_check : OneCheck) (one_parse : OneParse) (one_path : OnePath) (no_fault : ProvesIsNoFault) (is_one : FaultIsOne)
       (load_once : LoadOnce) (no_gap : CoveredHasNoGap) (one_gap : OneGap)
-      (one_edits : OneEdits) (one_script : OneScript) (known : (name : List ℕ) → told name ≢ untold) where
+      (one_edits : OneEdits) (one_script : OneScript) (one_explained : OneExplained) (one_trial : OneTrial) (known : (name : List ℕ) → told name ≢ untold) where
     one_accepted : (g : Grammar) (next : Grammar → Order) → ((same : Grammar) → IsOne (next same)) → IsOne (accepted g next)
     one_accepted g next each =
         one_found (Checks g) (λ answer. have answer next) (one_check g) (λ answer. one_have answer next each)
@@ -301,13 +304,25 @@ module _ (told : List ℕ → Told) where
     one_request (Some (Fmt grammar)) settled =
         one_text (kind_of grammar) grammar (λ text. have (grammar_in text) formatted) (known grammar)
         (λ text. one_have (grammar_in text) formatted (λ g. one_only (done (canonical_text g))))
-    one_request (Some (Trial kind n)) settled = absurd settled
+    one_request (Some (Trial name n)) settled =
+        one_have (kind_by name) (trial_of name n) (λ kind.
+        one_have (parts_in n) (tried name kind) (λ parts.
+        one_core_of (text_of kind) (try_core name kind parts) (λ g.
+        one_accepted g (λ same. says (Tries name kind parts same)) (one_trial name kind parts))))
+      where
+        tried : List ℕ → Kind → ℕ → Order
+        tried name kind parts = core_of (text_of kind) (try_core name kind parts)
+    one_request (Some (Explain grammar)) settled =
+        one_text (kind_of grammar) grammar (λ text. says (Explains grammar text)) (known grammar) (one_explained grammar)
+    one_request (Some (Help command)) settled = one_only (help_said command)
+    one_request (Some Version) settled = one_only version_said
     one_request (Some (Query grammar input path)) settled =
         one_found (ReadsPath path) (λ read. have read (λ query. use_order grammar (Parse (Picked query) input))) (path_same one_path path)
         (λ read. one_have read (λ query. use_order grammar (Parse (Picked query) input)) (λ query. one_use grammar (Parse (Picked query) input) tt))
 
 pub one_reply : OneCore → OneCheck → OneParse → OnePath → ProvesIsNoFault → FaultIsOne → LoadOnce → CoveredHasNoGap → OneGap → OneEdits → OneScript
-    → OneReply
-one_reply one_core one_check one_parse one_path no_fault is_one load_once no_gap one_gap one_edits one_script told words one other known plain =
-    one_request told one_core one_check one_parse one_path no_fault is_one load_once no_gap one_gap one_edits one_script known (request_of words) plain
-    one other
+    → OneExplained → OneTrial → OneReply
+one_reply one_core one_check one_parse one_path no_fault is_one load_once no_gap one_gap one_edits one_script one_explained one_trial
+    told words one other known plain =
+    one_request told one_core one_check one_parse one_path no_fault is_one load_once no_gap one_gap one_edits one_script one_explained one_trial
+    known (request_of words) plain one other

@@ -12,7 +12,7 @@ use Rattle.ipg_app.specs.Order.{Order, says, finds, reads, Answers, Turn, have}
 use Rattle.ipg_formats.specs.declared.Kind.{Kind}
 use Rattle.ipg_formats.specs.Names.{kind_of}
 use Rattle.ipg_formats.specs.Text.{text_of}
-use Rattle.ipg_app.specs.Reply.{input_in, text_by, grammar_of, core_of, grammar_under, core_under, accepted, path_in, script_in, held_in, max_input}
+use Rattle.ipg_app.specs.Reply.{input_in, text_by, text_under, grammar_of, core_of, grammar_under, core_under, accepted, path_in, script_in, held_in, max_input}
 use Rattle.ipg_app.specs.Tables.{Loads}
 use Rattle.ipg_query_path.specs.declared.path.Query.{Query}
 use Rattle.ipg_app.specs.Path.{ReadsPath}
@@ -59,6 +59,14 @@ module _ (told : List ℕ → Told) (before after : List ℕ → ℕ) where
   pub file_grammar_on : (name : List ℕ) (next : written.Grammar → Order) (said : Said) → kind_of name ≡ None → Settled (grammar_in_file name next) said
       → Settled (grammar_under name next) said
   file_grammar_on name next said e h = by_text None (kind_of name) e name (λ text. grammar_of text next) said h
+
+  pub named_text_on : (kind : Kind) (name : List ℕ) (next : List ℕ → Order) (said : Said) → kind_of name ≡ Some kind → Settled (next (text_of kind)) said
+      → Settled (text_under name next) said
+  named_text_on kind name next said e h = by_text (Some kind) (kind_of name) e name next said h
+
+  pub file_text_on : (name : List ℕ) (next : List ℕ → Order) (said : Said) → kind_of name ≡ None → Settled (reads name next) said
+      → Settled (text_under name next) said
+  file_text_on name next said e h = by_text None (kind_of name) e name next said h
 
   -- the core grammar of a text leads on
   pub core_goes_on : (text : List ℕ) (next : Grammar → Order) (said : Said) (g : Grammar) → CoreOf text (Ok g) → Settled (next g) said

@@ -8,7 +8,11 @@ use Rattle.ipg_core.specs.Grammar.{Grammar, name_at}
 use Rattle.ipg_order.specs.Answer.{IsFirstStuck}
 use Rattle.ipg_app.specs.Said.{Said}
 use Rattle.ipg_app.specs.Refusal.{circular}
+use Rattle.ipg_ast.specs.declared.grammar.Grammar as written
+use Rattle.ipg_app_explain.specs.declared.why.Why.TheVariants as why
+use Rattle.ipg_app_explain.specs.Terms.{term_place}
 use Rattle.ipg_app.specs.CoreOf.{Answer, Circles, Orders, Touches, OrdersAndTouches}
+use Rattle.ipg_app.specs.Reasons.{Reason, listed, IsStuck}
 
 -- more is known of a value, or of what is said
 pub if_match : {A S E : Type 0} (r : Result (Result A S) E) (P R : A → Type 0) (Q T : S → Type 0) → ((a : A) → P a → R a) → ((s : S) → Q s → T s)
@@ -29,11 +33,14 @@ head_of [] r rule e = absurd (cc)
 head_of (x ∷ rules) zero rule e = ap (λ (y : CoreRule). y.name) (let same : rule_of x ≡ rule = cc in same)
 head_of (x ∷ rules) (suc r) rule e = head_of rules r rule e
 
-pub circles : (c : Unordered) (r a u : ℕ) (heads : List (List ℕ)) (said : Said) → heads ≡ map (λ x. x.name) c.rules → IsFirstStuck (core_of c) (r, a) u
-    → said ≡ circular (name_at heads r) a u → Circles c said
-circles c r a u heads said same first e = record {
-  at = (r, a);
-  term = u;
-  first = first;
-  is = e ∙ ap (λ name. circular name a u) (ap (λ names. name_at names r) same ∙ head_of c.rules r first.rule first.is_alt.is_rule);
-}
+pub stuck : (g : written.Grammar) (c : Unordered) (r a u : ℕ) (heads : List (List ℕ)) (reason : Reason) → heads ≡ map (λ x. x.name) c.rules
+    → IsFirstStuck (core_of c) (r, a) u
+    → reason ≡ record { said = circular (name_at heads r) a u; why = why.Circular; places = listed (term_place g r a u) } → IsStuck g c reason
+stuck g c r a u heads reason same first e =
+    let named : List ℕ → Reason = λ name. record { said = circular name a u; why = why.Circular; places = listed (term_place g r a u) } in
+    record {
+      at = (r, a);
+      term = u;
+      first = first;
+      is = e ∙ ap named (ap (λ names. name_at names r) same ∙ head_of c.rules r first.rule first.is_alt.is_rule);
+    }

@@ -7,6 +7,7 @@ use Rattle.ipg_app.specs.Said.{Said}
 use Rattle.ipg_app.specs.CoreOf.{grammar_in, CoreOf}
 use Rattle.ipg_app.specs.Order.{Order, Step, says, Answers, contents, ◌>>=◌}
 use Rattle.ipg_app.specs.Reply.{grammar_of, core_of}
+use Rattle.ipg_app.specs.Explained.{Explains}
 
 abbrev pub grammar_in_file : List ℕ → Step written.Grammar
 grammar_in_file name next = do
@@ -17,6 +18,11 @@ abbrev pub core_in_file : List ℕ → Step Grammar
 core_in_file name next = do
   text ← contents name
   core_of text next
+
+abbrev pub explain_in_file : List ℕ → Order
+explain_in_file name = do
+  text ← contents name
+  says (Explains name text)
 
 -- a name of which this is told may hold a text of the grammar
 pub record Found (told : Told) (g : written.Grammar) : Type 0 where

@@ -1,9 +1,9 @@
 -- What holds of core grammars and refusals.
-use Rattle.std.specs.Prelude.{◌≡◌, ◌≢◌, ◌≤◌, ℕ, List, length, Option, Some, None, Ok}
+use Rattle.std.specs.Prelude.{◌≡◌, ◌≢◌, ◌≤◌, ℕ, List, ◌++◌, length, Option, Some, None, Ok}
 use Rattle.ipg_outside.specs.Files.{Told, untold, holds}
 use Rattle.ipg_core.specs.Grammar.{Grammar}
 use Rattle.ipg_app_words.specs.Request as words
-use Rattle.ipg_app_words.specs.Request.{Request, Use, Fmt, Trial, Query, Load, request_of}
+use Rattle.ipg_app_words.specs.Request.{Request, Use, Fmt, Trial, Query, Load, Explain, Help, Version, request_of}
 use Rattle.ipg_core.specs.Good.{Good}
 use Rattle.ipg_core.specs.Grown.{IsInput}
 use Rattle.ipg_core.specs.Meaning.{Means}
@@ -13,7 +13,11 @@ use Rattle.ipg_app.specs.declared.task.Show.TheVariants.{Bytes}
 use Rattle.ipg_app.specs.Said.{Said, done}
 use Rattle.ipg_app.specs.Order.{Answers}
 use Rattle.ipg_app.specs.declared.task.Show.{Show}
-use Rattle.ipg_app.specs.Reply.{use_order, order_of, Check, verify, max_input, Parses}
+use Rattle.ipg_app.specs.Reply.{use_order, order_of, core_of, check, Check, verify, max_input, Parses}
+use Rattle.ipg_app.specs.Explained.{Explains}
+use Rattle.ipg_app.specs.Found.{Says}
+use Rattle.ipg_app.specs.Trial.{Tries}
+use Rattle.ipg_formats.specs.declared.Kind.{Kind}
 use Rattle.ipg_app.specs.Certificate.{Certifies, verified}
 use Rattle.ipg_app.specs.CoreOf.{Answer, CoreOf}
 use Rattle.ipg_app.specs.Checks.{Checks}
@@ -36,6 +40,26 @@ OneParse = (show : Show) (g : Grammar) (input : List ℕ) (one other : Said) →
 abbrev pub OneEdits : Type 0
 OneEdits = (g : Grammar) (input : List ℕ) (edits : List Edit) (one other : Said) → Edits g input edits one → Edits g input edits other → one ≡ other
 
+-- of a trial one thing is said
+abbrev pub OneTrial : Type 0
+OneTrial = (name : List ℕ) (kind : Kind) (n : ℕ) (g : Grammar) (one other : Said) → Tries name kind n g one → Tries name kind n g other → one ≡ other
+
+-- of a text under a name `explain` says one thing
+abbrev pub OneExplained : Type 0
+OneExplained = (name text : List ℕ) (one other : Said) → Explains name text one → Explains name text other → one ≡ other
+
+-- the status is that of what `check` says of the text, and the text begins with its line
+pub record BeginsAs (text : List ℕ) (said : Said) : Type 0 where
+  pub own : Said
+  pub checks : Says (core_of text check) own
+  pub status : said.status ≡ own.status
+  pub rest : List ℕ
+  pub begins : said.text ≡ own.text ++ rest
+
+-- what `explain` says begins so
+abbrev pub BeginsAsCheck : Type 0
+BeginsAsCheck = (name text : List ℕ) (said : Said) → Explains name text said → BeginsAs text said
+
 -- of a name of which something is told `check` says one thing
 abbrev pub OneVerdict : Type 0
 OneVerdict = (told : List ℕ → Told) (name : List ℕ) (one other : Said) → told name ≢ untold → Answers told (use_order name Check) one
@@ -46,7 +70,7 @@ abbrev pub CertIsVerified : Type 0
 CertIsVerified = (g : Grammar) (text : List ℕ) → Certifies g (done text) → length text ≤ max_input
     → (told : List ℕ → Told) (name : List ℕ) (said : Said) → told name ≡ holds text → Answers told (verify name g) said → said ≡ verified
 
--- `cert` and `table` may write any certificate that proves the grammar, and of a trial no such law is known
+-- `cert` and `table` may write any certificate that proves the grammar
 abbrev pub HasOneReply : Option Request → Type 0
 HasOneReply None = Unit {0}
 HasOneReply (Some (Use grammar (words.Parse input memo mib))) = Unit {0}
@@ -60,9 +84,12 @@ HasOneReply (Some (Use grammar (words.Json input))) = Unit {0}
 HasOneReply (Some (Use grammar (words.View input))) = Unit {0}
 HasOneReply (Some (Use grammar (words.Edit input script))) = Unit {0}
 HasOneReply (Some (Fmt grammar)) = Unit {0}
-HasOneReply (Some (Trial kind n)) = ⊥
+HasOneReply (Some (Trial kind n)) = Unit {0}
 HasOneReply (Some (Query grammar input path)) = Unit {0}
 HasOneReply (Some (Load table input)) = Unit {0}
+HasOneReply (Some (Explain grammar)) = Unit {0}
+HasOneReply (Some (Help command)) = Unit {0}
+HasOneReply (Some Version) = Unit {0}
 
 -- where `cover` says that a grammar leaves no byte out, `rebuild` says of an input that has a tree just that input
 abbrev pub CoveredIsRebuilt : Type 0

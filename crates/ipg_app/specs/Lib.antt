@@ -7,6 +7,10 @@ pub mod CoreOf
 -- whether parsing by it ends, and certificates that it does
 pub mod Checks
 pub mod Certificate
+-- where and why a grammar is refused, for a person; what is written for help
+pub mod Reasons
+pub mod Explained
+pub mod Helped
 -- table files
 pub mod Tables
 -- grammars that leave no byte out
@@ -30,6 +34,7 @@ pub mod Run
 pub mod Laws
 -- what functions inside the crate promise each other
 pub mod Lines
+pub mod Seen
 pub mod Telling
 pub mod Found
 pub mod Settled

@@ -12,7 +12,7 @@ use Rattle.ipg_edit_script.specs.declared.script.Edit as scripts
 use Rattle.ipg_formats.specs.Names.{kind_of}
 use Rattle.ipg_formats.specs.Text.{text_of}
 use Rattle.ipg_app_words.specs.Request as words
-use Rattle.ipg_app_words.specs.Request.{Request, Use, Fmt, Trial, Query, Load, request_of}
+use Rattle.ipg_app_words.specs.Request.{Request, Use, Fmt, Trial, Query, Load, Explain, Help, Version, request_of}
 use Rattle.ipg_app.specs.declared.task.Show.{Show}
 use Rattle.ipg_app.specs.declared.task.Show.TheVariants.{Lines, Picked, Bytes, Json, View}
 use Rattle.ipg_app.specs.Said.{Said, done, done_line, usage, no_parse, range, too_large}
@@ -23,6 +23,8 @@ use Rattle.ipg_app.specs.Tables.{Tables, Loads}
 use Rattle.ipg_app.specs.Covering.{CoverSays}
 use Rattle.ipg_app.specs.Editing.{ReadsScript, Edits}
 use Rattle.ipg_app.specs.Path.{ReadsPath}
+use Rattle.ipg_app.specs.Explained.{Explains}
+use Rattle.ipg_app.specs.Helped.{help_said, version_said}
 use Rattle.ipg_app.specs.Shown.{TreeSays}
 use Rattle.ipg_app.specs.Trial.{Tries, kind_by, parts_in}
 use Rattle.ipg_app.specs.Order.{Order, Step, says, only, found, have, contents, ◌>>=◌}
@@ -216,6 +218,12 @@ fmt grammar = do
   g ← grammar_under grammar
   formatted g
 
+-- G1 to G14 with their places, for a person
+abbrev pub explain : List ℕ → Order
+explain name = do
+  text ← text_under name
+  says (Explains name text)
+
 -- ---- words
 
 -- what is done with a core grammar
@@ -267,6 +275,9 @@ order_on (Some (Fmt grammar)) = fmt grammar
 order_on (Some (Trial kind n)) = trial kind n
 order_on (Some (Query grammar input path)) = query grammar input path
 order_on (Some (Load table input)) = load table input
+order_on (Some (Explain grammar)) = explain grammar
+order_on (Some (Help command)) = only (help_said command)
+order_on (Some Version) = only version_said
 order_on None = only usage
 
 abbrev pub order_of : List (List ℕ) → Order

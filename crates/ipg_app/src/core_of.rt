@@ -6,11 +6,19 @@ ghost use Rattle.ipg_core.specs.Good.{Good};
 ghost use Rattle.ipg_names.specs.Readable.{IsReadable};
 ghost use Rattle.ipg_app.specs.CoreOf.{CoreOf, resolved, Orders, Touches, OrdersAndTouches, CoreFrom, name_of};
 ghost use Rattle.ipg_app.specs.Lines.{said_of, line_bytes};
+ghost use Rattle.ipg_app.specs.Reasons.{CoreOrReason, IsLoose, IsStuck, IsUnnamed, IsUnordered};
+ghost use Rattle.ipg_app.specs.Reasons.{listed};
+ghost use Rattle.ipg_app.specs.Refusal as spec;
+ghost use Rattle.ipg_app.specs.Seen.{reason_of};
+ghost use Rattle.ipg_app_explain.specs.Terms as explain;
+ghost use Rattle.ipg_app_explain.specs.declared.why.Why.TheVariants as why;
 
 use crate::grammar::grammar_in;
-use crate::refusal::{TermPlace, circular, name_refusal, no_touch};
+use crate::reasons::{Reason, name_reason, reason_at};
+use crate::refusal::{TermPlace, circular, no_touch};
 use crate::room::{MOST_COMPLETED, completed_size};
 use crate::said::Settled;
+use ipg_app_explain::{TermAt, Why, term_place};
 use ipg_ast::Grammar;
 use ipg_complete::complete;
 use ipg_complete::completed::{Completed, CompletedRule};
@@ -27,9 +35,20 @@ pub fn core_of(alloc: Global, g: &Grammar) -> Result<Result<Core, Settled>, Allo
     requires { IsReadable g.now }
     ensures { IfOk result (λ made. MatchResult made (λ core. CoreFrom g.now (Ok core)) (λ settled. CoreFrom g.now (Err (said_of settled)))) }
 {
+    match core_or_reason(alloc, g)? {
+        Ok(core) => Ok(Ok(core)),
+        Err(reason) => Ok(Err(reason.said)),
+    }
+}
+
+/// The core grammar of a grammar, or why it has none.
+pub fn core_or_reason(alloc: Global, g: &Grammar) -> Result<Result<Core, Reason>, AllocError>
+    requires { IsReadable g.now }
+    ensures { IfOk result (λ made. MatchResult made (λ core. CoreOrReason g.now (Ok core)) (λ reason. CoreOrReason g.now (Err (reason_of reason)))) }
+{
     match named_in(alloc, g)? {
-        Ok(named) => core_in(alloc, completed_in(alloc, named)?),
-        Err(settled) => Ok(Err(settled)),
+        Ok(named) => core_in(alloc, g, completed_in(alloc, named)?),
+        Err(reason) => Ok(Err(reason)),
     }
 }
 
@@ -53,28 +72,28 @@ pub fn core_in_text(alloc: Global, text: &[u8]) -> Result<Result<Core, Settled>,
     }
 }
 
-fn named_in(alloc: Global, g: &Grammar) -> Result<Result<Named, Settled>, AllocError>
+fn named_in(alloc: Global, g: &Grammar) -> Result<Result<Named, Reason>, AllocError>
     requires { IsReadable g.now }
-    ensures { IfOk result (λ made. MatchResult made (λ named. resolved g.now ≡ Ok named) (λ settled. resolved g.now ≡ Err (said_of settled))) }
+    ensures { IfOk result (λ made. MatchResult made (λ named. resolved g.now ≡ Ok named) (λ reason. IsUnnamed g.now (reason_of reason))) }
 {
     match resolve(alloc, g) {
         Ok(named) => Ok(Ok(named)),
         Err(NameFault::Memory) => Err(AllocError),
-        Err(fault) => Ok(Err(name_refusal(alloc, fault)?)),
+        Err(fault) => Ok(Err(name_reason(alloc, fault)?)),
     }
 }
 
-fn core_in(alloc: Global, c: Completed) -> Result<Result<Core, Settled>, AllocError>
-    ensures { IfOk result (λ made. MatchResult made (λ core. OrdersAndTouches c (Ok core)) (λ settled. OrdersAndTouches c (Err (said_of settled)))) }
+fn core_in(alloc: Global, g: &Grammar, c: Completed) -> Result<Result<Core, Reason>, AllocError>
+    ensures { IfOk result (λ made. MatchResult made (λ core. OrdersAndTouches c (Ok core)) (λ reason. IsUnordered g.now c (reason_of reason))) }
 {
-    match ordered_in(alloc, c)? {
-        Ok(core) => touching(alloc, core),
-        Err(settled) => Ok(Err(settled)),
+    match ordered_in(alloc, g, c)? {
+        Ok(core) => touching(alloc, g, core),
+        Err(reason) => Ok(Err(reason)),
     }
 }
 
-fn ordered_in(alloc: Global, c: Completed) -> Result<Result<Core, Settled>, AllocError>
-    ensures { IfOk result (λ made. MatchResult made (λ core. Orders c (Ok core)) (λ settled. Orders c (Err (said_of settled)))) }
+fn ordered_in(alloc: Global, g: &Grammar, c: Completed) -> Result<Result<Core, Reason>, AllocError>
+    ensures { IfOk result (λ made. MatchResult made (λ core. Orders c (Ok core)) (λ reason. IsStuck g.now c (reason_of reason))) }
 {
     let heads = heads(alloc, c.rules())?;
     match order(alloc, c) {
@@ -83,11 +102,24 @@ fn ordered_in(alloc: Global, c: Completed) -> Result<Result<Core, Settled>, Allo
             Ok(Ok(core))
         }
         Err(OrderFault::Circular { rule, alt, term }) => {
-            let rule = head_at(&heads, rule);
-            Ok(Err(circular(alloc, TermPlace { rule, alt, term })?))
+            let name = head_at(&heads, rule);
+            Ok(Err(stuck(alloc, g, name, TermAt { rule, alt, term })?))
         }
         Err(OrderFault::Memory) => Err(AllocError),
     }
+}
+
+/// The reason of a term that has no turn, in a rule of this name.
+fn stuck(alloc: Global, g: &Grammar, rule: &[u8], at: TermAt) -> Result<Reason, AllocError>
+    ensures { IfOk result (λ r. reason_of r ≡ record {
+      said = spec.circular rule.now at.alt at.term;
+      why = why.Circular;
+      places = listed (explain.term_place g.now at.rule at.alt at.term);
+    }) }
+{
+    let TermAt { alt, term, .. } = at;
+    let said = circular(alloc, TermPlace { rule, alt, term })?;
+    reason_at(alloc, said, Why::Circular, term_place(g, at))
 }
 
 /// A core grammar is good, by its type.
@@ -117,18 +149,31 @@ fn head_at(heads: &[Vec<u8>], rule: u32) -> &[u8]
     }
 }
 
-/// The grammar, or what is said of its first loose repetition.
-fn touching(alloc: Global, core: Core) -> Result<Result<Core, Settled>, AllocError>
-    ensures { IfOk result (λ made. MatchResult made (λ same. Touches core (Ok same)) (λ settled. Touches core (Err (said_of settled)))) }
+/// The grammar, or the reason of its first loose repetition.
+fn touching(alloc: Global, g: &Grammar, core: Core) -> Result<Result<Core, Reason>, AllocError>
+    ensures { IfOk result (λ made. MatchResult made (λ same. Touches core (Ok same)) (λ reason. IsLoose g.now core (reason_of reason))) }
 {
     let marks = must_touch(alloc, &core)?;
     match loose(&core, &marks) {
         None => Ok(Ok(core)),
         Some((rule, alt, term)) => {
-            let rule = rule_name(core.rules(), rule);
-            Ok(Err(no_touch(alloc, TermPlace { rule, alt, term })?))
+            let name = rule_name(core.rules(), rule);
+            Ok(Err(without_touch(alloc, g, name, TermAt { rule, alt, term })?))
         }
     }
+}
+
+/// The reason of a loose repetition, in a rule of this name.
+fn without_touch(alloc: Global, g: &Grammar, rule: &[u8], at: TermAt) -> Result<Reason, AllocError>
+    ensures { IfOk result (λ r. reason_of r ≡ record {
+      said = spec.no_touch rule.now at.alt at.term;
+      why = why.NoTouch;
+      places = listed (explain.term_place g.now at.rule at.alt at.term);
+    }) }
+{
+    let TermAt { alt, term, .. } = at;
+    let said = no_touch(alloc, TermPlace { rule, alt, term })?;
+    reason_at(alloc, said, Why::NoTouch, term_place(g, at))
 }
 
 /// The name of a rule; none of one that there isn't.

@@ -1,6 +1,7 @@
 //! What holds of core grammars, the contract of a function that does nothing.
 
-ghost use Rattle.ipg_app.specs.Laws.{CertIsVerified, CoveredIsRebuilt, OneCore, OneCheck, OneEdits, OneParse, OneReply, OneVerdict};
+ghost use Rattle.ipg_app.specs.Laws.{BeginsAsCheck, CertIsVerified, CoveredIsRebuilt, OneCore, OneCheck, OneEdits, OneExplained};
+ghost use Rattle.ipg_app.specs.Laws.{OneParse, OneReply, OneTrial, OneVerdict};
 
 use ipg_core::laws::heights_agree;
 use ipg_cover::laws::{covered_has_no_gap, one_gap};
@@ -8,7 +9,9 @@ use ipg_cover_laws::laws::covered_comes_back;
 use ipg_cover_leaves::laws::answers_are_one;
 use ipg_edit_laws::laws::keys_after_are_known;
 use ipg_edit_script::laws::one_script;
-use ipg_mach_count_laws::laws::{fresh_at_any_height, keys_are_known, one_fresh};
+use ipg_mach_count_laws::laws::{
+    all_where_none_kept, fresh_at_any_height, keys_are_known, one_fresh, one_reach,
+};
 use ipg_order::laws::{good_is_not_stuck, orders_once, stuck_once};
 use ipg_proof::laws::{fault_is_one, proves_is_no_fault};
 use ipg_query_path::laws::one_path;
@@ -53,6 +56,33 @@ pub fn one_edits()
     keys_after_are_known();
 }
 
+/// Of a trial one thing is said.
+pub fn one_trial()
+    ensures { OneTrial }
+{
+    heights_agree();
+    fresh_at_any_height();
+    one_reach();
+    all_where_none_kept();
+}
+
+/// Of a text under a name `explain` says one thing.
+pub fn one_explained()
+    ensures { OneExplained }
+{
+    one_limit();
+    orders_once();
+    good_is_not_stuck();
+    stuck_once();
+    loops_arent_accepted();
+    one_loops();
+}
+
+/// What `explain` says of a text has the status of what `check` says of it, and begins with its line.
+pub fn explain_begins_as_check()
+    ensures { BeginsAsCheck }
+{}
+
 /// Of a file of which something is told `check` says one thing.
 pub fn one_verdict()
     ensures { OneVerdict }
@@ -76,8 +106,8 @@ pub fn covered_is_rebuilt()
     covered_comes_back();
 }
 
-/// To words that ask for no certificate, no table file and no trial, and files of each of which something is told, the program says one
-/// thing: one status and one text.
+/// To words that ask for no certificate and no table file, and files of each of which something is told, the program says one thing: one
+/// status and one text.
 pub fn one_reply()
     ensures { OneReply }
 {
@@ -92,4 +122,6 @@ pub fn one_reply()
     load_once();
     covered_has_no_gap();
     one_gap();
+    one_explained();
+    one_trial();
 }

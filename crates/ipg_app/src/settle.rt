@@ -1,5 +1,5 @@
 //! What is to be said, settled before anything is written.
-ghost use Rattle.std.specs.Prelude.{◌≡◌, ◌≤◌, ◌^◌, ℕ, List, length, map, Ok, Err, IfOk, MatchResult};
+ghost use Rattle.std.specs.Prelude.{◌≡◌, ◌<◌, ◌≤◌, ◌^◌, ℕ, List, length, map, Ok, Err, IfOk, MatchResult};
 ghost use Rattle.std.specs.String.{string_bytes};
 ghost use Rattle.std.specs.List.{AllByRecursion};
 ghost use Rattle.ipg_ast.specs.Shape.{IsFlat};
@@ -7,11 +7,13 @@ ghost use Rattle.ipg_names.specs.Readable.{IsReadable};
 ghost use Rattle.ipg_formats.specs.Text.{text_of};
 ghost use Rattle.ipg_app.specs.CoreOf.{CoreOf};
 ghost use Rattle.ipg_store_body.specs.Fits.{NestsRule};
-ghost use Rattle.ipg_app.specs.Reply.{grammar_of, core_of, formatted, parse_input, parse, verify, fmt, query, load, load_in, use_order, order_by, order_of, task_of};
-ghost use Rattle.ipg_app.specs.Reply.{edit, edit_file, edit_input, edits_of};
+ghost use Rattle.ipg_app.specs.Reply.{grammar_of, core_of, formatted, parse_input, parse, verify, fmt, query, load};
+ghost use Rattle.ipg_app.specs.Reply.{load_in, use_order, order_by, order_of, task_of};
+ghost use Rattle.ipg_app.specs.Reply.{edit, edit_file, edit_input, edits_of, explain};
+ghost use Rattle.ipg_app.specs.Explained.{Explains};
 ghost use Rattle.ipg_app.specs.Run.{Settles};
 ghost use Rattle.ipg_app_words.specs.Seen as words;
-ghost use Rattle.ipg_app.specs.Found.{Found, FoundCore, Says, grammar_in_file, core_in_file, silence};
+ghost use Rattle.ipg_app.specs.Found.{Found, FoundCore, Says, explain_in_file, grammar_in_file, core_in_file, silence};
 ghost use Rattle.ipg_app.specs.Lines.{said_of};
 ghost use Rattle.ipg_outside.specs.Files.{Told};
 ghost use Rattle.ipg_app.specs.Settled.{IsSettled, IsUnread, remember_of, task_seen};
@@ -21,10 +23,13 @@ use crate::checks::{accepted, say_cert, say_check, say_table};
 use crate::core_of::{core_in_text, core_of};
 use crate::covering::say_cover;
 use crate::editing::DueEdits;
+use crate::explaining::{explain_text, told};
 use crate::formatting::format;
 use crate::grammar::grammar_in;
+use crate::helping::{say_help, say_version};
 use crate::loading::held_in;
 use crate::path::path_in;
+use crate::reasons::read_reason;
 use crate::refusal::refusal;
 use crate::reply::{Due, Reply};
 use crate::said::{Settled, line, usage};
@@ -69,6 +74,9 @@ pub fn settle<F: Files>(alloc: Global, words: &[String], files: &mut F) -> Resul
         Some(Asked::Load { table, input }) => settle_load(alloc, table, input, files),
         Some(Asked::Fmt { grammar }) => Ok(Reply::Text(settle_fmt(alloc, grammar, files)?)),
         Some(Asked::Trial { kind, count }) => Ok(Reply::Text(trial(alloc, kind, count)?)),
+        Some(Asked::Explain { grammar }) => Ok(Reply::Text(settle_explain(alloc, grammar, files)?)),
+        Some(Asked::Help { command }) => Ok(Reply::Text(say_help(alloc, command)?)),
+        Some(Asked::Version) => Ok(Reply::Text(say_version(alloc)?)),
         None => Ok(Reply::Text(usage(alloc)?)),
     }
 }
@@ -232,6 +240,38 @@ fn fmt_file<F: Files>(alloc: Global, name: &str, files: &mut F) -> Result<Settle
         Ok(grammar) => format(alloc, &grammar),
         Err(settled) => Ok(settled),
     }
+}
+
+fn settle_explain<F: Files>(
+    alloc: Global,
+    grammar: &str,
+    files: &mut F,
+) -> Result<Settled, AllocError>
+    ensures { IfOk result (λ settled. Settles (F.told files.old) (F.faults files.old) (F.faults files.new) (explain grammar.now) (said_of settled)) }
+{
+    match kind_named(grammar) {
+        Some(kind) => explain_text(alloc, grammar, text(kind)),
+        None => explain_file(alloc, grammar, files),
+    }
+}
+
+fn explain_file<F: Files>(alloc: Global, name: &str, files: &mut F) -> Result<Settled, AllocError>
+    ensures { IfOk result (λ settled. Settles (F.told files.old) (F.faults files.old) (F.faults files.new) (explain_in_file name.now) (said_of settled)) }
+{
+    match files.read_all(alloc, name, MAX_TEXT) {
+        Ok(text) => explain_text(alloc, name, &text),
+        Err(FileFault::Failed) => line(alloc, Status::ReadFault, b"read fault"),
+        Err(FileFault::TooLarge(_)) => explain_too_long(alloc, name),
+        Err(FileFault::Memory) => Err(AllocError),
+    }
+}
+
+/// What is said of a text of which not all was read: no place of it is shown.
+fn explain_too_long(alloc: Global, name: &str) -> Result<Settled, AllocError>
+    ensures { IfOk result (λ settled. (text : List ℕ) → 2 ^ 20 < length text → Explains name.now text (said_of settled)) }
+{
+    let reason = read_reason(alloc, &ReadFault::TooLong)?;
+    told(alloc, name, b"", &reason)
 }
 
 /// The core grammar of the text under a name, or what is said where it can't be read or has none.

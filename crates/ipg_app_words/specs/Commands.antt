@@ -58,6 +58,16 @@ trial = with_rule (with_rule (new_app (codes "trial")) (required (codes "KIND"))
 abbrev pub fmt : App
 fmt = on_grammar (codes "fmt")
 
+abbrev pub explain : App
+explain = on_grammar (codes "explain")
+
+-- the name of a command may be there
+abbrev pub help : App
+help = with_rule (new_app (codes "help")) (new_rule (codes "COMMAND"))
+
+abbrev pub version : App
+version = new_app (codes "version")
+
 -- what the words give, the command's name first, where the command takes them; it refuses words that ask for help
 abbrev pub taken : App → List Text → Option (List Row)
 taken command words = if is_empty (fault_of command words) then Some (matches_of command words) else None

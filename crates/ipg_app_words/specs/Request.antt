@@ -31,6 +31,9 @@ pub data Request : Type 0 where
   Trial : (kind : Text) (count : ℕ) → Request
   Query : (grammar input path : Text) → Request
   Load : (table input : Text) → Request
+  Explain : (grammar : Text) → Request
+  Help : (command : Option Text) → Request
+  Version : Request
 
 abbrev pub parse_task : List Row → Option Task
 parse_task rows = do
@@ -90,6 +93,14 @@ query_by rows = do
   path ← first_of (codes "PATH") rows
   Some (Query grammar input path)
 
+abbrev pub explain_by : List Row → Option Request
+explain_by rows = do
+  grammar ← first_of (codes "G") rows
+  Some (Explain grammar)
+
+abbrev pub help_by : List Row → Option Request
+help_by rows = Some (Help (first_of (codes "COMMAND") rows))
+
 abbrev pub load_by : List Row → Option Request
 load_by rows = do
   table ← first_of (codes "T") rows
@@ -122,6 +133,21 @@ load_words words = do
   rows ← taken command.load words
   load_by rows
 
+abbrev pub explain_words : List Text → Option Request
+explain_words words = do
+  rows ← taken command.explain words
+  explain_by rows
+
+abbrev pub help_words : List Text → Option Request
+help_words words = do
+  rows ← taken command.help words
+  help_by rows
+
+abbrev pub version_words : List Text → Option Request
+version_words words = do
+  rows ← taken command.version words
+  Some Version
+
 -- the words from the command's name on
 abbrev pub request_by : Text → List Text → Option Request
 request_by name words = if bytes_eq name (codes "parse") then use_words command.parse parse_task words
@@ -138,7 +164,10 @@ request_by name words = if bytes_eq name (codes "parse") then use_words command.
     else (if bytes_eq name (codes "edit") then use_words command.edit edit_task words
     else (if bytes_eq name (codes "json") then use_words command.json json_task words
     else (if bytes_eq name (codes "view") then use_words command.view view_task words
-    else None)))))))))))))
+    else (if bytes_eq name (codes "explain") then explain_words words
+    else (if bytes_eq name (codes "help") then help_words words
+    else (if bytes_eq name (codes "version") then version_words words
+    else None))))))))))))))))
 
 -- nothing where the words are no command's
 abbrev pub request_of : List Text → Option Request

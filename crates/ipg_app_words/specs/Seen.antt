@@ -1,6 +1,8 @@
 -- What the words ask for, as the code has it.
 use Rattle.std.specs.Prelude.{ℕ, List, Bool, not, ◌==◌, ◌&&◌, slice_index}
-use Rattle.ipg_app_words.specs.Request.{Task, Parse, Check, Cert, Verify, Table, Cover, Rebuild, Json, View, Edit, Request, Use, Fmt, Trial, Query, Load}
+use Rattle.ipg_app_words.specs.Request.{Task, Parse, Check, Cert, Verify, Table, Cover, Rebuild, Json, View, Edit, Request}
+use Rattle.ipg_app_words.specs.Request.{Use, Fmt, Trial, Query, Load, Explain, Help, Version}
+use Rattle.std.specs.Option.{option_map}
 use Rattle.ipg_app_words.specs.declared.asking.Asked.{Asked}
 use Rattle.ipg_app_words.specs.declared.asking.Asked.TheVariants as asked
 use Rattle.ipg_app_words.specs.declared.asking.Wanted.{Wanted}
@@ -24,6 +26,9 @@ seen (asked.Fmt grammar) = Fmt grammar.now
 seen (asked.Trial kind count) = Trial kind.now count
 seen (asked.Query grammar input path) = Query grammar.now input.now path.now
 seen (asked.Load table input) = Load table.now input.now
+seen (asked.Explain grammar) = Explain grammar.now
+seen (asked.Help command) = Help (option_map (λ text. text.now) command)
+seen asked.Version = Version
 
 -- neither `0` nor `+` stands first
 abbrev pub is_plain_first : List ℕ → Bool

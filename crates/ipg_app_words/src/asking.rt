@@ -68,4 +68,13 @@ pub enum Asked<'a> {
         table: &'a str,
         input: &'a str,
     },
+    /// Where and why a grammar is refused.
+    Explain {
+        grammar: &'a str,
+    },
+    /// What a command does, or which there are.
+    Help {
+        command: Option<&'a str>,
+    },
+    Version,
 }

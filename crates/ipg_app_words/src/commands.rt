@@ -62,6 +62,19 @@ pub fn load<'a>(alloc: Global) -> Result<Command<'a>, AllocError>
         .arg(required(alloc, "FILE"))
 }
 
+/// The name of a command may be there.
+pub fn help<'a>(alloc: Global) -> Result<Command<'a>, AllocError>
+    ensures { IfOk result (λ command. app_of command ≡ spec.help) }
+{
+    Command::new(alloc, "help").arg(Arg::new(alloc, "COMMAND"))
+}
+
+pub fn version<'a>(alloc: Global) -> Command<'a>
+    ensures { app_of result ≡ spec.version }
+{
+    Command::new(alloc, "version")
+}
+
 pub fn rebuild<'a>(alloc: Global) -> Result<Command<'a>, AllocError>
     ensures { IfOk result (λ command. app_of command ≡ spec.rebuild) }
 {

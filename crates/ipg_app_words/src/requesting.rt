@@ -8,7 +8,9 @@ ghost use Rattle.ipg_app_words.specs.Request.{request_of, request_by, edit_task,
 ghost use Rattle.ipg_app_words.specs.Seen.{seen, task_seen};
 
 use crate::asking::{Asked, Wanted};
-use crate::commands::{edit, json, load, on_grammar, parse, query, rebuild, trial, verify, view};
+use crate::commands::{
+    edit, help, json, load, on_grammar, parse, query, rebuild, trial, verify, version, view,
+};
 use crate::matching::{taken, value};
 use crate::settings::{count, memo, mib};
 use clap::ArgMatches;
@@ -46,6 +48,9 @@ fn request_by<'a>(
         "edit" => edit_request(alloc, words),
         "json" => json_request(alloc, words),
         "view" => view_request(alloc, words),
+        "explain" => explain_request(alloc, words),
+        "help" => help_request(alloc, words),
+        "version" => version_request(alloc, words),
         _ => Ok(None),
     }
 }
@@ -129,6 +134,33 @@ fn fmt_request<'a>(alloc: Global, words: &'a [String]) -> Result<Option<Asked<'a
     }
 }
 
+fn explain_request<'a>(alloc: Global, words: &'a [String]) -> Result<Option<Asked<'a>>, AllocError>
+    ensures { IfOk result (λ asked. option_map seen asked ≡ spec.explain_words (map string_bytes words.now)) }
+{
+    match taken(on_grammar(alloc, "explain")?, words)? {
+        Some(matches) => Ok(explain_of(&matches)),
+        None => Ok(None),
+    }
+}
+
+fn help_request<'a>(alloc: Global, words: &'a [String]) -> Result<Option<Asked<'a>>, AllocError>
+    ensures { IfOk result (λ asked. option_map seen asked ≡ spec.help_words (map string_bytes words.now)) }
+{
+    match taken(help(alloc)?, words)? {
+        Some(matches) => Ok(Some(help_of(&matches))),
+        None => Ok(None),
+    }
+}
+
+fn version_request<'a>(alloc: Global, words: &'a [String]) -> Result<Option<Asked<'a>>, AllocError>
+    ensures { IfOk result (λ asked. option_map seen asked ≡ spec.version_words (map string_bytes words.now)) }
+{
+    match taken(version(alloc), words)? {
+        Some(_) => Ok(Some(Asked::Version)),
+        None => Ok(None),
+    }
+}
+
 fn trial_request<'a>(alloc: Global, words: &'a [String]) -> Result<Option<Asked<'a>>, AllocError>
     ensures { IfOk result (λ asked. option_map seen asked ≡ spec.trial_words (map string_bytes words.now)) }
 {
@@ -169,6 +201,21 @@ fn fmt_of<'a>(matches: &ArgMatches<'a>) -> Option<Asked<'a>>
 {
     let grammar = value(matches, "G")?;
     Some(Asked::Fmt { grammar })
+}
+
+fn explain_of<'a>(matches: &ArgMatches<'a>) -> Option<Asked<'a>>
+    ensures { option_map seen result ≡ spec.explain_by (rows_of (found_of matches.now)) }
+{
+    let grammar = value(matches, "G")?;
+    Some(Asked::Explain { grammar })
+}
+
+fn help_of<'a>(matches: &ArgMatches<'a>) -> Asked<'a>
+    ensures { Some (seen result) ≡ spec.help_by (rows_of (found_of matches.now)) }
+{
+    Asked::Help {
+        command: value(matches, "COMMAND"),
+    }
 }
 
 fn trial_of<'a>(matches: &ArgMatches<'a>) -> Option<Asked<'a>>

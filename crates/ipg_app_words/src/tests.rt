@@ -56,7 +56,7 @@ fn reads_settings(rt: HostRuntime) -> anyhow::Result<()> {
     Ok(())
 }
 
-const REFUSED: [&[&str]; 49] = [
+const REFUSED: [&[&str]; 52] = [
     &[],
     &["parse"],
     &["parse", "g"],
@@ -83,7 +83,10 @@ const REFUSED: [&[&str]; 49] = [
     &["parse", "g", "f", "--version"],
     &["pars", "g", "f"],
     &["--help"],
-    &["help"],
+    &["help", "parse", "check"],
+    &["version", "x"],
+    &["explain"],
+    &["explain", "g", "f"],
     &["check"],
     &["check", "g", "f"],
     &["check", "g", "--memo", "on"],

@@ -1,0 +1,136 @@
+-- Why a text has no core grammar by which parsing ends: what is said of it, of which kind it is, and where in the text.
+use Rattle.std.specs.Prelude.{◌≡◌, ◌⊎◌, ℕ, ℤ, List, [], ◌∷◌, flat_map, slice_get, Result, Ok, Err, Option, None, Some}
+use Rattle.ipg_ast.specs.declared.grammar.Grammar as written
+use Rattle.ipg_read_tokens.specs.declared.fault.ReadFault.{ReadFault}
+use Rattle.ipg_read_tokens.specs.declared.fault.ReadFault.TheVariants as read
+use Rattle.ipg_read_tokens.specs.declared.fault.Which.{Which}
+use Rattle.ipg_read_tokens.specs.declared.fault.Which.TheVariants as which
+use Rattle.ipg_read_syntax.specs.Reading.{read_of}
+use Rattle.ipg_names.specs.declared.fault.NameFault.{NameFault}
+use Rattle.ipg_names.specs.declared.fault.NameFault.TheVariants as name
+use Rattle.ipg_names.specs.Fault.{first_of}
+use Rattle.ipg_names.specs.Faults.{faults_of}
+use Rattle.ipg_names.specs.Resolved.{Resolved}
+use Rattle.ipg_complete.specs.Unordered as unordered
+use Rattle.ipg_complete.specs.Unordered.{Unordered}
+use Rattle.ipg_complete.specs.Completion.{completed}
+use Rattle.ipg_core.specs.Grammar.{Grammar, rule_at}
+use Rattle.ipg_core.specs.MustTouch.{Marks, AreLimit}
+use Rattle.ipg_graph.specs.declared.edge.Edge.{Edge}
+use Rattle.ipg_facts_edges.specs.Edges.{edges_of}
+use Rattle.ipg_lin.specs.Formula.{assigned}
+use Rattle.ipg_order.specs.Answer.{IsFirstStuck}
+use Rattle.ipg_touch.specs.Loose.{loose}
+use Rattle.ipg_proof.specs.Proves.{Accepts}
+use Rattle.ipg_term.specs.Loops.{Loops}
+use Rattle.ipg_app_explain.specs.declared.why.Why.{Why}
+use Rattle.ipg_app_explain.specs.declared.why.Why.TheVariants as why
+use Rattle.ipg_app_explain.specs.Terms.{term_place, call_place}
+use Rattle.ipg_app.specs.Said.{Said}
+use Rattle.ipg_app.specs.Refusal.{fault_said, name_said, circular, no_touch}
+use Rattle.ipg_app.specs.Checks.{may_loop}
+use Rattle.ipg_app.specs.CoreOf.{grammar_in, resolved, name_of, Orders, CoreFrom, CoreOf}
+
+pub record Reason : Type 0 where
+  pub said : Said
+  pub why : Why
+  pub places : List ℕ
+
+abbrev pub listed : Option ℕ → List ℕ
+listed None = []
+listed (Some at) = at ∷ []
+
+-- ---- the text: G1 to G5
+
+abbrev pub limit_why : Which → Why
+limit_why which.Rules = why.Rules
+limit_why which.Alternatives = why.Alternatives
+limit_why which.Terms = why.Terms
+limit_why which.Depth = why.Depth
+
+-- no text reads as want of memory
+abbrev pub read_reason : ReadFault → Reason
+read_reason read.TooLong = record { said = fault_said read.TooLong; why = why.TooLong; places = [] }
+read_reason (read.Lex at) = record { said = fault_said (read.Lex at); why = why.Lex; places = at ∷ [] }
+read_reason (read.Number at) = record { said = fault_said (read.Number at); why = why.Number; places = at ∷ [] }
+read_reason (read.Syntax at) = record { said = fault_said (read.Syntax at); why = why.Syntax; places = at ∷ [] }
+read_reason (read.Limit which at) = record { said = fault_said (read.Limit which at); why = limit_why which; places = at ∷ [] }
+read_reason read.Memory = record { said = fault_said read.Memory; why = why.TooLong; places = [] }
+
+pub record IsUnread (text : List ℕ) (reason : Reason) : Type 0 where
+  pub fault : ReadFault
+  pub reads : read_of text ≡ Err fault
+  pub is : reason ≡ read_reason fault
+
+-- ---- names: G6 to G11
+
+-- no name is at fault for want of memory either
+abbrev pub name_reason : NameFault → Reason
+name_reason (name.DuplicateRule at) = record { said = name_said (name.DuplicateRule at); why = why.DuplicateRule; places = at ∷ [] }
+name_reason (name.UnknownRule at) = record { said = name_said (name.UnknownRule at); why = why.UnknownRule; places = at ∷ [] }
+name_reason (name.DuplicateAttr at) = record { said = name_said (name.DuplicateAttr at); why = why.DuplicateAttr; places = at ∷ [] }
+name_reason (name.UnknownAttr at) = record { said = name_said (name.UnknownAttr at); why = why.UnknownAttr; places = at ∷ [] }
+name_reason (name.PartAttr at) = record { said = name_said (name.PartAttr at); why = why.PartAttr; places = at ∷ [] }
+name_reason (name.NoOccurrence at) = record { said = name_said (name.NoOccurrence at); why = why.NoOccurrence; places = at ∷ [] }
+name_reason name.Memory = record { said = name_said name.Memory; why = why.TooLong; places = [] }
+
+pub record IsUnnamed (g : written.Grammar) (reason : Reason) : Type 0 where
+  pub fault : NameFault
+  pub first : first_of (faults_of g) ≡ Some fault
+  pub is : reason ≡ name_reason fault
+
+-- ---- terms: G12, then G14
+
+-- the place is that of the leftmost term that has no turn
+pub record IsStuck (g : written.Grammar) (c : Unordered) (reason : Reason) : Type 0 where
+  pub at : ℕ × ℕ
+  pub term : ℕ
+  pub first : IsFirstStuck (unordered.core_of c) at term
+  pub is : reason ≡ record { said = circular first.rule.name at.1 term; why = why.Circular; places = listed (term_place g at.0 at.1 term) }
+
+-- the place is that of the first loose repetition
+pub record IsLoose (g : written.Grammar) (core : Grammar) (reason : Reason) : Type 0 where
+  pub marks : Marks
+  pub limit : AreLimit core marks
+  pub at : ℕ × ℕ × ℕ
+  pub found : loose marks core.rules ≡ Some at
+  pub is : reason ≡ record {
+    said = no_touch (name_of (rule_at core at.0)) at.1 at.2;
+    why = why.NoTouch;
+    places = listed (term_place g at.0 at.1 at.2);
+  }
+
+abbrev pub IsUnordered : written.Grammar → Unordered → Reason → Type 0
+IsUnordered g c reason = IsStuck g c reason ⊎ ((core : Grammar) × Orders c (Ok core) × IsLoose g core reason)
+
+-- ---- calls: G13
+
+abbrev pub edge_places : written.Grammar → Option Edge → List ℕ
+edge_places g None = []
+edge_places g (Some edge) = listed (call_place g edge.caller edge.alt edge.term edge.branch)
+
+-- where the calls of a cycle are named, in the order of the cycle
+abbrev pub cycle_places : written.Grammar → Grammar → List ℕ → List ℕ
+cycle_places g core cycle = flat_map (λ e. edge_places g (slice_get (edges_of core) e)) cycle
+
+pub record IsCycle (g : written.Grammar) (core : Grammar) (reason : Reason) : Type 0 where
+  pub cycle : List ℕ
+  pub values : List ℤ
+  pub loops : Loops core cycle values
+  pub is : reason ≡ record { said = may_loop core cycle (assigned values 0); why = why.MayLoop; places = cycle_places g core cycle }
+
+-- ---- the whole
+
+-- the core grammar of a grammar as it is written, or why it has none
+abbrev pub CoreOrReason : written.Grammar → Result Grammar Reason → Type 0
+CoreOrReason g (Ok core) = CoreFrom g (Ok core)
+CoreOrReason g (Err reason) = IsUnnamed g reason ⊎ ((n : Resolved) × (resolved g ≡ Ok n) × IsUnordered g (completed n) reason)
+
+-- it has none, or parsing by it may not end
+abbrev pub IsRefused : written.Grammar → Reason → Type 0
+IsRefused g reason = CoreOrReason g (Err reason) ⊎ ((core : Grammar) × CoreFrom g (Ok core) × IsCycle g core reason)
+
+-- none where parsing by the core grammar of the text always ends
+abbrev pub Judged : List ℕ → Option Reason → Type 0
+Judged text None = (core : Grammar) × CoreOf text (Ok core) × Accepts core
+Judged text (Some reason) = IsUnread text reason ⊎ ((g : written.Grammar) × (grammar_in text ≡ Ok g) × IsRefused g reason)

@@ -1,0 +1,164 @@
+//! Where and why a grammar is refused, for a person.
+ghost use Rattle.std.specs.Prelude.{◌≡◌, ◌++◌, Some, IfOk, OnOk};
+ghost use Rattle.std.specs.Option.{option_map, option_copied};
+ghost use Rattle.ipg_names.specs.Readable.{IsReadable};
+ghost use Rattle.ipg_term.specs.Loops.{IsReason};
+ghost use Rattle.ipg_app.specs.Explained.{Explains, JudgedCore, JudgedGrammar, explained_said};
+ghost use Rattle.ipg_app.specs.Lines.{said_of, text_of};
+ghost use Rattle.ipg_app.specs.Reasons.{IsCycle, Judged, cycle_places, edge_places, listed};
+ghost use Rattle.ipg_app_explain.specs.Terms.{call_place};
+ghost use Rattle.ipg_app.specs.Seen.{reason_of};
+
+use crate::core_of::core_or_reason;
+use crate::looping::may_loop;
+use crate::reasons::{Reason, read_reason};
+use crate::said::{Settled, line};
+use crate::status::Status;
+use ipg_app_explain::{Source, TermAt, Why, call_place, explain};
+use ipg_ast::Grammar;
+use ipg_core::accepted::Core;
+use ipg_facts_edges::{Edge, edges};
+use ipg_names_text as texts;
+use ipg_num::item_at;
+use ipg_read_tokens::ReadFault;
+use ipg_term::{TermFault, TermWhy, check};
+use std::alloc::{AllocError, Global};
+
+/// What `explain` says of a text that was given under a name.
+pub fn explain_text(alloc: Global, name: &str, text: &[u8]) -> Result<Settled, AllocError>
+    ensures { IfOk result (λ settled. Explains name.now text.now (said_of settled)) }
+{
+    match judged(alloc, text)? {
+        None => line(alloc, Status::Done, b"accepted"),
+        Some(reason) => told(alloc, name, text, &reason),
+    }
+}
+
+/// A reason for a person.
+pub fn told(alloc: Global, name: &str, text: &[u8], reason: &Reason) -> Result<Settled, AllocError>
+    ensures { IfOk result (λ settled. said_of settled ≡ explained_said name.now text.now (Some (reason_of reason.now))) }
+{
+    let said = joined(alloc, &reason.said.lines)?;
+    let name = name.as_bytes();
+    let told = explain(
+        alloc,
+        &said,
+        Source { name, text },
+        reason.why,
+        &reason.places,
+    )?;
+    Ok(Settled {
+        status: reason.said.status,
+        lines: vec![in alloc; told]?,
+    })
+}
+
+fn joined(alloc: Global, lines: &[Vec<u8>]) -> Result<Vec<u8>, AllocError>
+    ensures { IfOk result (λ text. text.items ≡ text_of lines.now) }
+{
+    let mut text = Vec::new(alloc);
+    for line in lines {
+        text.extend_from_slice(line)?;
+    }
+    Ok(text)
+}
+
+/// Why a text has no core grammar by which parsing ends, if so.
+fn judged(alloc: Global, text: &[u8]) -> Result<Option<Reason>, AllocError>
+    ensures { IfOk result (λ reason. Judged text.now (option_map reason_of reason)) }
+{
+    match texts::grammar_in(alloc, text) {
+        Ok(g) => judged_grammar(alloc, &g),
+        Err(ReadFault::Memory) => Err(AllocError),
+        Err(fault) => Ok(Some(read_reason(alloc, &fault)?)),
+    }
+}
+
+fn judged_grammar(alloc: Global, g: &Grammar) -> Result<Option<Reason>, AllocError>
+    requires { IsReadable g.now }
+    ensures { IfOk result (λ reason. JudgedGrammar g.now (option_map reason_of reason)) }
+{
+    match core_or_reason(alloc, g)? {
+        Ok(core) => judged_core(alloc, g, core),
+        Err(reason) => Ok(Some(reason)),
+    }
+}
+
+fn judged_core(alloc: Global, g: &Grammar, core: Core) -> Result<Option<Reason>, AllocError>
+    ensures { IfOk result (λ reason. JudgedCore g.now core (option_map reason_of reason)) }
+{
+    match check(alloc, core) {
+        Ok(_) => Ok(None),
+        Err(TermFault { grammar, why }) => Ok(Some(cycle_reason(alloc, g, &grammar, &why)?)),
+    }
+}
+
+/// The reason of a cycle of calls that may keep the whole part.
+fn cycle_reason(
+    alloc: Global,
+    g: &Grammar,
+    core: &Core,
+    why: &TermWhy,
+) -> Result<Reason, AllocError>
+    requires { IsReason core.now why.now }
+    ensures { IfOk result (λ reason. IsCycle g.now core.now (reason_of reason)) }
+{
+    match why {
+        TermWhy::MayLoop { cycle, values } => {
+            let said = may_loop(alloc, core, cycle.as_slice(), values.as_slice())?;
+            let places = cycle_places(alloc, g, core, cycle.as_slice())?;
+            Ok(Reason {
+                said,
+                why: Why::MayLoop,
+                places,
+            })
+        }
+        TermWhy::Memory => Err(AllocError),
+    }
+}
+
+/// Where the calls of a cycle are named, by the numbers of its edges.
+fn cycle_places(
+    alloc: Global,
+    g: &Grammar,
+    core: &Core,
+    cycle: &[u32],
+) -> Result<Vec<u32>, AllocError>
+    ensures { IfOk result (λ places. places.items ≡ cycle_places g.now core.now cycle.now) }
+{
+    let calls = edges(alloc, core)?;
+    let mut places = Vec::new(alloc);
+    for number in cycle {
+        add_call(&mut places, g, item_at(&calls, *number as usize))?;
+    }
+    Ok(places)
+}
+
+fn add_call(places: &mut Vec<u32>, g: &Grammar, call: Option<&Edge>) -> Result<(), AllocError>
+    ensures { OnOk result (places.new.items ≡ places.old.items ++ edge_places g.now (option_copied call.entry)) }
+{
+    match call {
+        Some(edge) => add_place(places, place_of(g, *edge)),
+        None => Ok(()),
+    }
+}
+
+fn place_of(g: &Grammar, edge: Edge) -> Option<u32>
+    ensures { result ≡ call_place g.now edge.caller edge.alt edge.term edge.branch }
+{
+    let at = TermAt {
+        rule: edge.caller,
+        alt: edge.alt,
+        term: edge.term,
+    };
+    call_place(g, at, edge.branch)
+}
+
+fn add_place(places: &mut Vec<u32>, at: Option<u32>) -> Result<(), AllocError>
+    ensures { OnOk result (places.new.items ≡ places.old.items ++ listed at) }
+{
+    if let Some(at) = at {
+        places.push(at)?;
+    }
+    Ok(())
+}
