@@ -1,14 +1,17 @@
 //! Which terms of a holder matter to a caller.
 
-ghost use Rattle.std.specs.Prelude.{◌≡◌, IfOk, OnOk, slice_get, length, map, Option, ◌<◌, false, option_copied};
+ghost use Rattle.std.specs.Prelude.{◌≡◌, IfOk, slice_get, length, List, map, Option, false, option_copied};
+ghost use Rattle.ipg_core.specs.declared.grammar.CoreTerm.{CoreTerm};
 ghost use Rattle.std.specs.List.{list_any};
-ghost use Rattle.ipg_core.specs.Grammar.{holder_of, rule_at};
+ghost use Rattle.ipg_facts_holder.specs.Calling as calling;
 ghost use Rattle.ipg_facts_holder.specs.Holder as spec;
+ghost use Rattle.ipg_facts_holder.specs.Outers as outers;
 
-use crate::marks::is_marked;
+use crate::calling::calls_some;
 use crate::mention::{Ask, mentions_some};
+use crate::outers::outers;
 use ipg_core::accepted::Core;
-use ipg_core::grammar::{CoreAlt, CoreExpr, CoreRule, CoreSlot, CoreTerm, Sym};
+use ipg_core::grammar::{CoreAlt, CoreRule, CoreTerm};
 use ipg_num::item_at;
 use std::alloc::{AllocError, Global};
 
@@ -30,80 +33,11 @@ fn set_at(terms: &[CoreTerm], term: u32) -> Option<u32>
     }
 }
 
-fn holder_at(g: &Core, rule: u32) -> Option<(u32, u32)>
-    ensures { result ≡ holder_of (rule_at g.now rule) }
-{
-    match item_at(g.rules(), rule as usize) {
-        None => None,
-        Some(rule) => rule.holder,
-    }
-}
-
-fn is_held(at: Option<(u32, u32)>, holder: Option<(u32, u32)>) -> bool
-    ensures { result ≡ spec.is_held at holder }
-{
-    match holder {
-        None => false,
-        Some(holder) => match at {
-            None => true,
-            Some(at) => holder.0 == at.0 && holder.1 == at.1,
-        },
-    }
-}
-
-fn calls(g: &Core, at: Option<(u32, u32)>, marks: &[bool], sym: &Sym) -> bool
-    ensures { result ≡ spec.calls g.now at marks.now sym.now }
-{
-    match sym {
-        Sym::Text(_) => false,
-        Sym::Prim(_) => false,
-        Sym::Rule(callee) => is_held(at, holder_at(g, *callee)) && is_marked(marks, *callee),
-    }
-}
-
-fn cases_call(
-    g: &Core,
-    at: Option<(u32, u32)>,
-    marks: &[bool],
-    cases: &[(CoreExpr, CoreSlot)],
-) -> bool
-    ensures { result ≡ list_any (λ c. spec.calls g.now at marks.now c.1.sym) cases.now }
-{
-    cases.iter().any(|case| calls(g, at, marks, &case.1.sym))
-}
-
-/// Whether the term calls a marked local rule, of that alternative where one is asked for.
-#[tactic(auto, unfolding(crate::specs::Holder::calls_some), using(crate::proofs::Mentions::any_one, crate::proofs::Mentions::any_calls))]
-fn calls_some(g: &Core, at: Option<(u32, u32)>, marks: &[bool], term: &CoreTerm) -> bool
-    ensures { result ≡ spec.calls_some g.now at marks.now term.now }
-{
-    match term {
-        CoreTerm::Slot(slot) => calls(g, at, marks, &slot.sym),
-        CoreTerm::Set { attr: _, value: _ } => false,
-        CoreTerm::Test(_) => false,
-        CoreTerm::Repeat {
-            first: _,
-            last: _,
-            item,
-            from: _,
-            to: _,
-        } => calls(g, at, marks, item),
-        CoreTerm::Many {
-            item,
-            from: _,
-            to: _,
-        } => calls(g, at, marks, item),
-        CoreTerm::Pick { cases, other } => {
-            cases_call(g, at, marks, cases.as_slice()) || calls(g, at, marks, &other.sym)
-        }
-    }
-}
-
-#[tactic(auto, unfolding(crate::specs::Holder::reads_term))]
+#[tactic(auto, unfolding(crate::specs::Holder::reads_term), using(crate::proofs::Marking::marked_calls))]
 fn reads_term(g: &Core, attr: u32, marks: &[bool], term: &CoreTerm) -> bool
     ensures { result ≡ spec.reads_term g.now attr marks.now term.now }
 {
-    mentions_some(Ask::Outer(attr), term) || calls_some(g, None, marks, term)
+    mentions_some(Ask::Outer(attr), term) || calls_some(g, None, Some(marks), term)
 }
 
 fn reads_alt(g: &Core, attr: u32, marks: &[bool], alt: &CoreAlt) -> bool
@@ -169,25 +103,19 @@ fn readers_of(alloc: Global, g: &Core, attr: Option<u32>) -> Result<Vec<bool>, A
     }
 }
 
+/// The alternative whose terms may matter.
+#[derive(Clone, Copy)]
+struct Held<'a> {
+    grammar: &'a Core,
+    at: (u32, u32),
+    terms: &'a [CoreTerm],
+}
+
 /// A term that may be a provider: its number, and the attribute that it sets, if it sets one.
 #[derive(Clone, Copy)]
 struct Provider {
     term: u32,
     sets: Option<u32>,
-}
-
-#[tactic(auto, unfolding(crate::specs::Holder::provides))]
-fn provides(g: &Core, at: (u32, u32), of: Provider, marks: &[bool], term: Option<&CoreTerm>) -> bool
-    requires { marks.now ≡ spec.readers_of g.now of.sets }
-    ensures { result ≡ spec.provides g.now at of.term of.sets (option_copied term.entry) }
-{
-    match term {
-        None => false,
-        Some(term) => {
-            mentions_some(Ask::Needs(of.term, of.sets), term)
-                || calls_some(g, Some(at), marks, term)
-        }
-    }
 }
 
 /// Whether a term needs the provider, whatever local rules it calls.
@@ -208,26 +136,41 @@ fn some_need(terms: &[CoreTerm], of: Provider, behind: &[u32]) -> bool
         .any(|term| needs(of, item_at(terms, *term as usize)))
 }
 
-fn provides_some(
-    g: &Core,
-    at: (u32, u32),
-    terms: &[CoreTerm],
-    of: Provider,
-    marks: &[bool],
-    behind: &[u32],
-) -> bool
-    requires { marks.now ≡ spec.readers_of g.now of.sets }
-    ensures { result ≡ list_any (λ w. spec.provides g.now at of.term of.sets (slice_get terms.now w)) behind.now }
+/// Whether a term calls a local rule of the alternative, marked or not.
+fn calls_one(held: Held, term: Option<&CoreTerm>) -> bool
+    ensures { result ≡ calling.calls_one held.entry.grammar.now held.entry.at (option_copied term.entry) }
 {
-    behind.iter().any(|term| provides(g, at, of, marks, item_at(terms, *term as usize)))
+    match term {
+        None => false,
+        Some(term) => calls_some(held.grammar, Some(held.at), None, term),
+    }
 }
 
-fn some_read(caller: &[CoreTerm], attr: u32) -> bool
-    ensures { result ≡ list_any (spec.mentions_some (Ask.Outer attr)) caller.now }
+fn some_call(held: Held, behind: &[u32]) -> bool
+    ensures { result ≡ list_any (λ w. calling.calls_one held.entry.grammar.now held.entry.at (slice_get held.entry.terms.now w)) behind.now }
 {
-    caller
-        .iter()
-        .any(|term| mentions_some(Ask::Outer(attr), term))
+    behind.iter().any(|term| calls_one(held, item_at(held.terms, *term as usize)))
+}
+
+#[tactic(auto, unfolding(crate::specs::Holder::provides), using(crate::proofs::Marking::marked_calls))]
+fn provides(held: Held, of: Provider, marks: &[bool], term: Option<&CoreTerm>) -> bool
+    requires { marks.now ≡ spec.readers_of held.grammar.now of.sets }
+    ensures { result ≡ spec.provides held.entry.grammar.now held.entry.at of.term of.sets (option_copied term.entry) }
+{
+    match term {
+        None => false,
+        Some(term) => {
+            mentions_some(Ask::Needs(of.term, of.sets), term)
+                || calls_some(held.grammar, Some(held.at), Some(marks), term)
+        }
+    }
+}
+
+fn provides_some(held: Held, of: Provider, marks: &[bool], behind: &[u32]) -> bool
+    requires { marks.now ≡ spec.readers_of held.grammar.now of.sets }
+    ensures { result ≡ list_any (λ w. spec.provides held.entry.grammar.now held.entry.at of.term of.sets (slice_get held.entry.terms.now w)) behind.now }
+{
+    behind.iter().any(|term| provides(held, of, marks, item_at(held.terms, *term as usize)))
 }
 
 /// Whether the caller mentions an attribute of its holder.
@@ -237,44 +180,59 @@ pub fn mentions_holder(caller: &[CoreTerm]) -> bool
     caller.iter().any(|term| mentions_some(Ask::AnyOuter, term))
 }
 
-fn is_wanted(caller: &[CoreTerm], attr: Option<u32>) -> bool
-    ensures { result ≡ spec.is_wanted caller.now attr }
+fn is_wanted(wanted: &[u32], attr: Option<u32>) -> bool
+    ensures { result ≡ outers.is_among wanted.now attr }
 {
     match attr {
         None => false,
-        Some(attr) => some_read(caller, attr),
+        Some(attr) => wanted.contains(&attr),
     }
 }
 
-/// What is mentioned is looked for first: to find the readers of an attribute takes rounds over all rules.
-#[tactic(auto, unfolding(crate::specs::Holder::matters), using(crate::proofs::Needs::needed_matters))]
+/// What is mentioned is looked for first: to find the readers of an attribute takes rounds over all rules. Where no local rule is called
+/// from behind, nothing reads it so.
+#[tactic(auto, unfolding(crate::specs::Outers::matters_by), using(crate::proofs::Needs::needed_matters, crate::proofs::Needs::none_matters))]
 fn matters(
     alloc: Global,
-    g: &Core,
-    at: (u32, u32),
-    terms: &[CoreTerm],
-    caller: &[CoreTerm],
+    held: Held,
+    wanted: &[u32],
     term: u32,
     behind: &[u32],
 ) -> Result<bool, AllocError>
-    ensures { IfOk result (λ matters. matters ≡ spec.matters g.now at terms.now caller.now term behind.now) }
+    ensures { IfOk result (λ matters. matters ≡ outers.matters_by held.entry.grammar.now held.entry.at held.entry.terms.now wanted.now term behind.now) }
 {
     let of = Provider {
         term,
-        sets: set_at(terms, term),
+        sets: set_at(held.terms, term),
     };
-    if is_wanted(caller, of.sets) {
+    if is_wanted(wanted, of.sets) {
         return Ok(true);
     }
-    if some_need(terms, of, behind) {
+    if some_need(held.terms, of, behind) {
         return Ok(true);
     }
-    let marks = readers_of(alloc, g, of.sets)?;
-    Ok(provides_some(g, at, terms, of, marks.as_slice(), behind))
+    if !some_call(held, behind) {
+        return Ok(false);
+    }
+    let marks = readers_of(alloc, held.grammar, of.sets)?;
+    Ok(provides_some(held, of, marks.as_slice(), behind))
+}
+
+fn kept_of(alloc: Global, held: Held, wanted: &[u32], order: &[u32]) -> Result<Vec<u32>, AllocError>
+    ensures { IfOk result (λ kept. (caller : List CoreTerm) → wanted.now ≡ outers.outers caller
+        → kept.items ≡ spec.kept held.entry.grammar.now held.entry.at held.entry.terms.now caller order.now) }
+{
+    let mut behind = Vec::new(alloc);
+    for place in (0..order.len()).rev() {
+        let term = order[place];
+        if matters(alloc, held, wanted, term, behind.as_slice())? {
+            behind.insert(0, term)?;
+        }
+    }
+    Ok(behind)
 }
 
 /// The holder's terms that matter, in their order.
-#[tactic(auto, unfolding(crate::specs::Holder::kept))]
 pub fn kept(
     alloc: Global,
     g: &Core,
@@ -284,21 +242,11 @@ pub fn kept(
 ) -> Result<Vec<u32>, AllocError>
     ensures { IfOk result (λ kept. kept.items ≡ spec.kept g.now at holder.now.terms caller.now holder.now.order) }
 {
-    let order = holder.order.as_slice();
-    let mut behind = Vec::new(alloc);
-    for place in (0..order.len()).rev() {
-        let term = order[place];
-        if matters(
-            alloc,
-            g,
-            at,
-            holder.terms.as_slice(),
-            caller,
-            term,
-            behind.as_slice(),
-        )? {
-            behind.insert(0, term)?;
-        }
-    }
-    Ok(behind)
+    let held = Held {
+        grammar: g,
+        at,
+        terms: holder.terms.as_slice(),
+    };
+    let wanted = outers(alloc, caller)?;
+    kept_of(alloc, held, wanted.as_slice(), holder.order.as_slice())
 }
