@@ -1,6 +1,5 @@
 pub mod Parts
 pub mod Puts
-pub mod Words
 pub mod Tables
 pub mod Branches
 pub mod Inserted

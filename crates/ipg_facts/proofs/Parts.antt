@@ -1,18 +1,19 @@
 -- A part that is added among others.
 use Rattle.std.proofs.Common.{◌≡◌, ℕ, zero, suc, ◌+◌, ◌<◌, ◌≤◌, List, [], ◌∷◌, ◌++◌, length, get_or, drop, refl, sym, ap, ◌∙◌, arith, true, false, Some, ◌+ℤ◌}
-use Rattle.std.specs.Prelude.{Result, Ok, Err, OnOk, slice_get, slice_set, bytes_eq}
+use Rattle.std.specs.Prelude.{Result, Ok, Err, OnOk, slice_get, slice_set}
 use Rattle.std.proofs.Math.Seq.{drop-cons}
 use Rattle.std.proofs.lemmas.List.{drop_all}
 use Rattle.ipg_facts.specs.declared.fact.Part.{Part}
+use Rattle.ipg_facts.specs.Key.{same_key}
 use Rattle.ipg_facts.specs.Form.{add_part, add_parts}
 
 -- the first i parts are of other variables
 abbrev pub Differ : ℕ → List Part → Part → Type 0
 Differ zero xs p = Unit {0}
 Differ (suc i) [] p = Unit {0}
-Differ (suc i) (x ∷ xs) p = (bytes_eq x.key p.key ≡ false) × Differ i xs p
+Differ (suc i) (x ∷ xs) p = (same_key x.key p.key ≡ false) × Differ i xs p
 
-pub found : (i : ℕ) (xs : List Part) (x p : Part) → Differ i xs p → slice_get xs i ≡ Some x → bytes_eq x.key p.key ≡ true
+pub found : (i : ℕ) (xs : List Part) (x p : Part) → Differ i xs p → slice_get xs i ≡ Some x → same_key x.key p.key ≡ true
     → slice_set xs i (record x { factor = x.factor +ℤ p.factor }) ≡ add_part xs p
 unfolding add_part
 found zero [] x p d e same = cc
@@ -20,10 +21,10 @@ found (suc i) [] x p d e same = cc
 found zero (y ∷ xs) x p d e same = let f : y ≡ x = cc in rw (f, same) refl
 found (suc i) (y ∷ xs) x p d e same = rw d.0 (ap (λ zs. y ∷ zs) (found i xs x p d.1 e same))
 
-pub other : (i : ℕ) (xs : List Part) (x p : Part) → Differ i xs p → slice_get xs i ≡ Some x → bytes_eq x.key p.key ≡ false → Differ (suc i) xs p
+pub other : (i : ℕ) (xs : List Part) (x p : Part) → Differ i xs p → slice_get xs i ≡ Some x → same_key x.key p.key ≡ false → Differ (suc i) xs p
 other zero [] x p d e differs = tt
 other (suc i) [] x p d e differs = tt
-other zero (y ∷ xs) x p d e differs = let f : y ≡ x = cc in (ap (λ (z : Part). bytes_eq z.key p.key) f ∙ differs, tt)
+other zero (y ∷ xs) x p d e differs = let f : y ≡ x = cc in (ap (λ (z : Part). same_key z.key p.key) f ∙ differs, tt)
 other (suc i) (y ∷ xs) x p d e differs = (d.0, other i xs x p d.1 e differs)
 
 pub nowhere : (i : ℕ) (xs : List Part) (p : Part) → Differ i xs p → length xs ≤ i → xs ++ p ∷ [] ≡ add_part xs p

@@ -1,44 +1,44 @@
 -- The table of keys, as the list of them.
 use Rattle.std.proofs.Common.{◌≡◌, ℕ, ◌+◌, ◌||◌, ◌≤◌, Bool, true, false, cond, not, List, [], ◌∷◌}
 use Rattle.std.proofs.Common.{◌++◌, map, length, None, Some, refl, ap, ◌∙◌, sym, arith, nat_lt}
-use Rattle.std.specs.Prelude.{bytes_eq, if◌then◌else◌, flat_map, get_or, drop, suc, ◌<◌}
+use Rattle.std.specs.Prelude.{if◌then◌else◌, flat_map, get_or, drop, suc, ◌<◌}
 use Rattle.std.proofs.Math.Seq.{drop-cons}
 use Rattle.ipg_facts.specs.declared.fact.Fact.{Fact, fold-roll-Fact}
 use Rattle.ipg_facts.specs.declared.fact.Fact.TheVariants as facts
 use Rattle.ipg_facts.specs.declared.fact.Fact.TheOpen.{Fact-F}
-use Rattle.ipg_facts.specs.Key.{Key}
+use Rattle.ipg_facts.specs.Key.{Key, same_key}
 use Rattle.std.specs.List.{position, position_or_len, list_any}
 use Rattle.std.proofs.lemmas.List.Sums.{prefix_len-le-length}
 use Rattle.std.proofs.lemmas.Bool.Decides.{nat_tests}
 use denote.Ref.{Bor}
 use Rattle.ipg_facts.specs.Numbers.{with_key, with_keys, place, keys_in, keys_step}
 
-abbrev pub shown : List (Bor (List ℕ)) → List (List ℕ)
+abbrev pub shown : List (Bor Key) → List Key
 shown keys = map (λ key. key.now) keys
 
-place_shown : (p : List ℕ → Bool) (keys : List (Bor (List ℕ))) → position_or_len (λ key. p key.now) keys ≡ position_or_len p (shown keys)
+place_shown : (p : Key → Bool) (keys : List (Bor Key)) → position_or_len (λ key. p key.now) keys ≡ position_or_len p (shown keys)
 place_shown p [] = refl
 place_shown p (key ∷ keys) = ap (λ n. cond (not (p key.now)) (1 + n) 0) (place_shown p keys)
 
-any_shown : (p : List ℕ → Bool) (keys : List (Bor (List ℕ))) → list_any (λ key. p key.now) keys ≡ list_any p (shown keys)
+any_shown : (p : Key → Bool) (keys : List (Bor Key)) → list_any (λ key. p key.now) keys ≡ list_any p (shown keys)
 any_shown p [] = refl
 any_shown p (key ∷ keys) = ap (λ b. p key.now || b) (any_shown p keys)
 
-shown_more : (keys : List (Bor (List ℕ))) (key : Bor (List ℕ)) → shown (keys ++ key ∷ []) ≡ shown keys ++ key.now ∷ []
+shown_more : (keys : List (Bor Key)) (key : Bor Key) → shown (keys ++ key ∷ []) ≡ shown keys ++ key.now ∷ []
 shown_more [] key = refl
 shown_more (k ∷ keys) key = ap (λ names. k.now ∷ names) (shown_more keys key)
 
-chosen : (b : Bool) (keys : List (Bor (List ℕ))) (key : Bor (List ℕ))
+chosen : (b : Bool) (keys : List (Bor Key)) (key : Bor Key)
     → shown (if b then keys else keys ++ key ∷ []) ≡ (if b then shown keys else shown keys ++ key.now ∷ [])
 chosen true keys key = refl
 chosen false keys key = shown_more keys key
 
 -- a key put into the table
-pub shown_with : (keys : List (Bor (List ℕ))) (key : Bor (List ℕ))
-    → shown (if list_any (λ k. bytes_eq key.now k.now) keys then keys else keys ++ key ∷ []) ≡ with_key (shown keys) key.now
+pub shown_with : (keys : List (Bor Key)) (key : Bor Key)
+    → shown (if list_any (λ k. same_key key.now k.now) keys then keys else keys ++ key ∷ []) ≡ with_key (shown keys) key.now
 shown_with keys key =
-    chosen (list_any (λ k. bytes_eq key.now k.now) keys) keys key
-    ∙ ap (λ b. if b then shown keys else shown keys ++ key.now ∷ []) (any_shown (bytes_eq key.now) keys)
+    chosen (list_any (λ k. same_key key.now k.now) keys) keys key
+    ∙ ap (λ b. if b then shown keys else shown keys ++ key.now ∷ []) (any_shown (same_key key.now) keys)
 
 there : (b : Bool) (n at : ℕ) → Some n ≡ cond b (Some at) None → n ≡ at
 there true n at e = cc
@@ -51,16 +51,16 @@ nowhere false at e = refl
 not_below : (at count : ℕ) → at ≤ count → nat_lt at count ≡ false → count ≡ at
 not_below at count h e = grind (arith, nat_tests)
 
-pub found_there : (key : List ℕ) (keys : List (Bor (List ℕ))) (n : ℕ) → Some n ≡ position (λ k. bytes_eq key k.now) keys → n ≡ place (shown keys) key
-found_there key keys n e = there _ n _ e ∙ place_shown (bytes_eq key) keys
+pub found_there : (key : Key) (keys : List (Bor Key)) (n : ℕ) → Some n ≡ position (λ k. same_key key k.now) keys → n ≡ place (shown keys) key
+found_there key keys n e = there _ n _ e ∙ place_shown (same_key key) keys
 
-pub found_nowhere : (key : List ℕ) (keys : List (Bor (List ℕ))) → None ≡ position (λ k. bytes_eq key k.now) keys → length keys ≡ place (shown keys) key
+pub found_nowhere : (key : Key) (keys : List (Bor Key)) → None ≡ position (λ k. same_key key k.now) keys → length keys ≡ place (shown keys) key
 found_nowhere key keys e =
-    let test : Bor (List ℕ) → Bool = λ k. not (bytes_eq key k.now) in
-    not_below _ _ (prefix_len-le-length test keys) (nowhere _ _ e) ∙ place_shown (bytes_eq key) keys
+    let test : Bor Key → Bool = λ k. not (same_key key k.now) in
+    not_below _ _ (prefix_len-le-length test keys) (nowhere _ _ e) ∙ place_shown (same_key key) keys
 
 -- keys one after another
-pub with_keys_append : (keys one two : List (List ℕ)) → with_keys keys (one ++ two) ≡ with_keys (with_keys keys one) two
+pub with_keys_append : (keys one two : List Key) → with_keys keys (one ++ two) ≡ with_keys (with_keys keys one) two
 with_keys_append keys [] two = refl
 with_keys_append keys (k ∷ one) two = with_keys_append (with_key keys k) one two
 
@@ -74,7 +74,7 @@ at_item xs i x is within =
     let next : suc i ≡ i + 1 = omega arith in
     drop-cons xs i x within ∙ ap (λ y. y ∷ drop (suc i) xs) (sym is) ∙ ap (λ j. x ∷ drop j xs) next
 
-pub facts_more : (keys : List (List ℕ)) (facts : List Fact) (i : ℕ) (fact : Fact) (all : List (List ℕ)) → i < length facts → fact ≡ get_or facts i fact
+pub facts_more : (keys : List Key) (facts : List Fact) (i : ℕ) (fact : Fact) (all : List Key) → i < length facts → fact ≡ get_or facts i fact
     → with_keys keys (flat_map keys_in (drop i facts)) ≡ all → with_keys (with_keys keys (keys_in fact)) (flat_map keys_in (drop (i + 1) facts)) ≡ all
 facts_more keys facts i fact all within is h =
     sym (with_keys_append keys (keys_in fact) (flat_map keys_in (drop (i + 1) facts)))

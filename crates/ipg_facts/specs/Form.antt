@@ -1,13 +1,13 @@
 -- Linear forms over variables that carry their own facts, and the facts that such forms make.
 use Rattle.std.specs.Prelude.{◌^◌, List, [], ◌∷◌, ◌++◌, length, flat_map, map, Bool, false, not, ◌&&◌}
-use Rattle.std.specs.Prelude.{nat_le, nat_lt, bytes_eq, ℤ, pos, negsuc, ◌+ℤ◌, ◌*ℤ◌, if◌then◌else◌}
+use Rattle.std.specs.Prelude.{nat_le, nat_lt, ℤ, pos, negsuc, ◌+ℤ◌, ◌*ℤ◌, if◌then◌else◌}
 use Rattle.std.specs.List.{list_all, filter}
 use Rattle.std.specs.Int.RustNames.{unsigned_abs}
 use Rattle.ipg_facts.specs.declared.fact.Part.{Part}
 use Rattle.ipg_facts.specs.declared.fact.Form.{Form}
 use Rattle.ipg_facts.specs.declared.fact.Fact.{Fact}
 use Rattle.ipg_facts.specs.declared.fact.Fact.TheVariants.{Atom, All, Any}
-use Rattle.ipg_facts.specs.Key.{Key}
+use Rattle.ipg_facts.specs.Key.{Key, same_key}
 
 -- a variable, with the facts that are put where it is mentioned
 abbrev pub variable : Key → List Fact → Form
@@ -19,7 +19,7 @@ number z = record { parts = []; constant = z }
 -- one part more: behind the others, or to the factor of the part of that variable
 unfoldable pub add_part : List Part → Part → List Part
 add_part [] p = p ∷ []
-add_part (q ∷ qs) p = if bytes_eq q.key p.key then record q { factor = q.factor +ℤ p.factor } ∷ qs else q ∷ add_part qs p
+add_part (q ∷ qs) p = if same_key q.key p.key then record q { factor = q.factor +ℤ p.factor } ∷ qs else q ∷ add_part qs p
 
 unfoldable pub add_parts : List Part → List Part → List Part
 add_parts ps [] = ps

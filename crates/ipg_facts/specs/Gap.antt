@@ -19,6 +19,8 @@ use Rattle.ipg_facts.specs.declared.fact.Form.{Form}
 use Rattle.ipg_facts.specs.declared.fact.Fact.{Fact}
 use Rattle.ipg_facts.specs.declared.fact.Fact.TheVariants.{All, Any}
 use Rattle.ipg_facts.specs.declared.edition.Edition.TheVariants.{Later}
+use Rattle.ipg_facts.specs.declared.key.Side.{Side}
+use Rattle.ipg_facts.specs.declared.key.Side.TheVariants.{Point}
 use Rattle.ipg_facts.specs.Key.{caller_side, whole}
 use Rattle.ipg_facts.specs.Form.{variable, shifted, leq, less, choice}
 use Rattle.ipg_facts.specs.Reading.{Scope, length_of, nought, read, form}
@@ -27,8 +29,8 @@ use Rattle.ipg_facts.specs.Keep.{opening, holder_facts, alt_at}
 use Rattle.ipg_facts.specs.Numbers.{all_of}
 
 -- a side of its own, so that no key of an alternative is the place's
-abbrev pub point_side : ℕ
-point_side = 2
+abbrev pub point_side : Side
+point_side = Point
 
 -- the place, a number of 64 bits
 abbrev pub point : Form

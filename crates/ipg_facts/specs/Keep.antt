@@ -9,6 +9,7 @@ use Rattle.ipg_facts.specs.declared.fact.Fact.{Fact}
 use Rattle.ipg_facts.specs.declared.edition.Edition.{Edition}
 use Rattle.ipg_facts.specs.declared.edition.Edition.TheVariants.{Later}
 use Rattle.ipg_facts_holder.specs.declared.mention.Ask.TheVariants.{AnyOuter}
+use Rattle.ipg_facts.specs.declared.key.Side.{Side}
 use Rattle.ipg_facts.specs.Key.{caller_side, holder_side}
 use Rattle.ipg_facts.specs.Form.{leq}
 use Rattle.ipg_facts.specs.Reading.{Scope, length_of, if_later}
@@ -16,7 +17,7 @@ use Rattle.ipg_facts.specs.Members.{terms_members, passed_all, own_at}
 use Rattle.ipg_facts_holder.specs.Holder.{mentions_some, kept}
 
 -- an alternative none of whose arrays has run
-unfoldable pub opening : Grammar → List Bool → Edition → ℕ → CoreAlt → Scope
+unfoldable pub opening : Grammar → List Bool → Edition → Side → CoreAlt → Scope
 opening g marks edition side alt = record {
   edition = edition;
   side = side;

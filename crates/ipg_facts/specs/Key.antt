@@ -1,28 +1,58 @@
--- How variables are known: each by a list of numbers that spells what it stands for, the alternative's side first.
-use Rattle.std.specs.Prelude.{ℕ, List, [], ◌∷◌, ◌++◌, ℤ, pos, negsuc, flat_map}
+-- How variables are known: whose part or alternative, and what of it.
+use Rattle.std.specs.Prelude.{◌≡◌, ℕ, List, Bool, true, false, nat_eq, bytes_eq, ◌&&◌, Decides}
+use Rattle.std.specs.Ordering.{int_eq}
 use Rattle.ipg_num.specs.declared.op.Op2.{Op2}
 use Rattle.ipg_num.specs.declared.op.Op2.TheVariants.{Add, Sub, Mul, Div, Mod, Shl, Shr, BitAnd, BitOr, BitXor, Eq, Ne, Lt, Le, Gt, Ge}
 use Rattle.ipg_core.specs.declared.grammar.CoreField.{CoreField}
-use Rattle.ipg_core.specs.declared.grammar.CoreField.TheVariants.{Attr, Start, End}
+use Rattle.ipg_core.specs.declared.grammar.CoreField.TheVariants as fields
 use Rattle.ipg_core.specs.declared.grammar.Sym.{Sym}
 use Rattle.ipg_core.specs.declared.grammar.Sym.TheVariants.{Text, Prim, Rule}
-use Rattle.ipg_core.specs.declared.grammar.CoreExpr.{CoreExpr, fold-CoreExpr}
+use Rattle.ipg_core.specs.declared.grammar.CoreExpr.{CoreExpr, fold-CoreExpr, out-CoreExpr}
 use Rattle.ipg_core.specs.declared.grammar.CoreExpr.TheOpen.{CoreExpr-F}
 use Rattle.ipg_core.specs.Grammar.{primitive_number, name_at}
-
-abbrev pub Key : Type 0
-Key = List ℕ
+use Rattle.ipg_facts.specs.declared.key.Side.{Side}
+use Rattle.ipg_facts.specs.declared.key.Side.TheVariants.{Caller, Holder, Point}
+use Rattle.ipg_facts.specs.declared.key.Known.{Known}
+use Rattle.ipg_facts.specs.declared.key.Known.TheVariants.{Whole, Attribute, Loop, Start, End, Named, Value}
+pub use Rattle.ipg_facts.specs.declared.key.Key.{Key}
 
 -- the alternative of the edge's caller, and that of its holder
-abbrev pub caller_side : ℕ
-caller_side = 0
+abbrev pub caller_side : Side
+caller_side = Caller
 
-abbrev pub holder_side : ℕ
-holder_side = 1
+abbrev pub holder_side : Side
+holder_side = Holder
 
--- a word of a spelled expression is four numbers
-abbrev pub word : (kind a b c : ℕ) → List ℕ
-word kind a b c = kind ∷ a ∷ b ∷ c ∷ []
+-- the length of the side's part
+abbrev pub whole : Side → Key
+whole side = record { side = side; of = Whole }
+
+-- an attribute that the side's alternative sets
+abbrev pub attribute : Side → ℕ → Key
+attribute side a = record { side = side; of = Attribute a }
+
+-- the loop variable
+abbrev pub loop : Side → Key
+loop side = record { side = side; of = Loop }
+
+-- a field of the result of a slot or a switch, an attribute by its name
+abbrev pub start : Side → ℕ → Key
+start side term = record { side = side; of = Start term }
+
+abbrev pub end : Side → ℕ → Key
+end side term = record { side = side; of = End term }
+
+abbrev pub named : Side → ℕ → List ℕ → Key
+named side term name = record { side = side; of = Named term name }
+
+abbrev pub field : List (List ℕ) → Side → ℕ → CoreField → Key
+field names side term (fields.Attr a) = named side term (name_at names a)
+field names side term fields.Start = start side term
+field names side term fields.End = end side term
+
+-- the value of an expression
+abbrev pub value : Side → CoreExpr → Key
+value side e = record { side = side; of = Value e }
 
 abbrev pub operator_number : Op2 → ℕ
 operator_number Add = 0
@@ -42,70 +72,63 @@ operator_number Le = 13
 operator_number Gt = 14
 operator_number Ge = 15
 
-abbrev pub spelled_number : ℤ → List ℕ
-spelled_number (pos n) = word 0 n 0 0
-spelled_number (negsuc n) = word 1 n 0 0
+abbrev pub same_operator : Op2 → Op2 → Bool
+same_operator a b = nat_eq (operator_number a) (operator_number b)
 
-abbrev pub spelled_field : ℕ → ℕ → CoreField → List ℕ
-spelled_field kind term (Attr a) = word kind term 0 a
-spelled_field kind term Start = word kind term 1 0
-spelled_field kind term End = word kind term 2 0
+abbrev pub same_field : CoreField → CoreField → Bool
+same_field (fields.Attr a) (fields.Attr b) = nat_eq a b
+same_field fields.Start fields.Start = true
+same_field fields.End fields.End = true
+same_field _ _ = false
 
-abbrev pub spelled_byte : ℕ → List ℕ
-spelled_byte byte = word 17 byte 0 0
+abbrev pub same_sym : Sym → Sym → Bool
+same_sym (Text a) (Text b) = bytes_eq a b
+same_sym (Prim a) (Prim b) = nat_eq (primitive_number a) (primitive_number b)
+same_sym (Rule a) (Rule b) = nat_eq a b
+same_sym _ _ = false
 
-abbrev pub spelled_sym : Sym → List ℕ
-spelled_sym (Text bytes) = flat_map spelled_byte bytes ++ word 18 0 0 0
-spelled_sym (Prim prim) = word 15 (primitive_number prim) 0 0
-spelled_sym (Rule r) = word 16 r 0 0
+-- an expression, of whose parts it is known which expressions they are, and another
+abbrev pub same_layer : CoreExpr-F (CoreExpr → Bool) → CoreExpr-F CoreExpr → Bool
+same_layer (CoreExpr-F.Num x) (CoreExpr-F.Num y) = int_eq x y
+same_layer CoreExpr-F.Eoi CoreExpr-F.Eoi = true
+same_layer (CoreExpr-F.Own a) (CoreExpr-F.Own b) = nat_eq a b
+same_layer (CoreExpr-F.Outer a) (CoreExpr-F.Outer b) = nat_eq a b
+same_layer CoreExpr-F.Loop CoreExpr-F.Loop = true
+same_layer (CoreExpr-F.Seen t s f) (CoreExpr-F.Seen u r g) = nat_eq t u && (same_sym s r && same_field f g)
+same_layer (CoreExpr-F.Item t i f) (CoreExpr-F.Item u j g) = nat_eq t u && (same_field f g && i j)
+same_layer (CoreExpr-F.After t l) (CoreExpr-F.After u m) = nat_eq t u && l m
+same_layer (CoreExpr-F.Neg a) (CoreExpr-F.Neg b) = a b
+same_layer (CoreExpr-F.Not a) (CoreExpr-F.Not b) = a b
+same_layer (CoreExpr-F.Two o a b) (CoreExpr-F.Two p c d) = same_operator o p && (a c && b d)
+same_layer (CoreExpr-F.Both a b) (CoreExpr-F.Both c d) = a c && b d
+same_layer (CoreExpr-F.Either a b) (CoreExpr-F.Either c d) = a c && b d
+same_layer (CoreExpr-F.Cond c a b) (CoreExpr-F.Cond d e f) = c d && (a e && b f)
+same_layer _ _ = false
 
--- an expression's parts come before it, so that no two expressions are spelled alike
-abbrev pub spell : CoreExpr-F (List ℕ) → List ℕ
-spell (CoreExpr-F.Num z) = spelled_number z
-spell CoreExpr-F.Eoi = word 2 0 0 0
-spell (CoreExpr-F.Own a) = word 3 a 0 0
-spell (CoreExpr-F.Outer a) = word 4 a 0 0
-spell CoreExpr-F.Loop = word 5 0 0 0
-spell (CoreExpr-F.Seen term sym field) = spelled_sym sym ++ spelled_field 6 term field
-spell (CoreExpr-F.Item term index field) = index ++ spelled_field 7 term field
-spell (CoreExpr-F.After term left) = left ++ word 8 term 0 0
-spell (CoreExpr-F.Neg a) = a ++ word 9 0 0 0
-spell (CoreExpr-F.Not a) = a ++ word 10 0 0 0
-spell (CoreExpr-F.Two op a b) = a ++ (b ++ word 11 (operator_number op) 0 0)
-spell (CoreExpr-F.Both a b) = a ++ (b ++ word 12 0 0 0)
-spell (CoreExpr-F.Either a b) = a ++ (b ++ word 13 0 0 0)
-spell (CoreExpr-F.Cond c a b) = c ++ (a ++ (b ++ word 14 0 0 0))
+-- an expression is another
+unfoldable pub same_expr : CoreExpr → CoreExpr → Bool
+same_expr = fold-CoreExpr (CoreExpr → Bool) (λ layer other. same_layer layer (out-CoreExpr other))
 
-unfoldable pub spelled : CoreExpr → List ℕ
-spelled = fold-CoreExpr (List ℕ) spell
+abbrev pub same_side : Side → Side → Bool
+same_side Caller Caller = true
+same_side Holder Holder = true
+same_side Point Point = true
+same_side _ _ = false
 
--- the length of the side's part
-abbrev pub whole : ℕ → Key
-whole side = side ∷ 0 ∷ []
+abbrev pub same_known : Known → Known → Bool
+same_known Whole Whole = true
+same_known (Attribute a) (Attribute b) = nat_eq a b
+same_known Loop Loop = true
+same_known (Start t) (Start u) = nat_eq t u
+same_known (End t) (End u) = nat_eq t u
+same_known (Named t n) (Named u m) = nat_eq t u && bytes_eq n m
+same_known (Value e) (Value f) = same_expr e f
+same_known _ _ = false
 
--- an attribute that the side's alternative sets
-abbrev pub attribute : ℕ → ℕ → Key
-attribute side a = side ∷ 1 ∷ a ∷ []
+-- a key is another
+unfoldable pub same_key : Key → Key → Bool
+same_key a b = same_side a.side b.side && same_known a.of b.of
 
--- the loop variable
-abbrev pub loop : ℕ → Key
-loop side = side ∷ 2 ∷ []
-
--- a field of the result of a slot or a switch, an attribute by its name
-abbrev pub start : ℕ → ℕ → Key
-start side term = side ∷ 3 ∷ term ∷ []
-
-abbrev pub end : ℕ → ℕ → Key
-end side term = side ∷ 4 ∷ term ∷ []
-
-abbrev pub named : ℕ → ℕ → List ℕ → Key
-named side term name = side ∷ 5 ∷ term ∷ name
-
-abbrev pub field : List (List ℕ) → ℕ → ℕ → CoreField → Key
-field names side term (Attr a) = named side term (name_at names a)
-field names side term Start = start side term
-field names side term End = end side term
-
--- the value of an expression, by its spelling
-abbrev pub value : ℕ → List ℕ → Key
-value side words = side ∷ 6 ∷ words
+-- which says that they are equal
+abbrev pub SameKeysAreEqual : Type 0
+SameKeysAreEqual = (a b : Key) → Decides (same_key a b) (a ≡ b)

@@ -14,3 +14,8 @@ pub mod Aim
 pub mod Joint
 -- the table in which the code numbers variables
 pub mod Table
+pub mod Hashing
+-- that keys which are the same are equal, and that what is read of an expression names it
+pub mod Induct
+pub mod Equality
+pub mod Said

@@ -1,5 +1,5 @@
 -- From facts over keys to a formula over numbers: variables are numbered by their first mention, the part's length first.
-use Rattle.std.specs.Prelude.{ℕ, List, [], ◌∷◌, ◌++◌, flat_map, map, Bool, nat_lt, bytes_eq, ℤ, pos, negsuc, if◌then◌else◌, ◌||◌}
+use Rattle.std.specs.Prelude.{ℕ, List, [], ◌∷◌, ◌++◌, flat_map, map, Bool, nat_lt, ℤ, pos, negsuc, if◌then◌else◌, ◌||◌}
 use Rattle.std.specs.List.{list_any, position_or_len}
 use Rattle.ipg_core.specs.Grammar.{Grammar}
 use Rattle.ipg_graph.specs.declared.edge.Edge.{Edge}
@@ -9,7 +9,7 @@ use Rattle.ipg_lin.specs.declared.formula.Boxed.{Boxed}
 use Rattle.ipg_facts.specs.declared.fact.Fact.{Fact, fold-Fact}
 use Rattle.ipg_facts.specs.declared.fact.Fact.TheOpen.{Fact-F}
 use Rattle.ipg_facts.specs.declared.edition.Edition.TheVariants.{Earlier, Later}
-use Rattle.ipg_facts.specs.Key.{Key, caller_side, holder_side, whole}
+use Rattle.ipg_facts.specs.Key.{Key, caller_side, holder_side, whole, same_key}
 use Rattle.ipg_facts.specs.Keep.{edge_facts}
 
 -- the keys that a fact mentions, in order
@@ -23,7 +23,7 @@ keys_in = fold-Fact (List Key) keys_step
 
 -- a key more, where it is new
 abbrev pub with_key : List Key → Key → List Key
-with_key keys key = if list_any (bytes_eq key) keys then keys else keys ++ key ∷ []
+with_key keys key = if list_any (same_key key) keys then keys else keys ++ key ∷ []
 
 abbrev pub with_keys : List Key → List Key → List Key
 with_keys keys [] = keys
@@ -35,7 +35,7 @@ keys_of facts = with_keys (whole caller_side ∷ []) (flat_map keys_in facts)
 
 -- a variable's number
 abbrev pub place : List Key → Key → ℕ
-place keys key = position_or_len (bytes_eq key) keys
+place keys key = position_or_len (same_key key) keys
 
 -- a term among terms whose variables rise
 unfoldable pub insert : ℕ × ℤ → List (ℕ × ℤ) → List (ℕ × ℤ)
@@ -58,7 +58,7 @@ formula_of keys = fold-Fact Formula (formula_step keys)
 -- a length of a part is from 0 to 2^30, all else is any number of 64 bits
 abbrev pub bounds_of : Key → ℤ × ℤ
 bounds_of key =
-    if bytes_eq key (whole caller_side) || bytes_eq key (whole holder_side) then (pos 0, pos 1073741824)
+    if same_key key (whole caller_side) || same_key key (whole holder_side) then (pos 0, pos 1073741824)
     else (negsuc 9223372036854775807, pos 9223372036854775807)
 
 abbrev pub box_of : List Key → Boxed

@@ -8,7 +8,7 @@ use Rattle.ipg_core.specs.declared.grammar.CoreField.{CoreField}
 use Rattle.ipg_core.specs.declared.grammar.CoreField.TheVariants.{Attr, Start, End}
 use Rattle.ipg_core.specs.declared.grammar.Sym.{Sym}
 use Rattle.ipg_core.specs.declared.grammar.Sym.TheVariants.{Text, Prim, Rule}
-use Rattle.ipg_core.specs.declared.grammar.CoreExpr.{CoreExpr, fold-CoreExpr}
+use Rattle.ipg_core.specs.declared.grammar.CoreExpr.{CoreExpr, fold-CoreExpr, roll-CoreExpr}
 use Rattle.ipg_core.specs.declared.grammar.CoreExpr.TheOpen.{CoreExpr-F}
 use Rattle.ipg_core.specs.declared.grammar.CoreTerm.{CoreTerm}
 use Rattle.ipg_core.specs.declared.grammar.CoreTerm.TheVariants.{Slot, Set, Test, Repeat, Many, Pick}
@@ -20,7 +20,8 @@ use Rattle.ipg_facts.specs.declared.fact.Fact.{Fact}
 use Rattle.ipg_facts.specs.declared.fact.Bounds.{Bounds}
 use Rattle.ipg_facts.specs.declared.edition.Edition.{Edition}
 use Rattle.ipg_facts.specs.declared.edition.Edition.TheVariants.{Earlier, Later}
-use Rattle.ipg_facts.specs.Key.{spell, whole, attribute, loop, field, value, holder_side}
+use Rattle.ipg_facts.specs.declared.key.Side.{Side}
+use Rattle.ipg_facts.specs.Key.{whole, attribute, loop, field, value, holder_side}
 use Rattle.ipg_facts.specs.Form.{variable, number, plus, minus, scaled, shifted, is_constant, in_limits, leq, less, equal, differ, choice}
 
 -- an alternative whose expressions are read
@@ -28,7 +29,7 @@ pub record Scope : Type 0 where
   -- how much is known of its terms
   pub edition : Edition
   -- the caller's or the holder's
-  pub side : ℕ
+  pub side : Side
   -- the names of attributes, by their numbers, and which rules must touch
   pub names : List (List ℕ)
   pub marks : List Bool
@@ -37,7 +38,8 @@ pub record Scope : Type 0 where
   pub arrays : List (Option Bounds)
 
 pub record Reading : Type 0 where
-  pub words : List ℕ
+  -- the expression itself
+  pub said : CoreExpr
   pub form : Form
   pub holds : List Fact
   pub fails : List Fact
@@ -45,16 +47,16 @@ pub record Reading : Type 0 where
 abbrev pub length_of : Scope → Form
 length_of scope = variable (whole scope.side) []
 
--- a variable without facts, known by the expression's spelling
-abbrev pub opaque : Scope → List ℕ → Form
-opaque scope words = variable (value scope.side words) []
+-- a variable without facts, known by the expression
+abbrev pub opaque : Scope → CoreExpr → Form
+opaque scope said = variable (value scope.side said) []
 
 abbrev pub nought : Form
 nought = number (pos 0)
 
 -- an expression that is no comparison is true where it isn't 0
-unfoldable pub plain : List ℕ → Form → Reading
-plain words form = record { words = words; form = form; holds = differ form nought; fails = equal form nought }
+unfoldable pub plain : CoreExpr → Form → Reading
+plain said form = record { said = said; form = form; holds = differ form nought; fails = equal form nought }
 
 -- the bytes that an item touches at least: a number its width, a rule that must touch one
 abbrev pub least_width : List Bool → Option Sym → ℕ
@@ -161,9 +163,9 @@ computed Gt a b = None
 computed Ge a b = None
 
 -- a form that leaves the limits is opaque
-unfoldable pub limited : Scope → List ℕ → Option Form → Form
-limited scope words None = opaque scope words
-limited scope words (Some a) = if in_limits a then a else opaque scope words
+unfoldable pub limited : Scope → CoreExpr → Option Form → Form
+limited scope said None = opaque scope said
+limited scope said (Some a) = if in_limits a then a else opaque scope said
 
 unfoldable pub asserted : Op2 → Form → Form → Form → List Fact
 asserted Eq a b e = equal a b
@@ -185,41 +187,41 @@ denied _ a b e = equal e nought
 
 -- one expression, each part of it already read
 unfoldable pub reading : Scope → CoreExpr-F Reading → Reading
-reading scope (CoreExpr-F.Num z) = plain (spell (CoreExpr-F.Num z)) (number z)
-reading scope CoreExpr-F.Eoi = plain (spell CoreExpr-F.Eoi) (length_of scope)
-reading scope (CoreExpr-F.Own a) = plain (spell (CoreExpr-F.Own a)) (variable (attribute scope.side a) [])
-reading scope (CoreExpr-F.Outer a) = plain (spell (CoreExpr-F.Outer a)) (variable (attribute holder_side a) [])
-reading scope CoreExpr-F.Loop = plain (spell CoreExpr-F.Loop) (variable (loop scope.side) [])
+reading scope (CoreExpr-F.Num z) = plain (roll-CoreExpr (CoreExpr-F.Num z)) (number z)
+reading scope CoreExpr-F.Eoi = plain (roll-CoreExpr CoreExpr-F.Eoi) (length_of scope)
+reading scope (CoreExpr-F.Own a) = plain (roll-CoreExpr (CoreExpr-F.Own a)) (variable (attribute scope.side a) [])
+reading scope (CoreExpr-F.Outer a) = plain (roll-CoreExpr (CoreExpr-F.Outer a)) (variable (attribute holder_side a) [])
+reading scope CoreExpr-F.Loop = plain (roll-CoreExpr CoreExpr-F.Loop) (variable (loop scope.side) [])
 reading scope (CoreExpr-F.Seen term sym f) =
-    plain (spell (CoreExpr-F.Seen term sym f)) (variable (field scope.names scope.side term f) [])
+    plain (roll-CoreExpr (CoreExpr-F.Seen term sym f)) (variable (field scope.names scope.side term f) [])
 reading scope (CoreExpr-F.Item term index f) =
-    let words = spell (CoreExpr-F.Item term index.words f) in
-    plain words (variable (value scope.side words) (if_later scope.edition (item_facts scope (item_at scope term) f (opaque scope words))))
+    let said = roll-CoreExpr (CoreExpr-F.Item term index.said f) in
+    plain said (variable (value scope.side said) (if_later scope.edition (item_facts scope (item_at scope term) f (opaque scope said))))
 reading scope (CoreExpr-F.After term left) =
-    let words = spell (CoreExpr-F.After term left.words) in
-    plain words (variable (value scope.side words) (after_facts scope (touching scope term) (opaque scope words) left.form))
+    let said = roll-CoreExpr (CoreExpr-F.After term left.said) in
+    plain said (variable (value scope.side said) (after_facts scope (touching scope term) (opaque scope said) left.form))
 reading scope (CoreExpr-F.Neg a) =
-    let words = spell (CoreExpr-F.Neg a.words) in
-    plain words (limited scope words (Some (scaled (negsuc 0) a.form)))
+    let said = roll-CoreExpr (CoreExpr-F.Neg a.said) in
+    plain said (limited scope said (Some (scaled (negsuc 0) a.form)))
 reading scope (CoreExpr-F.Not a) =
-    let words = spell (CoreExpr-F.Not a.words) in
-    record { words = words; form = opaque scope words; holds = a.fails; fails = a.holds }
+    let said = roll-CoreExpr (CoreExpr-F.Not a.said) in
+    record { said = said; form = opaque scope said; holds = a.fails; fails = a.holds }
 reading scope (CoreExpr-F.Two op a b) =
-    let words = spell (CoreExpr-F.Two op a.words b.words) in
-    let form = limited scope words (computed op a.form b.form) in
-    record { words = words; form = form; holds = asserted op a.form b.form form; fails = denied op a.form b.form form }
+    let said = roll-CoreExpr (CoreExpr-F.Two op a.said b.said) in
+    let form = limited scope said (computed op a.form b.form) in
+    record { said = said; form = form; holds = asserted op a.form b.form form; fails = denied op a.form b.form form }
 reading scope (CoreExpr-F.Both a b) =
-    let words = spell (CoreExpr-F.Both a.words b.words) in
-    record { words = words; form = opaque scope words; holds = a.holds ++ b.holds; fails = choice a.fails (a.holds ++ b.fails) }
+    let said = roll-CoreExpr (CoreExpr-F.Both a.said b.said) in
+    record { said = said; form = opaque scope said; holds = a.holds ++ b.holds; fails = choice a.fails (a.holds ++ b.fails) }
 reading scope (CoreExpr-F.Either a b) =
-    let words = spell (CoreExpr-F.Either a.words b.words) in
-    record { words = words; form = opaque scope words; holds = choice a.holds (a.fails ++ b.holds); fails = a.fails ++ b.fails }
+    let said = roll-CoreExpr (CoreExpr-F.Either a.said b.said) in
+    record { said = said; form = opaque scope said; holds = choice a.holds (a.fails ++ b.holds); fails = a.fails ++ b.fails }
 reading scope (CoreExpr-F.Cond c a b) =
-    let words = spell (CoreExpr-F.Cond c.words a.words b.words) in
-    let v = opaque scope words in
+    let said = roll-CoreExpr (CoreExpr-F.Cond c.said a.said b.said) in
+    let v = opaque scope said in
     record {
-      words = words;
-      form = variable (value scope.side words) (choice (c.holds ++ equal v a.form) (c.fails ++ equal v b.form));
+      said = said;
+      form = variable (value scope.side said) (choice (c.holds ++ equal v a.form) (c.fails ++ equal v b.form));
       holds = choice (c.holds ++ a.holds) (c.fails ++ b.holds);
       fails = choice (c.holds ++ a.fails) (c.fails ++ b.fails);
     }

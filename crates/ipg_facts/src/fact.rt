@@ -1,8 +1,6 @@
+use crate::key::Key;
 use crate::shared::Shared;
 use ipg_num::List;
-
-/// A variable, known by a list of numbers that spells what it stands for.
-pub type Key = Shared<u64>;
 
 /// An atom over keys: the sum of multiples of variables and a constant is at most 0.
 #[derive(Drop)]

@@ -5,7 +5,9 @@ ghost use Rattle.std.specs.List.{filter, list_all};
 ghost use Rattle.ipg_facts.specs.Form as spec;
 
 use crate::copying::{copy_part, copy_parts};
-use crate::fact::{Draft, Fact, Form, Key, Part};
+use crate::fact::{Draft, Fact, Form, Part};
+use crate::key::Key;
+use crate::same::same_key;
 use crate::shared::Shared;
 use ipg_num::List;
 use std::alloc::{AllocError, Global};
@@ -61,7 +63,7 @@ fn add_part(parts: &mut Vec<Part>, part: &Part) -> Result<(), AllocError>
     ensures { OnOk result (parts.new.items ≡ spec.add_part parts.old.items part.now) }
 {
     for at in 0..parts.len() {
-        if parts[at].key.as_slice() == part.key.as_slice() {
+        if same_key(&parts[at].key, &part.key) {
             return add_factor(&mut parts[at], part);
         }
     }

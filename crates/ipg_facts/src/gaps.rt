@@ -8,7 +8,7 @@ ghost use Rattle.ipg_facts.specs.Gap as spec;
 use crate::edition::Edition;
 use crate::fact::Fact;
 use crate::keeping::{Ground, alt_of, numbered, opening, put_holder_facts};
-use crate::key::CALLER;
+use crate::key::Side;
 use crate::members::put_gap_terms;
 use crate::missing::put_is_place;
 use ipg_core::accepted::Core;
@@ -27,7 +27,7 @@ fn put_gap_facts(
 ) -> Result<(), AllocError>
     ensures { OnOk result (out.new.items ≡ out.old.items ++ spec.gap_facts ground.entry.grammar.now ground.entry.marks.now holder alt.now) }
 {
-    let mut scope = opening(alloc, ground, Edition::Later, CALLER, alt)?;
+    let mut scope = opening(alloc, ground, Edition::Later, Side::Caller, alt)?;
     put_is_place(alloc, out, &scope)?;
     put_holder_facts(alloc, out, ground, holder, alt)?;
     put_gap_terms(alloc, out, &mut scope, alt.order.as_slice())

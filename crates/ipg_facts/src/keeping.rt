@@ -8,7 +8,7 @@ ghost use Rattle.ipg_facts.specs.View.{scope_of};
 
 use crate::edition::Edition;
 use crate::fact::{Bounds, Fact};
-use crate::key::{CALLER, HOLDER};
+use crate::key::{Side, whole};
 use crate::members::{put_own_members, put_terms_members};
 use crate::numbers::{box_of, formulas_of, keys_of};
 use crate::put::put_leq;
@@ -44,7 +44,7 @@ pub fn opening<'a>(
     alloc: Global,
     ground: Ground<'a>,
     edition: Edition,
-    side: u64,
+    side: Side,
     alt: &'a CoreAlt,
 ) -> Result<Scope<'a>, AllocError>
     ensures { IfOk result (λ scope. scope_of scope ≡ spec.opening ground.entry.grammar.now ground.entry.marks.now edition side alt.now) }
@@ -100,8 +100,8 @@ fn put_held_facts(
 ) -> Result<(), AllocError>
     ensures { OnOk result (out.new.items ≡ out.old.items ++ spec.held_facts ground.entry.grammar.now ground.entry.marks.now holder.now caller.now terms.now) }
 {
-    let own = opening(alloc, ground, Edition::Later, CALLER, caller)?;
-    let mut scope = opening(alloc, ground, Edition::Later, HOLDER, holder)?;
+    let own = opening(alloc, ground, Edition::Later, Side::Caller, caller)?;
+    let mut scope = opening(alloc, ground, Edition::Later, Side::Holder, holder)?;
     put_leq(
         alloc,
         out,
@@ -186,7 +186,7 @@ fn put_caller_facts(
     ensures { OnOk result (out.new.items ≡ out.old.items ++ spec.caller_facts ground.entry.grammar.now ground.entry.marks.now edition edge caller.now) }
 {
     let order = before(alloc, edge.term, caller.order.as_slice())?;
-    let mut scope = opening(alloc, ground, edition, CALLER, caller)?;
+    let mut scope = opening(alloc, ground, edition, Side::Caller, caller)?;
     put_terms_members(alloc, out, &mut scope, order.as_slice())?;
     put_own_members(alloc, out, &scope, edge.term, edge.branch)
 }
@@ -236,7 +236,7 @@ fn edge_facts(
 pub fn numbered(alloc: Global, facts: &[Fact]) -> Result<(Formula, Boxed), AllocError>
     ensures { IfOk result (λ made. made ≡ numbers.all_of facts.now) }
 {
-    let first = [CALLER, 0];
+    let first = whole(Side::Caller);
     let keys = keys_of(alloc, &first, facts)?;
     let members = formulas_of(alloc, &keys, facts)?;
     Ok((Formula::All(members), box_of(alloc, &keys)?))

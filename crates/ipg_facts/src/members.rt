@@ -167,7 +167,7 @@ fn put_set(
     ensures { OnOk result
         (out.new.items ≡ out.old.items ++ forms.equal (forms.variable (keys.attribute scope.now.side attr) []) (reading.form (scope_of scope.now) value.now)) }
 {
-    let set = variable(alloc, attribute(alloc, scope.side, attr)?, Vec::new(alloc))?;
+    let set = variable(alloc, attribute(scope.side, attr), Vec::new(alloc))?;
     put_equal(alloc, out, &set, &form_of(alloc, scope, value)?)
 }
 
@@ -371,7 +371,7 @@ fn put_runs(
 ) -> Result<(), AllocError>
     ensures { OnOk result (out.new.items ≡ out.old.items ++ spec.runs (scope_of scope.now) first.now last.now) }
 {
-    let turn = variable(alloc, loop_variable(alloc, scope.side)?, Vec::new(alloc))?;
+    let turn = variable(alloc, loop_variable(scope.side), Vec::new(alloc))?;
     put_leq(alloc, out, &form_of(alloc, scope, first)?, &turn)?;
     put_less(alloc, out, &turn, &form_of(alloc, scope, last)?)
 }

@@ -6,7 +6,7 @@ ghost use Rattle.ipg_facts.specs.View.{scope_of};
 
 use crate::fact::{Fact, Form};
 use crate::form::{shifted, variable};
-use crate::key::{POINT, whole};
+use crate::key::{Side, whole};
 use crate::put::{put_choice, put_leq, put_less};
 use crate::scope::{Scope, length_of, nought, width};
 use crate::touching::Taken;
@@ -17,7 +17,7 @@ use std::alloc::{AllocError, Global};
 fn point(alloc: Global) -> Result<Form, AllocError>
     ensures { IfOk result (λ form. form ≡ spec.point) }
 {
-    variable(alloc, whole(alloc, POINT)?, Vec::new(alloc))
+    variable(alloc, whole(Side::Point), Vec::new(alloc))
 }
 
 /// The place is one of the part.

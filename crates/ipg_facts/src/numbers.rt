@@ -1,19 +1,21 @@
 //! From facts over keys to a formula over numbers.
 
-ghost use Rattle.std.specs.Prelude.{◌≡◌, IfOk, OnOk, ◌++◌, ◌∷◌, [], map, flat_map, length, bytes_eq};
+ghost use Rattle.std.specs.Prelude.{◌≡◌, IfOk, OnOk, ◌++◌, ◌∷◌, [], map, flat_map, length};
 ghost use Rattle.ipg_facts.specs.Numbers as spec;
 ghost use Rattle.ipg_facts.specs.Table.{keys_shown};
 
-use crate::fact::{Draft, Fact, Key};
+use crate::fact::{Draft, Fact};
+use crate::key::{Key, Side, whole};
+use crate::same::same_key;
 use indexmap::IndexSet;
 use ipg_lin::{Boxed, Formula, Linear};
 use ipg_num::List;
 use std::alloc::{AllocError, Global};
 
 /// The variables by their numbers.
-pub type Keys<'a> = IndexSet<&'a [u64]>;
+pub type Keys<'a> = IndexSet<&'a Key>;
 
-fn add_key<'a>(keys: &mut Keys<'a>, key: &'a [u64]) -> Result<(), AllocError>
+fn add_key<'a>(keys: &mut Keys<'a>, key: &'a Key) -> Result<(), AllocError>
     ensures { OnOk result (keys_shown keys.new ≡ spec.with_key (keys_shown keys.old) key.now) }
 {
     keys.insert(key)?;
@@ -24,7 +26,7 @@ fn add_terms<'a>(keys: &mut Keys<'a>, terms: &'a [(Key, i64)]) -> Result<(), All
     ensures { OnOk result (keys_shown keys.new ≡ spec.with_keys (keys_shown keys.old) (map (λ term. term.0) terms.now)) }
 {
     for term in terms {
-        add_key(keys, term.0.as_slice())?;
+        add_key(keys, &term.0)?;
     }
     Ok(())
 }
@@ -52,11 +54,7 @@ fn add_facts<'a>(keys: &mut Keys<'a>, facts: &'a [Fact]) -> Result<(), AllocErro
 }
 
 /// Numbers the variables by their first mention, behind `first`.
-pub fn keys_of<'a>(
-    alloc: Global,
-    first: &'a [u64],
-    facts: &'a [Fact],
-) -> Result<Keys<'a>, AllocError>
+pub fn keys_of<'a>(alloc: Global, first: &'a Key, facts: &'a [Fact]) -> Result<Keys<'a>, AllocError>
     ensures { IfOk result (λ keys. keys_shown keys ≡ spec.with_keys (first.now ∷ []) (flat_map spec.keys_in facts.now)) }
 {
     let mut keys = IndexSet::new(alloc);
@@ -66,10 +64,10 @@ pub fn keys_of<'a>(
 }
 
 /// A variable's number.
-fn place(keys: &Keys<'_>, key: &[u64]) -> u64
+fn place(keys: &Keys<'_>, key: &Key) -> u64
     ensures { result ≡ spec.place (keys_shown keys.now) key.now }
 {
-    match keys.get_index_of(key) {
+    match keys.get_index_of(&key) {
         Some(place) => place as u64,
         None => keys.len() as u64,
     }
@@ -78,7 +76,7 @@ fn place(keys: &Keys<'_>, key: &[u64]) -> u64
 fn numbered_term(keys: &Keys<'_>, term: &(Key, i64)) -> (u64, i64)
     ensures { result ≡ (spec.place (keys_shown keys.now) term.now.0, term.now.1) }
 {
-    (place(keys, term.0.as_slice()), term.1)
+    (place(keys, &term.0), term.1)
 }
 
 /// Puts a term among terms whose variables rise.
@@ -155,10 +153,10 @@ pub fn formulas_of(
     Ok(List::from_vec(formulas))
 }
 
-fn bounds_of(key: &[u64]) -> (i64, i64)
+fn bounds_of(key: &Key) -> (i64, i64)
     ensures { result ≡ spec.bounds_of key.now }
 {
-    if key == [0, 0].as_slice() || key == [1, 0].as_slice() {
+    if same_key(key, &whole(Side::Caller)) || same_key(key, &whole(Side::Holder)) {
         (0, 1 << 30)
     } else {
         (i64::MIN, i64::MAX)

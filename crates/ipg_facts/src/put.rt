@@ -5,8 +5,9 @@ ghost use Rattle.std.specs.List.{filter};
 ghost use Rattle.ipg_facts.specs.Form as spec;
 
 use crate::copying::put_copies;
-use crate::fact::{Draft, Fact, Form, Key, Part};
+use crate::fact::{Draft, Fact, Form, Part};
 use crate::form::{counts, in_limits, minus, shifted};
+use crate::key::Key;
 use ipg_num::List;
 use std::alloc::{AllocError, Global};
 

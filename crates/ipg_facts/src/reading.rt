@@ -8,9 +8,9 @@ ghost use Rattle.ipg_facts.specs.Reading as spec;
 ghost use Rattle.ipg_facts.specs.View.{scope_of};
 
 use crate::edition::Edition;
-use crate::fact::{Bounds, Fact, Form, Key};
+use crate::fact::{Bounds, Fact, Form};
 use crate::form::{in_limits, is_constant, minus, number, plus, scaled, shifted, variable};
-use crate::key::{CALLER, HOLDER, attribute, field, loop_variable, put_words, value};
+use crate::key::{Key, Side, attribute, field, loop_variable, value};
 use crate::put::{put_choice, put_differ, put_equal, put_leq, put_less};
 use crate::scope::{Scope, greatest_of, item_sym, least_width, length_of, name_of, nought};
 use ipg_core::grammar::{CoreExpr, CoreField, Sym};
@@ -24,18 +24,16 @@ fn bare_variable(alloc: Global, key: Key) -> Result<Form, AllocError>
 }
 
 /// The key of an expression's value.
-#[tactic(auto, using(crate::proofs::Words::words_are_spelled))]
+#[tactic(auto, using(crate::specs::Said::said_is))]
 fn value_key(alloc: Global, scope: &Scope, e: &CoreExpr) -> Result<Key, AllocError>
-    ensures { IfOk result (λ key. key ≡ keys.value scope.now.side (spec.read (scope_of scope.now) e.now).words) }
+    ensures { IfOk result (λ key. key ≡ keys.value scope.now.side (spec.read (scope_of scope.now) e.now).said) }
 {
-    let mut words = Vec::new(alloc);
-    put_words(&mut words, e)?;
-    value(alloc, scope.side, words.as_slice())
+    value(alloc, scope.side, e)
 }
 
 /// A variable without facts, known by the expression.
 fn opaque(alloc: Global, scope: &Scope, e: &CoreExpr) -> Result<Form, AllocError>
-    ensures { IfOk result (λ form. form ≡ spec.opaque (scope_of scope.now) (spec.read (scope_of scope.now) e.now).words) }
+    ensures { IfOk result (λ form. form ≡ spec.opaque (scope_of scope.now) (spec.read (scope_of scope.now) e.now).said) }
 {
     bare_variable(alloc, value_key(alloc, scope, e)?)
 }
@@ -176,7 +174,7 @@ fn put_after_facts(
 /// A form that leaves the limits is opaque.
 #[tactic(auto, unfolding(crate::specs::Reading::limited))]
 fn limited(alloc: Global, scope: &Scope, e: &CoreExpr, form: Form) -> Result<Form, AllocError>
-    ensures { IfOk result (λ limited. limited ≡ spec.limited (scope_of scope.now) (spec.read (scope_of scope.now) e.now).words (Some form)) }
+    ensures { IfOk result (λ limited. limited ≡ spec.limited (scope_of scope.now) (spec.read (scope_of scope.now) e.now).said (Some form)) }
 {
     if in_limits(&form) {
         Ok(form)
@@ -243,7 +241,7 @@ fn two_form(
     a: &Form,
     b: &Form,
 ) -> Result<Form, AllocError>
-    ensures { IfOk result (λ form. form ≡ spec.limited (scope_of scope.now) (spec.read (scope_of scope.now) e.now).words (spec.computed op a.now b.now)) }
+    ensures { IfOk result (λ form. form ≡ spec.limited (scope_of scope.now) (spec.read (scope_of scope.now) e.now).said (spec.computed op a.now b.now)) }
 {
     match computed(alloc, op, a, b)? {
         None => opaque(alloc, scope, e),
@@ -259,12 +257,13 @@ fn item_form(
     field: CoreField,
 ) -> Result<Form, AllocError>
     ensures { IfOk result
-        (λ form. form ≡ forms.variable (keys.value scope.now.side (spec.read (scope_of scope.now) e.now).words)
+        (λ form. form ≡ forms.variable (keys.value scope.now.side (spec.read (scope_of scope.now) e.now).said)
         (spec.if_later scope.now.edition (spec.item_facts (scope_of scope.now) (spec.item_at (scope_of scope.now) term) field
-        (spec.opaque (scope_of scope.now) (spec.read (scope_of scope.now) e.now).words)))) }
+        (spec.opaque (scope_of scope.now) (spec.read (scope_of scope.now) e.now).said)))) }
 {
     let mut facts = Vec::new(alloc);
-    let known = opaque(alloc, scope, e)?;
+    let key = value_key(alloc, scope, e)?;
+    let known = bare_variable(alloc, key.copy()?)?;
     put_later_facts(
         alloc,
         &mut facts,
@@ -273,7 +272,7 @@ fn item_form(
         field,
         &known,
     )?;
-    variable(alloc, value_key(alloc, scope, e)?, facts)
+    variable(alloc, key, facts)
 }
 
 fn after_form(
@@ -284,12 +283,13 @@ fn after_form(
     left: &Form,
 ) -> Result<Form, AllocError>
     ensures { IfOk result
-        (λ form. form ≡ forms.variable (keys.value scope.now.side (spec.read (scope_of scope.now) e.now).words)
+        (λ form. form ≡ forms.variable (keys.value scope.now.side (spec.read (scope_of scope.now) e.now).said)
         (spec.after_facts (scope_of scope.now) (spec.touching (scope_of scope.now) term)
-        (spec.opaque (scope_of scope.now) (spec.read (scope_of scope.now) e.now).words) left.now)) }
+        (spec.opaque (scope_of scope.now) (spec.read (scope_of scope.now) e.now).said) left.now)) }
 {
     let mut facts = Vec::new(alloc);
-    let known = opaque(alloc, scope, e)?;
+    let key = value_key(alloc, scope, e)?;
+    let known = bare_variable(alloc, key.copy()?)?;
     put_after_facts(
         alloc,
         &mut facts,
@@ -298,7 +298,7 @@ fn after_form(
         &known,
         left,
     )?;
-    variable(alloc, value_key(alloc, scope, e)?, facts)
+    variable(alloc, key, facts)
 }
 
 #[tactic(auto, unfolding(crate::specs::Reading::asserted))]
@@ -370,16 +370,17 @@ fn cond_form(
     other: Case,
 ) -> Result<Form, AllocError>
     ensures { IfOk result
-        (λ form. form ≡ forms.variable (keys.value scope.now.side (spec.read (scope_of scope.now) e.now).words)
-        (forms.choice (taken.facts.items ++ forms.equal (spec.opaque (scope_of scope.now) (spec.read (scope_of scope.now) e.now).words) taken.form)
-        (other.facts.items ++ forms.equal (spec.opaque (scope_of scope.now) (spec.read (scope_of scope.now) e.now).words) other.form))) }
+        (λ form. form ≡ forms.variable (keys.value scope.now.side (spec.read (scope_of scope.now) e.now).said)
+        (forms.choice (taken.facts.items ++ forms.equal (spec.opaque (scope_of scope.now) (spec.read (scope_of scope.now) e.now).said) taken.form)
+        (other.facts.items ++ forms.equal (spec.opaque (scope_of scope.now) (spec.read (scope_of scope.now) e.now).said) other.form))) }
 {
-    let known = opaque(alloc, scope, e)?;
+    let key = value_key(alloc, scope, e)?;
+    let known = bare_variable(alloc, key.copy()?)?;
     let one = case_facts(alloc, &known, taken)?;
     let two = case_facts(alloc, &known, other)?;
     let mut facts = Vec::new(alloc);
     put_choice(alloc, &mut facts, one, two)?;
-    variable(alloc, value_key(alloc, scope, e)?, facts)
+    variable(alloc, key, facts)
 }
 
 /// The linear form of an expression.
@@ -391,9 +392,9 @@ pub fn form_of(alloc: Global, scope: &Scope, e: &CoreExpr) -> Result<Form, Alloc
     match e {
         CoreExpr::Num(value) => Ok(number(alloc, i128::from(*value))),
         CoreExpr::Eoi => length_of(alloc, scope),
-        CoreExpr::Own(attr) => bare_variable(alloc, attribute(alloc, scope.side, *attr)?),
-        CoreExpr::Outer(attr) => bare_variable(alloc, attribute(alloc, HOLDER, *attr)?),
-        CoreExpr::Loop => bare_variable(alloc, loop_variable(alloc, scope.side)?),
+        CoreExpr::Own(attr) => bare_variable(alloc, attribute(scope.side, *attr)),
+        CoreExpr::Outer(attr) => bare_variable(alloc, attribute(Side::Holder, *attr)),
+        CoreExpr::Loop => bare_variable(alloc, loop_variable(scope.side)),
         CoreExpr::Seen {
             term,
             sym: _,

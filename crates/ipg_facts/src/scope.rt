@@ -11,7 +11,7 @@ ghost use Rattle.ipg_facts.specs.View.{scope_of};
 use crate::edition::Edition;
 use crate::fact::{Bounds, Form};
 use crate::form::{number, variable};
-use crate::key::whole;
+use crate::key::{Side, whole};
 use ipg_core::grammar::{CoreTerm, Name, Primitive, Sym};
 use ipg_facts_holder::is_marked;
 use ipg_num::item_at;
@@ -21,7 +21,7 @@ use std::alloc::{AllocError, Global};
 #[derive(Drop)]
 pub struct Scope<'a> {
     pub edition: Edition,
-    pub side: u64,
+    pub side: Side,
     /// The names of attributes, by their numbers.
     pub names: &'a [Name],
     /// Which rules must touch.
@@ -34,7 +34,7 @@ pub struct Scope<'a> {
 pub fn length_of(alloc: Global, scope: &Scope) -> Result<Form, AllocError>
     ensures { IfOk result (λ form. form ≡ spec.length_of (scope_of scope.now)) }
 {
-    variable(alloc, whole(alloc, scope.side)?, Vec::new(alloc))
+    variable(alloc, whole(scope.side), Vec::new(alloc))
 }
 
 pub fn nought(alloc: Global) -> Form

@@ -47,3 +47,45 @@ impl<T: Drop> Shared<T> {
         })
     }
 }
+
+/// A value that stands once for all of its copies.
+#[derive(Drop)]
+pub struct Sole<T> {
+    inner: Rc<T>,
+}
+
+impl<T> Model for Sole<T> {
+    ghost Value = { T };
+
+    ghost coded = { T.code };
+
+    ghost view = { λ it. it.inner.value };
+}
+
+impl<T> Sole<T> {
+    /// The value.
+    pub fn get(&self) -> &T
+        ensures { result.now ≡ self.now }
+    {
+        &self.inner
+    }
+}
+
+impl<T: Drop> Sole<T> {
+    pub fn new(alloc: Global, value: T) -> Result<Sole<T>, AllocError>
+        ensures { IfOk result (λ sole. sole ≡ value) }
+    {
+        Ok(Sole {
+            inner: Rc::new(alloc, value)?,
+        })
+    }
+
+    /// A copy, which takes no memory.
+    pub fn copy(&self) -> Result<Sole<T>, AllocError>
+        ensures { IfOk result (λ copy. copy ≡ self.now) }
+    {
+        Ok(Sole {
+            inner: self.inner.clone()?,
+        })
+    }
+}

@@ -6,7 +6,7 @@ ghost use Rattle.ipg_facts.specs.Form as forms;
 ghost use Rattle.ipg_facts.specs.Members as spec;
 ghost use Rattle.ipg_facts.specs.View.{scope_of};
 
-use crate::fact::{Fact, Form, Key};
+use crate::fact::{Fact, Form};
 use crate::form::{shifted, variable};
 use crate::key::{end, named, start};
 use crate::put::{put_choice, put_equal, put_leq, put_less};
@@ -35,13 +35,13 @@ pub fn put_is_valid(
 fn start_of(alloc: Global, scope: &Scope, term: u32) -> Result<Form, AllocError>
     ensures { IfOk result (λ form. form ≡ spec.start_of (scope_of scope.now) term) }
 {
-    variable(alloc, start(alloc, scope.side, term)?, Vec::new(alloc))
+    variable(alloc, start(scope.side, term), Vec::new(alloc))
 }
 
 fn end_of(alloc: Global, scope: &Scope, term: u32) -> Result<Form, AllocError>
     ensures { IfOk result (λ form. form ≡ spec.end_of (scope_of scope.now) term) }
 {
-    variable(alloc, end(alloc, scope.side, term)?, Vec::new(alloc))
+    variable(alloc, end(scope.side, term), Vec::new(alloc))
 }
 
 #[tactic(auto, unfolding(crate::specs::Members::touches_none), using(crate::proofs::Puts::then, crate::proofs::Puts::then_last))]

@@ -1,13 +1,14 @@
 use Rattle.std.proofs.Common.{◌≡◌, ◌++◌, ◌∷◌, [], ap, sym, ◌∙◌, arith, refl, subst, true, false, add-one, length, ◌<◌, ◌≤◌}
-use Rattle.std.specs.Prelude.{bytes_eq, slice_set}
+use Rattle.std.specs.Prelude.{slice_set}
 use Rattle.std.proofs.lemmas.Option.{slice_get_read}
 use Rattle.ipg_facts.specs.declared.fact.Part.{Part}
+use Rattle.ipg_facts.specs.Key.{same_key}
 use Rattle.ipg_facts.specs.Form.{add_part}
 use Rattle.ipg_facts.proofs.Parts.{Differ, found, other, nowhere, on_ok}
 use Rattle.ipg_facts.proofs.form.add_part.Goals as goal
 
-pub returns-then-eq : goal.returns-then-eq
-returns-then-eq c =
+pub returns-then-same_key : goal.returns-then-same_key
+returns-then-same_key c =
     let xs = c.loop-at.parts.items in
     let at = c.loop-at.at in
     let p = c.args.part.now in
@@ -17,8 +18,7 @@ returns-then-eq c =
     let y = c.index_mut.result.now in
     let there = slice_get_read xs _ at y refl within c.index_mut.ensures.value in
     let one : x ≡ y = cc in
-    let same : bytes_eq y.key p.key ≡ true = sym (c.eq.ensures ∙ ap (λ k. bytes_eq k c.as_slice-in-loop-at.result.now) c.as_slice.ensures
-    ∙ ap (bytes_eq x.key) c.as_slice-in-loop-at.ensures ∙ ap (λ (z : Part). bytes_eq z.key p.key) one) ∙ c.if-eq.true in
+    let same : same_key y.key p.key ≡ true = sym (c.same_key.ensures ∙ ap (λ (z : Part). same_key z.key p.key) one) ∙ c.if-same_key.true in
     on_ok c.add_factor.result _ _
     (λ e. ap (slice_set xs at) e ∙ found at xs y p c.loop-at.invariant.1 there same ∙ ap (λ ps. add_part ps p) c.loop-at.invariant.0)
     c.add_factor.ensures
@@ -31,8 +31,7 @@ loop-at-preserved c =
     let x = c.index.result.now in
     let within : at < length xs = omega (arith, c.len-at-end.ensures, ap length c.loop-at.invariant.0) in
     let here = slice_get_read xs _ at x refl within c.index.ensures in
-    let differs : bytes_eq x.key p.key ≡ false = sym (c.eq.ensures ∙ ap (λ k. bytes_eq k c.as_slice-in-loop-at.result.now) c.as_slice.ensures
-    ∙ ap (bytes_eq x.key) c.as_slice-in-loop-at.ensures) ∙ c.if-eq.false in
+    let differs : same_key x.key p.key ≡ false = sym c.same_key.ensures ∙ c.if-same_key.false in
     (c.loop-at.invariant.0, subst (λ n. Differ n xs p) (sym (add-one at)) (other at xs x p c.loop-at.invariant.1 here differs))
 
 pub returns : goal.returns
