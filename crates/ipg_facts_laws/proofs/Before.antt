@@ -10,18 +10,18 @@ use Rattle.ipg_facts.specs.declared.edition.Edition.TheVariants.{Earlier, Later}
 use Rattle.ipg_facts.specs.declared.fact.Form.{Form}
 use Rattle.ipg_facts.specs.declared.fact.Fact.{Fact}
 use Rattle.ipg_facts.specs.declared.fact.Bounds.{Bounds}
-use Rattle.ipg_facts.specs.Key.{value, spell}
+use Rattle.ipg_facts.specs.Key.{value}
 use Rattle.ipg_facts.specs.Form.{variable, number, scaled, is_constant, in_limits, leq, less, equal, differ, choice}
 use Rattle.ipg_facts.specs.Reading.{Scope, Reading, length_of, opaque, nought, plain, least_width, item_at, inside, if_there}
 use Rattle.ipg_facts.specs.Reading.{touching, after_facts, product, computed, limited, asserted, denied, reading, read}
 use Rattle.ipg_facts_laws.specs.Valued.{Valuation}
-use Rattle.ipg_facts_laws.proofs.Induct.{Sure, bare, induct}
+use Rattle.ipg_facts.specs.Induct.{Sure, bare, induct}
 use Rattle.ipg_facts_laws.proofs.Weaker.{Gives, FormGives, SomeGives, so_right, gives_append, gives_choice, form_self, gives_variable, gives_plus}
 use Rattle.ipg_facts_laws.proofs.Weaker.{gives_scaled, gives_minus, as_constant, as_limited, gives_leq, gives_equal, gives_less, gives_differ}
 
 -- what an expression is to the later conditions gives what it is to the earlier ones
 pub record Weakens (v : Valuation) (late early : Reading) : Type 0 where
-  pub words : late.words ≡ early.words
+  pub said : late.said ≡ early.said
   pub form : FormGives v late.form early.form
   pub holds : Gives v late.holds early.holds
   pub fails : Gives v late.fails early.fails
@@ -86,9 +86,9 @@ module _ (v : Valuation) where
   gives_nought : (a a' : Form) → FormGives v a a' → Gives v (equal a nought) (equal a' nought)
   gives_nought a a' h = gives_equal v a a' nought nought h (form_self v nought)
 
-  weakens_plain : (words words' : List ℕ) (a a' : Form) → words ≡ words' → FormGives v a a' → Weakens v (plain words a) (plain words' a')
+  weakens_plain : (said said' : CoreExpr) (a a' : Form) → said ≡ said' → FormGives v a a' → Weakens v (plain said a) (plain said' a')
   unfolding plain
-  weakens_plain words words' a a' e h = record { words = e; form = h; holds = gives_other a a' h; fails = gives_nought a a' h }
+  weakens_plain said said' a a' e h = record { said = e; form = h; holds = gives_other a a' h; fails = gives_nought a a' h }
 
   -- the value of an operator
   module _ (a a' b b' e e' : Form) (h : FormGives v a a') (k : FormGives v b b') (l : FormGives v e e') where
@@ -138,17 +138,17 @@ module _ (v : Valuation) where
     abbrev early : Scope
     early = record scope { edition = Earlier; arrays = arrays }
 
-    gives_opaque : (words words' : List ℕ) → words ≡ words' → FormGives v (opaque late words) (opaque early words')
-    gives_opaque words words' e = gives_variable v (value scope.side words) (value scope.side words') [] [] (ap (value scope.side) e) (λ h. h)
+    gives_opaque : (said said' : CoreExpr) → said ≡ said' → FormGives v (opaque late said) (opaque early said')
+    gives_opaque said said' e = gives_variable v (value scope.side said) (value scope.side said') [] [] (ap (value scope.side) e) (λ h. h)
 
-    gives_limited : (words words' : List ℕ) (a a' : Option Form) → words ≡ words' → SomeGives v a a'
-        → FormGives v (limited late words a) (limited early words' a')
+    gives_limited : (said said' : CoreExpr) (a a' : Option Form) → said ≡ said' → SomeGives v a a'
+        → FormGives v (limited late said a) (limited early said' a')
     unfolding limited
-    gives_limited words words' None None e h = gives_opaque words words' e
-    gives_limited words words' None (Some a') e h = absurd h
-    gives_limited words words' (Some a) None e h = absurd h
-    gives_limited words words' (Some a) (Some a') e h =
-        form_if (in_limits a) (in_limits a') a a' _ _ (as_limited v a a' h) h (gives_opaque words words' e)
+    gives_limited said said' None None e h = gives_opaque said said' e
+    gives_limited said said' None (Some a') e h = absurd h
+    gives_limited said said' (Some a) None e h = absurd h
+    gives_limited said said' (Some a) (Some a') e h =
+        form_if (in_limits a) (in_limits a') a a' _ _ (as_limited v a a' h) h (gives_opaque said said' e)
 
     gives_inside : (a a' : Form) → FormGives v a a' → Gives v (inside late a) (inside early a')
     unfolding inside
@@ -167,21 +167,21 @@ module _ (v : Valuation) where
         (λ so. gives_inside a a' h (so_right v (less bounds.first bounds.last) (inside late a) so))
         (λ so. gives_equal v a a' left left' h k (so_right v (leq bounds.last bounds.first) (equal a left) so))
 
-    weakens_item : (words words' : List ℕ) (xs : List Fact) → words ≡ words'
-        → Weakens v (plain words (variable (value scope.side words) xs)) (plain words' (variable (value scope.side words') []))
-    weakens_item words words' xs e =
-        weakens_plain words words' _ _ e
-        (gives_variable v (value scope.side words) (value scope.side words') xs [] (ap (value scope.side) e) (λ h. refl))
+    weakens_item : (said said' : CoreExpr) (xs : List Fact) → said ≡ said'
+        → Weakens v (plain said (variable (value scope.side said) xs)) (plain said' (variable (value scope.side said') []))
+    weakens_item said said' xs e =
+        weakens_plain said said' _ _ e
+        (gives_variable v (value scope.side said) (value scope.side said') xs [] (ap (value scope.side) e) (λ h. refl))
 
-    weakens_after : (words words' : List ℕ) (term : ℕ) (left left' : Form) → words ≡ words' → FormGives v left left'
-        → Weakens v (plain words (variable (value scope.side words) (after_facts late (touching late term) (opaque late words) left)))
-        (plain words' (variable (value scope.side words') (after_facts early (touching early term) (opaque early words') left')))
-    weakens_after words words' term left left' e h =
-        weakens_plain words words' _ _ e
-        (gives_variable v (value scope.side words) (value scope.side words') _ _ (ap (value scope.side) e)
-        (subst (λ o. Gives v (after_facts late (touching late term) (opaque late words) left) (after_facts early o (opaque early words') left'))
+    weakens_after : (said said' : CoreExpr) (term : ℕ) (left left' : Form) → said ≡ said' → FormGives v left left'
+        → Weakens v (plain said (variable (value scope.side said) (after_facts late (touching late term) (opaque late said) left)))
+        (plain said' (variable (value scope.side said') (after_facts early (touching early term) (opaque early said') left')))
+    weakens_after said said' term left left' e h =
+        weakens_plain said said' _ _ e
+        (gives_variable v (value scope.side said) (value scope.side said') _ _ (ap (value scope.side) e)
+        (subst (λ o. Gives v (after_facts late (touching late term) (opaque late said) left) (after_facts early o (opaque early said') left'))
         (sym (none_touching (nat_lt 0 (least_width scope.marks (item_at scope term))) (if_there (slice_get arrays term)) (none term)))
-        (gives_after (touching late term) (opaque late words) (opaque early words') left left' (gives_opaque words words' e) h)))
+        (gives_after (touching late term) (opaque late said) (opaque early said') left left' (gives_opaque said said' e) h)))
 
     abbrev IsWeaker : CoreExpr → Type 0
     IsWeaker e = Weakens v (read late e) (read early e)
@@ -192,22 +192,22 @@ module _ (v : Valuation) where
     abbrev earlies : CoreExpr-F (Sure IsWeaker) → CoreExpr-F Reading
     earlies y = map-CoreExpr CoreExpr Reading (read early) (bare y)
 
-    words_of : (y : CoreExpr-F (Sure IsWeaker)) → (reading late (lates y)).words ≡ (reading early (earlies y)).words
+    said_of : (y : CoreExpr-F (Sure IsWeaker)) → (reading late (lates y)).said ≡ (reading early (earlies y)).said
     unfolding reading plain
-    words_of (CoreExpr-F.Num z) = refl
-    words_of CoreExpr-F.Eoi = refl
-    words_of (CoreExpr-F.Own a) = refl
-    words_of (CoreExpr-F.Outer a) = refl
-    words_of CoreExpr-F.Loop = refl
-    words_of (CoreExpr-F.Seen term sym field) = refl
-    words_of (CoreExpr-F.Item term index field) = ap (λ i. spell (CoreExpr-F.Item term i field)) index.1.words
-    words_of (CoreExpr-F.After term left) = ap (λ i. spell (CoreExpr-F.After term i)) left.1.words
-    words_of (CoreExpr-F.Neg a) = ap (λ i. spell (CoreExpr-F.Neg i)) a.1.words
-    words_of (CoreExpr-F.Not a) = ap (λ i. spell (CoreExpr-F.Not i)) a.1.words
-    words_of (CoreExpr-F.Two op a b) = rw (a.1.words, b.1.words) refl
-    words_of (CoreExpr-F.Both a b) = rw (a.1.words, b.1.words) refl
-    words_of (CoreExpr-F.Either a b) = rw (a.1.words, b.1.words) refl
-    words_of (CoreExpr-F.Cond c a b) = rw (c.1.words, a.1.words, b.1.words) refl
+    said_of (CoreExpr-F.Num z) = refl
+    said_of CoreExpr-F.Eoi = refl
+    said_of (CoreExpr-F.Own a) = refl
+    said_of (CoreExpr-F.Outer a) = refl
+    said_of CoreExpr-F.Loop = refl
+    said_of (CoreExpr-F.Seen term sym field) = refl
+    said_of (CoreExpr-F.Item term index field) = ap (λ i. roll-CoreExpr (CoreExpr-F.Item term i field)) index.1.said
+    said_of (CoreExpr-F.After term left) = ap (λ i. roll-CoreExpr (CoreExpr-F.After term i)) left.1.said
+    said_of (CoreExpr-F.Neg a) = ap (λ i. roll-CoreExpr (CoreExpr-F.Neg i)) a.1.said
+    said_of (CoreExpr-F.Not a) = ap (λ i. roll-CoreExpr (CoreExpr-F.Not i)) a.1.said
+    said_of (CoreExpr-F.Two op a b) = rw (a.1.said, b.1.said) refl
+    said_of (CoreExpr-F.Both a b) = rw (a.1.said, b.1.said) refl
+    said_of (CoreExpr-F.Either a b) = rw (a.1.said, b.1.said) refl
+    said_of (CoreExpr-F.Cond c a b) = rw (c.1.said, a.1.said, b.1.said) refl
 
     case_gives : (c c' a a' : List Fact) → Gives v c c' → Gives v a a' → Gives v (c ++ a) (c' ++ a')
     case_gives c c' a a' h k = gives_append v c a c' a' h k
@@ -217,7 +217,7 @@ module _ (v : Valuation) where
     two_gives c c' d d' a a' b b' h k l m =
         gives_choice v (c ++ a) (d ++ b) (c' ++ a') (d' ++ b') (case_gives c c' a a' h l) (case_gives d d' b b' k m)
 
-    layer : (y : CoreExpr-F (Sure IsWeaker)) → (reading late (lates y)).words ≡ (reading early (earlies y)).words
+    layer : (y : CoreExpr-F (Sure IsWeaker)) → (reading late (lates y)).said ≡ (reading early (earlies y)).said
         → Weakens v (reading late (lates y)) (reading early (earlies y))
     unfolding reading plain
     layer (CoreExpr-F.Num z) e = weakens_plain _ _ (number z) (number z) e (form_self v (number z))
@@ -232,31 +232,31 @@ module _ (v : Valuation) where
         weakens_plain _ _ _ _ e
         (gives_limited _ _ (Some (scaled (negsuc 0) (read late a.0).form)) (Some (scaled (negsuc 0) (read early a.0).form)) e
         (gives_scaled v (negsuc 0) (read late a.0).form (read early a.0).form a.1.form))
-    layer (CoreExpr-F.Not a) e = record { words = e; form = gives_opaque _ _ e; holds = a.1.fails; fails = a.1.holds }
+    layer (CoreExpr-F.Not a) e = record { said = e; form = gives_opaque _ _ e; holds = a.1.fails; fails = a.1.holds }
     layer (CoreExpr-F.Two op a b) e =
         let made =
         gives_limited _ _ (computed op (read late a.0).form (read late b.0).form) (computed op (read early a.0).form (read early b.0).form) e
         (gives_computed op (read late a.0).form (read early a.0).form (read late b.0).form (read early b.0).form a.1.form b.1.form) in
         record {
-          words = e;
+          said = e;
           form = made;
           holds = gives_asserted _ _ _ _ _ _ a.1.form b.1.form made op;
           fails = gives_denied _ _ _ _ _ _ a.1.form b.1.form made op;
         }
     layer (CoreExpr-F.Both a b) e = record {
-      words = e;
+      said = e;
       form = gives_opaque _ _ e;
       holds = case_gives _ _ _ _ a.1.holds b.1.holds;
       fails = gives_choice v _ _ _ _ a.1.fails (case_gives _ _ _ _ a.1.holds b.1.fails);
     }
     layer (CoreExpr-F.Either a b) e = record {
-      words = e;
+      said = e;
       form = gives_opaque _ _ e;
       holds = gives_choice v _ _ _ _ a.1.holds (case_gives _ _ _ _ a.1.fails b.1.holds);
       fails = case_gives _ _ _ _ a.1.fails b.1.fails;
     }
     layer (CoreExpr-F.Cond c a b) e = record {
-      words = e;
+      said = e;
       form = gives_variable v _ _ _ _ (ap (value scope.side) e)
           (two_gives _ _ _ _ _ _ _ _ c.1.holds c.1.fails (gives_equal v _ _ _ _ (gives_opaque _ _ e) a.1.form)
           (gives_equal v _ _ _ _ (gives_opaque _ _ e) b.1.form));
@@ -270,7 +270,7 @@ module _ (v : Valuation) where
         let l : read late (roll-CoreExpr (bare y)) ≡ reading late (lates y) = fold-roll-CoreExpr Reading (reading late) (bare y) in
         let m : read early (roll-CoreExpr (bare y)) ≡ reading early (earlies y) = fold-roll-CoreExpr Reading (reading early) (bare y) in
         subst (λ r. Weakens v r (read early (roll-CoreExpr (bare y)))) (sym l)
-        (subst (λ r. Weakens v (reading late (lates y)) r) (sym m) (layer y (words_of y)))
+        (subst (λ r. Weakens v (reading late (lates y)) r) (sym m) (layer y (said_of y)))
 
     pub weaker : (e : CoreExpr) → IsWeaker e
     weaker = induct IsWeaker rolled

@@ -2,10 +2,9 @@
 use Rattle.std.proofs.Common.{◌≡◌, ℕ, zero, suc, Bool, true, false, not, ◌&&◌, ◌||◌, List, [], ◌∷◌, ◌++◌, map, length, refl, sym, ap, subst, ◌∙◌}
 use Rattle.std.proofs.Common.{arith, ℤ, pos, negsuc, ◌+ℤ◌, ◌*ℤ◌, ◌-ℤ◌, if◌then◌else◌}
 use Rattle.std.proofs.lemmas.Bool.Decides.{nat_tests}
-use Rattle.std.specs.Prelude.{nat_le, int_le, ◌≤ℤ◌, ◌<ℤ◌, bytes_eq, flat_map}
+use Rattle.std.specs.Prelude.{nat_le, int_le, ◌≤ℤ◌, ◌<ℤ◌, flat_map}
 use Rattle.std.specs.List.{filter}
 use Rattle.std.proofs.lemmas.Int.{ints}
-use Rattle.std.proofs.lemmas.Slice.Eq.{bytes_eq-Decides}
 use Rattle.ipg_lin.specs.Formula.{some}
 use Rattle.ipg_facts.specs.declared.fact.Draft.{Draft}
 use Rattle.ipg_facts.specs.declared.fact.Part.{Part}
@@ -13,7 +12,9 @@ use Rattle.ipg_facts.specs.declared.fact.Form.{Form}
 use Rattle.ipg_facts.specs.declared.fact.Fact.{Fact, fold-roll-Fact}
 use Rattle.ipg_facts.specs.declared.fact.Fact.TheVariants as facts
 use Rattle.ipg_facts.specs.declared.fact.Fact.TheOpen.{Fact-F}
-use Rattle.ipg_facts.specs.Key.{Key}
+use Rattle.ipg_facts.specs.declared.key.Key.{Key}
+use Rattle.ipg_facts.specs.Key.{same_key}
+use Rattle.ipg_facts.specs.Equality.{same_keys_are_equal}
 use Rattle.ipg_facts.specs.Form.{variable, number, add_part, add_parts, plus, minus, scaled, scaled_part, shifted, is_zero, counts, is_constant}
 use Rattle.ipg_facts.specs.Form.{mentioned, in_limits, facts_of, bare, at_most_zero, leq, less, both_at_most_zero, equal, choice, differ}
 use Rattle.ipg_facts_laws.specs.Valued.{Valuation, sum_of, so_step, is_so, are_so}
@@ -52,10 +53,10 @@ module _ (v : Valuation) where
   stands_variable key fs h = record { value = ap (λ z. (z +ℤ pos 0) +ℤ pos 0) (one_times (v key)) ∙ omega (arith, ints); facts = (h, tt) }
 
   -- a part more
-  added : (b : Bool) (q p : Part) (qs more : List Part) → bytes_eq q.key p.key ≡ b → parts_sum v more ≡ parts_sum v qs +ℤ (p.factor *ℤ v p.key)
+  added : (b : Bool) (q p : Part) (qs more : List Part) → same_key q.key p.key ≡ b → parts_sum v more ≡ parts_sum v qs +ℤ (p.factor *ℤ v p.key)
       → parts_sum v (if b then record q { factor = q.factor +ℤ p.factor } ∷ qs else q ∷ more) ≡ parts_sum v (q ∷ qs) +ℤ (p.factor *ℤ v p.key)
   added true q p qs more e f =
-      let same : q.key ≡ p.key = (bytes_eq-Decides q.key p.key).0 e in
+      let same : q.key ≡ p.key = (same_keys_are_equal q.key p.key).0 e in
       ap (λ z. z +ℤ parts_sum v qs) (times_plus q.factor p.factor (v q.key))
       ∙ ap (λ k. ((q.factor *ℤ v q.key) +ℤ (p.factor *ℤ v k)) +ℤ parts_sum v qs) same
       ∙ omega (arith, ints)
@@ -64,7 +65,7 @@ module _ (v : Valuation) where
   sum_added : (ps : List Part) (p : Part) → parts_sum v (add_part ps p) ≡ parts_sum v ps +ℤ (p.factor *ℤ v p.key)
   unfolding add_part
   sum_added [] p = omega (arith, ints)
-  sum_added (q ∷ qs) p = added (bytes_eq q.key p.key) q p qs (add_part qs p) refl (sum_added qs p)
+  sum_added (q ∷ qs) p = added (same_key q.key p.key) q p qs (add_part qs p) refl (sum_added qs p)
 
   true_chosen : (b : Bool) (q p : Part) (qs more : List Part) → AreTrue v (q ∷ qs) → AreTrue v more
       → AreTrue v (if b then record q { factor = q.factor +ℤ p.factor } ∷ qs else q ∷ more)
@@ -74,7 +75,7 @@ module _ (v : Valuation) where
   true_added : (ps : List Part) (p : Part) → AreTrue v ps → AreSo v p.facts → AreTrue v (add_part ps p)
   unfolding add_part
   true_added [] p h k = (k, tt)
-  true_added (q ∷ qs) p h k = true_chosen (bytes_eq q.key p.key) q p qs (add_part qs p) h (true_added qs p h.1 k)
+  true_added (q ∷ qs) p h k = true_chosen (same_key q.key p.key) q p qs (add_part qs p) h (true_added qs p h.1 k)
 
   sums_added : (ps qs : List Part) → parts_sum v (add_parts ps qs) ≡ parts_sum v ps +ℤ parts_sum v qs
   unfolding add_parts

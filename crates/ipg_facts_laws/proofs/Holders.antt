@@ -1,5 +1,5 @@
 -- What an alternative's holder puts holds where the alternative may be asked.
-use Rattle.std.proofs.Common.{◌≡◌, ℕ, ◌≤◌, ◌^◌, refl, sym, ap, ◌∙◌, subst, arith, List, [], ◌∷◌, length, Option, Some, None, Bool, true, false}
+use Rattle.std.proofs.Common.{◌≡◌, ℕ, ◌≤◌, ◌^◌, refl, sym, ap, ◌∙◌, subst, arith, List, [], length, Option, Some, None, Bool, true, false}
 use Rattle.std.proofs.Common.{if◌then◌else◌, pos, inr}
 use Rattle.std.specs.Prelude.{slice_get, ◌≤ℤ◌, Contains}
 use Rattle.std.proofs.lemmas.Int.{ints}
@@ -17,6 +17,8 @@ use Rattle.ipg_core.specs.Order.{Sets, TermOf, Passes, itself, is_taken}
 use Rattle.ipg_core.specs.Good.{AltAt, Good}
 use Rattle.ipg_core.specs.Grown.{ComesTo, GrownLocal, GrownUnder}
 use Rattle.ipg_core.specs.Laws.{LiesWithin, TouchingTouches}
+use Rattle.ipg_facts.specs.declared.key.Side.{Side}
+use Rattle.ipg_facts.specs.declared.key.Known.{Known}
 use Rattle.ipg_facts.specs.Key.{caller_side, holder_side}
 use Rattle.ipg_facts.specs.Form.{leq}
 use Rattle.ipg_facts.specs.declared.edition.Edition.TheVariants.{Later}
@@ -34,10 +36,10 @@ use Rattle.ipg_facts_laws.proofs.Came.{stays_same}
 use Rattle.ipg_facts_laws.proofs.Steps.{passed}
 use Rattle.ipg_facts_laws.proofs.Ordered.{some_ran}
 use Rattle.ipg_facts_laws.proofs.Held.{contains_at, read_before, kept_taken}
-use Rattle.ipg_facts_laws.proofs.Valuing.{clamped, of_kind}
+use Rattle.ipg_facts_laws.proofs.Valuing.{clamped, of_known, key_of}
 use Rattle.ipg_facts_laws.proofs.Works.{first_scope, at_work, Work, work, work_fits}
 
-pub opened : (g : Grammar) (marks : Marks) (side : ℕ) (alt : CoreAlt) → opening g marks Later side alt ≡ first_scope g marks side alt
+pub opened : (g : Grammar) (marks : Marks) (side : Side) (alt : CoreAlt) → opening g marks Later side alt ≡ first_scope g marks side alt
 unfolding opening
 opened g marks side alt = refl
 
@@ -49,7 +51,7 @@ pub record Holder (g : Grammar) (marks : Marks) (o : Option (ℕ × ℕ)) (calle
   pub env : Environment
   pub own : env.own ≡ outer
   pub size : env.eoi ≤ 2 ^ 30
-  pub so : (v : Valuation) → ((kind : ℕ) (words : List ℕ) → v (holder_side ∷ kind ∷ words) ≡ clamped (of_kind env kind words))
+  pub so : (v : Valuation) → ((known : Known) → v (key_of holder_side known) ≡ clamped (of_known env known))
       → (here : Environment) → here.eoi ≡ length s → Fits v (first_scope g marks caller_side caller) here → AreSo v (holder_facts g marks o caller)
 
 no_syms : (term : CoreTerm) (terms : List CoreTerm) (u v attr callee : ℕ) → slice_get terms u ≡ Some term → Contains (term_syms term) (Rule callee)
@@ -117,7 +119,7 @@ module _ (lies : LiesWithin) (must : TouchingTouches) (g : Grammar) (good : Good
         some_ran scope env comes.before (holder_work.ran comes.state None (stays_same done comes.state)) these
         (kept_taken g at terms caller.terms done holder_work.provided wanted comes.alt.order)
 
-    module _ (v : Valuation) (agree : (kind : ℕ) (words : List ℕ) → v (holder_side ∷ kind ∷ words) ≡ clamped (of_kind env kind words))
+    module _ (v : Valuation) (agree : (known : Known) → v (key_of holder_side known) ≡ clamped (of_known env known))
         (here : Environment) (size : here.eoi ≡ length s) (fits : Fits v (first_scope g marks caller_side caller) here) where
       holder_fits : Fits v scope env
       holder_fits =

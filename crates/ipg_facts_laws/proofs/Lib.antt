@@ -1,5 +1,3 @@
-pub mod Induct
-pub mod Words
 pub mod Joints
 pub mod Numbering
 pub mod Whole
@@ -9,7 +7,6 @@ pub mod Relate
 pub mod Weaker
 pub mod Before
 pub mod Sooner
-pub mod Rebuild
 pub mod Slots
 pub mod Ran
 pub mod Grows

@@ -88,7 +88,7 @@ module _ (g : Grammar) (marks : Marks) (at : ℕ × ℕ) (s : List ℕ) (outer :
       ∙ ap (λ o. rule_gap g marks (Some end.rule) o) (alt_is g at end.rule end.alt end.is_at)
 
   its_place : key_at (keys_of (gap_facts g marks end.rule.holder end.alt)) 1 ≡ whole point_side
-  its_place = ap (λ key. unwrap_or key []) (facts_second g marks end.rule.holder end.alt)
+  its_place = ap (λ key. unwrap_or key (whole caller_side)) (facts_second g marks end.rule.holder end.alt)
 
   its_length : key_at (keys_of (gap_facts g marks end.rule.holder end.alt)) 0 ≡ whole caller_side
   unfolding keys_of

@@ -23,6 +23,7 @@ use Rattle.ipg_core.specs.Mention.{Mention, mentions}
 use Rattle.ipg_core.specs.MustTouch.{Marks}
 use Rattle.ipg_core.specs.Order.{is_taken}
 use Rattle.ipg_facts_laws.specs.Grows.{Grows, IsSettled}
+use Rattle.ipg_facts.specs.declared.key.Side.{Side}
 use Rattle.ipg_facts.specs.Reading.{item_of}
 use Rattle.ipg_facts_laws.specs.Ran.{Turns, CallsWhole}
 use Rattle.ipg_facts_laws.specs.Reached.{ItemCalls, CallsAt}
@@ -55,7 +56,7 @@ between_limited a b z e f h k =
 
 -- ---- the moment
 
-module _ (g : Grammar) (marks : Marks) (at : ℕ × ℕ) (alt : CoreAlt) (s : List ℕ) (outer : Values) (side : ℕ) (before : List ℕ) (u : ℕ) (state : State)
+module _ (g : Grammar) (marks : Marks) (at : ℕ × ℕ) (alt : CoreAlt) (s : List ℕ) (outer : Values) (side : Side) (before : List ℕ) (u : ℕ) (state : State)
     (work : Work g marks at alt s outer side before u state) (h : ℕ) (good : AreGood marks (length g.names) (den g h)) (input : AreBytes s) where
   pub record Moment (branch : ℕ) (term : CoreTerm) : Type 0 where
     pub end : State

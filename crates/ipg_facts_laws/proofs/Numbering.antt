@@ -1,9 +1,8 @@
 -- Facts over keys and their formula over numbers hold together.
 use Rattle.std.proofs.Common.{◌≡◌, ℕ, zero, suc, ◌+◌, Bool, true, false, not, cond, ◌||◌, List, [], ◌∷◌, ◌++◌, map, refl, sym, ap, subst, ◌∙◌, arith}
 use Rattle.std.proofs.Common.{ℤ, pos, negsuc, ◌+ℤ◌, ◌*ℤ◌, Some, if◌then◌else◌, nat_lt}
-use Rattle.std.specs.Prelude.{int_le, slice_get, flat_map, ◌≤ℤ◌, bytes_eq, unwrap_or}
+use Rattle.std.specs.Prelude.{int_le, slice_get, flat_map, ◌≤ℤ◌, unwrap_or}
 use Rattle.std.specs.List.{list_any}
-use Rattle.std.proofs.lemmas.Slice.Eq.{bytes_eq-Decides}
 use Rattle.std.proofs.lemmas.List.Folds.{list_any-append}
 use Rattle.std.proofs.lemmas.Int.{ints}
 use Rattle.ipg_lin.specs.Form.{Assignment, sum_at}
@@ -15,39 +14,41 @@ use Rattle.ipg_lin.specs.declared.formula.Formula.TheFolds.{fold-roll-Formula}
 use Rattle.ipg_facts.specs.declared.fact.Draft.{Draft}
 use Rattle.ipg_facts.specs.declared.fact.Fact.{Fact, roll-Fact, map-Fact, fold-roll-Fact, ind-Fact}
 use Rattle.ipg_facts.specs.declared.fact.Fact.TheOpen.{Fact-F}
-use Rattle.ipg_facts.specs.Key.{Key, whole, caller_side, holder_side}
+use Rattle.ipg_facts.specs.declared.key.Key.{Key}
+use Rattle.ipg_facts.specs.Key.{whole, caller_side, holder_side, same_key}
+use Rattle.ipg_facts.specs.Equality.{same_keys_are_equal}
 use Rattle.ipg_facts.specs.Numbers.{keys_in, keys_step, with_key, with_keys, keys_of, place, insert, numbered, formula_of, formula_step, bounds_of, all_of}
 use Rattle.ipg_facts_laws.specs.Valued.{Valuation, sum_of, so_step, is_so, are_so}
 use Rattle.ipg_facts_laws.specs.Laws.{IsInRange, Solves, FactsSolve}
 
 -- the key of a number
 abbrev pub key_at : List Key → ℕ → Key
-key_at keys x = unwrap_or (slice_get keys x) []
+key_at keys x = unwrap_or (slice_get keys x) (whole caller_side)
 
 -- a key's number leads back to it
 abbrev IsNumbered : List Key → Key → Type 0
 IsNumbered keys key = key_at keys (place keys key) ≡ key
 
-pub same_key : (a b : Key) → bytes_eq a b ≡ true → a ≡ b
-same_key a b e = (bytes_eq-Decides a b).0 e
+pub keys_equal : (a b : Key) → same_key a b ≡ true → a ≡ b
+keys_equal a b e = (same_keys_are_equal a b).0 e
 
 or_true : (a b : Bool) → a ≡ false → a || b ≡ true → b ≡ true
 or_true true b e f = cc
 or_true false b e f = f
 
 -- a key in a table is numbered
-head_or_tail : (b : Bool) (k key : Key) (keys : List Key) → bytes_eq key k ≡ b → b || list_any (bytes_eq key) keys ≡ true
-    → (list_any (bytes_eq key) keys ≡ true → IsNumbered keys key) → key_at (k ∷ keys) (cond (not b) (1 + place keys key) 0) ≡ key
-head_or_tail true k key keys e f g = sym (same_key key k e)
+head_or_tail : (b : Bool) (k key : Key) (keys : List Key) → same_key key k ≡ b → b || list_any (same_key key) keys ≡ true
+    → (list_any (same_key key) keys ≡ true → IsNumbered keys key) → key_at (k ∷ keys) (cond (not b) (1 + place keys key) 0) ≡ key
+head_or_tail true k key keys e f g = sym (keys_equal key k e)
 head_or_tail false k key keys e f g = ap (key_at (k ∷ keys)) (let h : 1 + place keys key ≡ suc (place keys key) = omega arith in h) ∙ g f
 
-is_numbered : (keys : List Key) (key : Key) → list_any (bytes_eq key) keys ≡ true → IsNumbered keys key
+is_numbered : (keys : List Key) (key : Key) → list_any (same_key key) keys ≡ true → IsNumbered keys key
 is_numbered [] key e = cc
-is_numbered (k ∷ keys) key e = head_or_tail (bytes_eq key k) k key keys refl e (is_numbered keys key)
+is_numbered (k ∷ keys) key e = head_or_tail (same_key key k) k key keys refl e (is_numbered keys key)
 
 -- keys of one list are in another
 abbrev pub Has : List Key → List Key → Type 0
-Has keys ks = (key : Key) → list_any (bytes_eq key) ks ≡ true → list_any (bytes_eq key) keys ≡ true
+Has keys ks = (key : Key) → list_any (same_key key) ks ≡ true → list_any (same_key key) keys ≡ true
 
 pub or_left : (a b : Bool) → a ≡ true → a || b ≡ true
 or_left a b e = ap (λ c. c || b) e
@@ -56,37 +57,37 @@ pub or_right : (a b : Bool) → b ≡ true → a || b ≡ true
 or_right true b e = refl
 or_right false b e = e
 
-pub any_left : (key : Key) (xs ys : List Key) → list_any (bytes_eq key) xs ≡ true → list_any (bytes_eq key) (xs ++ ys) ≡ true
-any_left key xs ys e = list_any-append (bytes_eq key) xs ys ∙ or_left _ _ e
+pub any_left : (key : Key) (xs ys : List Key) → list_any (same_key key) xs ≡ true → list_any (same_key key) (xs ++ ys) ≡ true
+any_left key xs ys e = list_any-append (same_key key) xs ys ∙ or_left _ _ e
 
-pub any_right : (key : Key) (xs ys : List Key) → list_any (bytes_eq key) ys ≡ true → list_any (bytes_eq key) (xs ++ ys) ≡ true
-any_right key xs ys e = list_any-append (bytes_eq key) xs ys ∙ or_right _ _ e
+pub any_right : (key : Key) (xs ys : List Key) → list_any (same_key key) ys ≡ true → list_any (same_key key) (xs ++ ys) ≡ true
+any_right key xs ys e = list_any-append (same_key key) xs ys ∙ or_right _ _ e
 
 -- keys stay in a table, and a key that is put is in it
-kept_or_put : (b : Bool) (keys : List Key) (k key : Key) → list_any (bytes_eq key) keys ≡ true
-    → list_any (bytes_eq key) (if b then keys else keys ++ k ∷ []) ≡ true
+kept_or_put : (b : Bool) (keys : List Key) (k key : Key) → list_any (same_key key) keys ≡ true
+    → list_any (same_key key) (if b then keys else keys ++ k ∷ []) ≡ true
 kept_or_put true keys k key e = e
 kept_or_put false keys k key e = any_left key keys (k ∷ []) e
 
-has_put : (b : Bool) (keys : List Key) (key : Key) → list_any (bytes_eq key) keys ≡ b → list_any (bytes_eq key) (if b then keys else keys ++ key ∷ []) ≡ true
+has_put : (b : Bool) (keys : List Key) (key : Key) → list_any (same_key key) keys ≡ b → list_any (same_key key) (if b then keys else keys ++ key ∷ []) ≡ true
 has_put true keys key e = e
-has_put false keys key e = any_right key keys (key ∷ []) (or_left _ _ ((bytes_eq-Decides key key).1 refl))
+has_put false keys key e = any_right key keys (key ∷ []) (or_left _ _ ((same_keys_are_equal key key).1 refl))
 
-keys_keep : (keys more : List Key) (key : Key) → list_any (bytes_eq key) keys ≡ true → list_any (bytes_eq key) (with_keys keys more) ≡ true
+keys_keep : (keys more : List Key) (key : Key) → list_any (same_key key) keys ≡ true → list_any (same_key key) (with_keys keys more) ≡ true
 keys_keep keys [] key e = e
-keys_keep keys (m ∷ more) key e = keys_keep (with_key keys m) more key (kept_or_put (list_any (bytes_eq m) keys) keys m key e)
+keys_keep keys (m ∷ more) key e = keys_keep (with_key keys m) more key (kept_or_put (list_any (same_key m) keys) keys m key e)
 
-here_or_later : (b : Bool) (keys more : List Key) (m key : Key) → bytes_eq key m ≡ b → b || list_any (bytes_eq key) more ≡ true
-    → (list_any (bytes_eq key) more ≡ true → list_any (bytes_eq key) (with_keys (with_key keys m) more) ≡ true)
-    → list_any (bytes_eq key) (with_keys (with_key keys m) more) ≡ true
+here_or_later : (b : Bool) (keys more : List Key) (m key : Key) → same_key key m ≡ b → b || list_any (same_key key) more ≡ true
+    → (list_any (same_key key) more ≡ true → list_any (same_key key) (with_keys (with_key keys m) more) ≡ true)
+    → list_any (same_key key) (with_keys (with_key keys m) more) ≡ true
 here_or_later true keys more m key e f g =
-    subst (λ k. list_any (bytes_eq k) (with_keys (with_key keys m) more) ≡ true) (sym (same_key key m e))
-    (keys_keep (with_key keys m) more m (has_put (list_any (bytes_eq m) keys) keys m refl))
+    subst (λ k. list_any (same_key k) (with_keys (with_key keys m) more) ≡ true) (sym (keys_equal key m e))
+    (keys_keep (with_key keys m) more m (has_put (list_any (same_key m) keys) keys m refl))
 here_or_later false keys more m key e f g = g f
 
 pub keys_have : (keys more : List Key) → Has (with_keys keys more) more
 keys_have keys [] key e = cc
-keys_have keys (m ∷ more) key e = here_or_later (bytes_eq key m) keys more m key refl e (keys_have (with_key keys m) more key)
+keys_have keys (m ∷ more) key e = here_or_later (same_key key m) keys more m key refl e (keys_have (with_key keys m) more key)
 
 -- a sum does not depend on the order of its terms
 swapped : (a b c : ℤ) → a +ℤ (b +ℤ c) ≡ b +ℤ (a +ℤ c)
@@ -112,14 +113,14 @@ keys_joined (f ∷ fs) = ap (λ ks. keys_in f ++ ks) (keys_joined fs)
 
 -- values by number and by key, the same of each key of a table
 module _ (v : Valuation) (values : Assignment) (keys : List Key)
-    (agree : (key : Key) → list_any (bytes_eq key) keys ≡ true → values (place keys key) ≡ v key) where
+    (agree : (key : Key) → list_any (same_key key) keys ≡ true → values (place keys key) ≡ v key) where
   sum_numbered : (terms : List (Key × ℤ)) → Has keys (keys_of_terms terms) → sum_at values (numbered keys terms) ≡ sum_of v terms
   unfolding numbered
   sum_numbered [] h = refl
   sum_numbered (t ∷ terms) h =
       sum_insert values (place keys t.0, t.1) (numbered keys terms)
       ∙ ap (λ z. z +ℤ sum_at values (numbered keys terms))
-      (ap (λ z. t.1 *ℤ z) (agree t.0 (h t.0 (or_left _ _ ((bytes_eq-Decides t.0 t.0).1 refl)))))
+      (ap (λ z. t.1 *ℤ z) (agree t.0 (h t.0 (or_left _ _ ((same_keys_are_equal t.0 t.0).1 refl)))))
       ∙ ap (λ z. (t.1 *ℤ v t.0) +ℤ z) (sum_numbered terms (λ key e. h key (or_right _ _ e)))
 
   -- the formula of a fact holds where the fact does
@@ -142,7 +143,7 @@ module _ (v : Valuation) (values : Assignment) (keys : List Key)
       ap (holds_at values) (fold-roll-Fact Formula (formula_step keys) (Fact-F.Atom draft))
       ∙ ap (holds_at values) (sym (formula.rolls-Atom _)) ∙ fold-roll-Formula Bool (holds_step values) (Formula-F.Atom _)
       ∙ ap (λ z. int_le (z +ℤ draft.constant) (pos 0))
-      (sum_numbered draft.terms (λ key e. h key (ap (list_any (bytes_eq key)) (fold-roll-Fact (List Key) keys_step (Fact-F.Atom draft)) ∙ e)))
+      (sum_numbered draft.terms (λ key e. h key (ap (list_any (same_key key)) (fold-roll-Fact (List Key) keys_step (Fact-F.Atom draft)) ∙ e)))
       ∙ sym (fold-roll-Fact Bool (so_step v) (Fact-F.Atom draft))
 
   on_all : (ms : List ((fact : Fact) × Agrees fact)) → Agrees (roll-Fact (Fact-F.All (facts_in ms)))
@@ -151,7 +152,7 @@ module _ (v : Valuation) (values : Assignment) (keys : List Key)
       ap (holds_at values) (fold-roll-Fact Formula (formula_step keys) (Fact-F.All (facts_in ms)))
       ∙ ap (holds_at values) (sym (formula.rolls-All _)) ∙ fold-roll-Formula Bool (holds_step values) (Formula-F.All _)
       ∙ ap every (members_agree ms (λ key e. h key
-      (ap (list_any (bytes_eq key)) (fold-roll-Fact (List Key) keys_step (Fact-F.All (facts_in ms)) ∙ keys_joined (facts_in ms)) ∙ e)))
+      (ap (list_any (same_key key)) (fold-roll-Fact (List Key) keys_step (Fact-F.All (facts_in ms)) ∙ keys_joined (facts_in ms)) ∙ e)))
       ∙ sym (fold-roll-Fact Bool (so_step v) (Fact-F.All (facts_in ms)))
 
   on_any : (ms : List ((fact : Fact) × Agrees fact)) → Agrees (roll-Fact (Fact-F.Any (facts_in ms)))
@@ -160,7 +161,7 @@ module _ (v : Valuation) (values : Assignment) (keys : List Key)
       ap (holds_at values) (fold-roll-Fact Formula (formula_step keys) (Fact-F.Any (facts_in ms)))
       ∙ ap (holds_at values) (sym (formula.rolls-Any _)) ∙ fold-roll-Formula Bool (holds_step values) (Formula-F.Any _)
       ∙ ap some (members_agree ms (λ key e. h key
-      (ap (list_any (bytes_eq key)) (fold-roll-Fact (List Key) keys_step (Fact-F.Any (facts_in ms)) ∙ keys_joined (facts_in ms)) ∙ e)))
+      (ap (list_any (same_key key)) (fold-roll-Fact (List Key) keys_step (Fact-F.Any (facts_in ms)) ∙ keys_joined (facts_in ms)) ∙ e)))
       ∙ sym (fold-roll-Fact Bool (so_step v) (Fact-F.Any (facts_in ms)))
 
   on_layer : (y : Fact-F ((fact : Fact) × Agrees fact)) (x : Fact-F Fact) → map-Fact ((fact : Fact) × Agrees fact) Fact (λ m. m.0) y ≡ x → Agrees (roll-Fact x)
@@ -181,10 +182,10 @@ module _ (v : Valuation) (values : Assignment) (keys : List Key)
 abbrev IsWithin : ℤ → ℤ × ℤ → Type 0
 IsWithin z b = (b.0 ≤ℤ z) × (z ≤ℤ b.1)
 
-bound_at : (v : Valuation) → IsInRange v → (key : Key) (a b : Bool) → bytes_eq key (whole caller_side) ≡ a → bytes_eq key (whole holder_side) ≡ b
+bound_at : (v : Valuation) → IsInRange v → (key : Key) (a b : Bool) → same_key key (whole caller_side) ≡ a → same_key key (whole holder_side) ≡ b
     → IsWithin (v key) (if a || b then (pos 0, pos 1073741824) else (negsuc 9223372036854775807, pos 9223372036854775807))
-bound_at v r key true b e f = subst (λ k. IsWithin (v k) (pos 0, pos 1073741824)) (sym (same_key key (whole caller_side) e)) r.caller
-bound_at v r key false true e f = subst (λ k. IsWithin (v k) (pos 0, pos 1073741824)) (sym (same_key key (whole holder_side) f)) r.holder
+bound_at v r key true b e f = subst (λ k. IsWithin (v k) (pos 0, pos 1073741824)) (sym (keys_equal key (whole caller_side) e)) r.caller
+bound_at v r key false true e f = subst (λ k. IsWithin (v k) (pos 0, pos 1073741824)) (sym (keys_equal key (whole holder_side) f)) r.holder
 bound_at v r key false false e f = r.number key
 
 lies : (v : Valuation) → IsInRange v → (keys : List Key) (x : ℕ) (low high : ℤ) → slice_get (map bounds_of keys) x ≡ Some (low, high)
@@ -203,7 +204,7 @@ first_of false keys more m k f = f (keys ++ m ∷ [])
 
 pub first_stays : (more keys : List Key) (k : Key) → key_at (with_keys (k ∷ keys) more) 0 ≡ k
 first_stays [] keys k = refl
-first_stays (m ∷ more) keys k = first_of (list_any (bytes_eq m) (k ∷ keys)) keys more m k (λ keys. first_stays more keys k)
+first_stays (m ∷ more) keys k = first_of (list_any (same_key m) (k ∷ keys)) keys more m k (λ keys. first_stays more keys k)
 
 -- the values by number solve the formula
 pub solved_by : (v : Valuation) (facts : List Fact) → IsInRange v → are_so v facts ≡ true → Solves (λ x. v (key_at (keys_of facts) x)) (all_of facts)

@@ -1,7 +1,7 @@
 -- Conditions leave no empty choice.
 use Rattle.std.proofs.Common.{◌≡◌, ℕ, zero, suc, ◌+◌, Bool, true, false, ◌&&◌, List, [], ◌∷◌, ◌++◌, map, length, refl, sym, ap, subst, ◌∙◌, ℤ, pos, negsuc}
 use Rattle.std.proofs.Common.{Option, Some, None, if◌then◌else◌, replicate, arith}
-use Rattle.std.specs.Prelude.{slice_get, slice_set, flat_map, bytes_eq, nat_lt, codes, ◌+ℤ◌}
+use Rattle.std.specs.Prelude.{slice_get, slice_set, flat_map, nat_lt, codes, ◌+ℤ◌}
 use Rattle.std.specs.List.{AllByRecursion, filter}
 use Rattle.ipg_num.specs.declared.op.Op2.{Op2}
 use Rattle.ipg_num.specs.declared.op.Op2.TheVariants as ops
@@ -22,6 +22,7 @@ use Rattle.ipg_core.specs.Grammar.{Grammar, name_at, rule_at}
 use Rattle.ipg_core.specs.Touch.{width}
 use Rattle.ipg_core.specs.MustTouch.{is_marked}
 use Rattle.ipg_graph.specs.declared.edge.Edge.{Edge}
+use Rattle.ipg_facts.specs.declared.key.Side.{Side}
 use Rattle.ipg_facts.specs.declared.fact.Part.{Part}
 use Rattle.ipg_facts.specs.declared.fact.Form.{Form}
 use Rattle.ipg_facts.specs.declared.fact.Bounds.{Bounds}
@@ -31,7 +32,8 @@ use Rattle.ipg_facts.specs.declared.fact.Fact.{Fact, roll-Fact, map-Fact, fold-F
 use Rattle.ipg_facts.specs.declared.fact.Fact.TheVariants as facts
 use Rattle.ipg_facts.specs.declared.fact.Fact.TheOpen.{Fact-F}
 use Rattle.ipg_facts.specs.declared.fact.Draft.{Draft}
-use Rattle.ipg_facts.specs.Key.{Key, attribute, loop, field, named, value, caller_side, holder_side}
+use Rattle.ipg_facts.specs.declared.key.Key.{Key}
+use Rattle.ipg_facts.specs.Key.{attribute, loop, field, named, value, caller_side, holder_side, same_key}
 use Rattle.ipg_facts.specs.Form.{variable, number, add_part, add_parts, plus, minus, scaled, scaled_part, shifted, counts, is_constant, in_limits}
 use Rattle.ipg_facts.specs.Form.{mentioned, facts_of, bare, at_most_zero, leq, less, both_at_most_zero, equal, choice, differ}
 use Rattle.ipg_facts.specs.Reading.{Scope, Reading, length_of, opaque, nought, plain, ranges, greatest, greatest_of, least_width, item_at, item_facts, inside}
@@ -51,7 +53,7 @@ use Rattle.ipg_lin.specs.declared.formula.Formula.{Formula}
 use Rattle.ipg_lin.specs.declared.formula.Formula.TheVariants as formula
 use Rattle.ipg_lin.specs.declared.formula.Boxed.{Boxed}
 use Rattle.ipg_facts_laws.specs.Offers.{offers, offers_step, some_and_every, ConditionsOffer, JointsOffer}
-use Rattle.ipg_facts_laws.proofs.Induct.{Sure, bare as bare_expr, induct}
+use Rattle.ipg_facts.specs.Induct.{Sure, bare as bare_expr, induct}
 
 abbrev offers_fact_step : Fact-F Bool → Bool
 offers_fact_step (Fact-F.Atom draft) = true
@@ -114,7 +116,7 @@ chosen_part false q p qs more h k = (h.0, k)
 of_part : (ps : List Part) (p : Part) → PartsOffer ps → Offer p.facts → PartsOffer (add_part ps p)
 unfolding add_part
 of_part [] p h k = (k, tt)
-of_part (q ∷ qs) p h k = chosen_part (bytes_eq q.key p.key) q p qs (add_part qs p) h (of_part qs p h.1 k)
+of_part (q ∷ qs) p h k = chosen_part (same_key q.key p.key) q p qs (add_part qs p) h (of_part qs p h.1 k)
 
 of_parts : (ps qs : List Part) → PartsOffer ps → PartsOffer qs → PartsOffer (add_parts ps qs)
 unfolding add_parts
@@ -193,9 +195,9 @@ pub record Offers (r : Reading) : Type 0 where
   pub holds : Offer r.holds
   pub fails : Offer r.fails
 
-of_plain : (words : List ℕ) (a : Form) → FormOffers a → Offers (plain words a)
+of_plain : (said : CoreExpr) (a : Form) → FormOffers a → Offers (plain said a)
 unfolding plain
-of_plain words a h = record { form = h; holds = of_differ a nought h tt; fails = of_equal a nought h tt }
+of_plain said a h = record { form = h; holds = of_differ a nought h tt; fails = of_equal a nought h tt }
 
 of_ranges : (v : Form) (most : Option ℕ) → FormOffers v → Offer (ranges v most)
 unfolding ranges
@@ -300,13 +302,13 @@ of_later Earlier fs h = tt
 of_later Later fs h = h
 
 module _ (scope : Scope) (known : ScopeOffers scope) where
-  of_opaque : (words : List ℕ) → FormOffers (opaque scope words)
-  of_opaque words = of_variable (value scope.side words) [] tt
+  of_opaque : (said : CoreExpr) → FormOffers (opaque scope said)
+  of_opaque said = of_variable (value scope.side said) [] tt
 
-  of_limited : (words : List ℕ) (a : Option Form) → OptionOffers a → FormOffers (limited scope words a)
+  of_limited : (said : CoreExpr) (a : Option Form) → OptionOffers a → FormOffers (limited scope said a)
   unfolding limited
-  of_limited words None h = of_opaque words
-  of_limited words (Some a) h = form_or (in_limits a) a _ h (of_opaque words)
+  of_limited said None h = of_opaque said
+  of_limited said (Some a) h = form_or (in_limits a) a _ h (of_opaque said)
 
   of_item : (item : Option Sym) (f : CoreField) (v : Form) → FormOffers v → Offer (item_facts scope item f v)
   unfolding item_facts
@@ -334,64 +336,64 @@ module _ (scope : Scope) (known : ScopeOffers scope) where
   of_touching term =
       bounds_or_none (nat_lt 0 (least_width scope.marks (item_at scope term))) (if_there (slice_get scope.arrays term)) (bounds_at scope.arrays term known)
 
-  of_seen : (words : List ℕ) (term : ℕ) (f : CoreField)
-      → Offers (plain words (variable (value scope.side words) (if_later scope.edition (item_facts scope (item_at scope term) f (opaque scope words)))))
-  of_seen words term f =
-      let known : List Fact = item_facts scope (item_at scope term) f (opaque scope words) in
+  of_seen : (said : CoreExpr) (term : ℕ) (f : CoreField)
+      → Offers (plain said (variable (value scope.side said) (if_later scope.edition (item_facts scope (item_at scope term) f (opaque scope said)))))
+  of_seen said term f =
+      let known : List Fact = item_facts scope (item_at scope term) f (opaque scope said) in
       let facts : List Fact = if_later scope.edition known in
-      of_plain words (variable (value scope.side words) facts)
-      (of_variable (value scope.side words) facts (of_later scope.edition known (of_item (item_at scope term) f (opaque scope words) (of_opaque words))))
+      of_plain said (variable (value scope.side said) facts)
+      (of_variable (value scope.side said) facts (of_later scope.edition known (of_item (item_at scope term) f (opaque scope said) (of_opaque said))))
 
-  of_behind : (words : List ℕ) (term : ℕ) (left : Form) → FormOffers left
-      → Offers (plain words (variable (value scope.side words) (after_facts scope (touching scope term) (opaque scope words) left)))
-  of_behind words term left h =
-      let facts : List Fact = after_facts scope (touching scope term) (opaque scope words) left in
-      of_plain words (variable (value scope.side words) facts)
-      (of_variable (value scope.side words) facts (of_after (touching scope term) (opaque scope words) left (of_touching term) (of_opaque words) h))
+  of_behind : (said : CoreExpr) (term : ℕ) (left : Form) → FormOffers left
+      → Offers (plain said (variable (value scope.side said) (after_facts scope (touching scope term) (opaque scope said) left)))
+  of_behind said term left h =
+      let facts : List Fact = after_facts scope (touching scope term) (opaque scope said) left in
+      of_plain said (variable (value scope.side said) facts)
+      (of_variable (value scope.side said) facts (of_after (touching scope term) (opaque scope said) left (of_touching term) (of_opaque said) h))
 
-  of_not : (a : Reading) (words : List ℕ) → Offers a
-      → Offers (record { words = words; form = opaque scope words; holds = a.fails; fails = a.holds })
-  of_not a words h = record { form = of_opaque words; holds = h.fails; fails = h.holds }
+  of_not : (a : Reading) (said : CoreExpr) → Offers a
+      → Offers (record { said = said; form = opaque scope said; holds = a.fails; fails = a.holds })
+  of_not a said h = record { form = of_opaque said; holds = h.fails; fails = h.holds }
 
-  of_two : (op : Op2) (a b : Reading) (words : List ℕ) → Offers a → Offers b
-      → (let form = limited scope words (computed op a.form b.form) in
-      Offers (record { words = words; form = form; holds = asserted op a.form b.form form; fails = denied op a.form b.form form }))
-  of_two op a b words h k =
-      let form : Form = limited scope words (computed op a.form b.form) in
-      let made : FormOffers form = of_limited words (computed op a.form b.form) (of_computed op a.form b.form h.form k.form) in
+  of_two : (op : Op2) (a b : Reading) (said : CoreExpr) → Offers a → Offers b
+      → (let form = limited scope said (computed op a.form b.form) in
+      Offers (record { said = said; form = form; holds = asserted op a.form b.form form; fails = denied op a.form b.form form }))
+  of_two op a b said h k =
+      let form : Form = limited scope said (computed op a.form b.form) in
+      let made : FormOffers form = of_limited said (computed op a.form b.form) (of_computed op a.form b.form h.form k.form) in
       record { form = made; holds = of_asserted op a.form b.form form h.form k.form made; fails = of_denied op a.form b.form form h.form k.form made }
 
-  of_and : (a b : Reading) (words : List ℕ) → Offers a → Offers b
-      → Offers (record { words = words; form = opaque scope words; holds = a.holds ++ b.holds; fails = choice a.fails (a.holds ++ b.fails) })
-  of_and a b words h k = record {
-    form = of_opaque words;
+  of_and : (a b : Reading) (said : CoreExpr) → Offers a → Offers b
+      → Offers (record { said = said; form = opaque scope said; holds = a.holds ++ b.holds; fails = choice a.fails (a.holds ++ b.fails) })
+  of_and a b said h k = record {
+    form = of_opaque said;
     holds = join a.holds b.holds h.holds k.holds;
     fails = either a.fails (a.holds ++ b.fails) h.fails (join a.holds b.fails h.holds k.fails);
   }
 
-  of_or : (a b : Reading) (words : List ℕ) → Offers a → Offers b
-      → Offers (record { words = words; form = opaque scope words; holds = choice a.holds (a.fails ++ b.holds); fails = a.fails ++ b.fails })
-  of_or a b words h k = record {
-    form = of_opaque words;
+  of_or : (a b : Reading) (said : CoreExpr) → Offers a → Offers b
+      → Offers (record { said = said; form = opaque scope said; holds = choice a.holds (a.fails ++ b.holds); fails = a.fails ++ b.fails })
+  of_or a b said h k = record {
+    form = of_opaque said;
     holds = either a.holds (a.fails ++ b.holds) h.holds (join a.fails b.holds h.fails k.holds);
     fails = join a.fails b.fails h.fails k.fails;
   }
 
-  abbrev conditional : List ℕ → Reading → Reading → Reading → Reading
-  conditional words c a b = record {
-    words = words;
-    form = variable (value scope.side words) (choice (c.holds ++ equal (opaque scope words) a.form) (c.fails ++ equal (opaque scope words) b.form));
+  abbrev conditional : CoreExpr → Reading → Reading → Reading → Reading
+  conditional said c a b = record {
+    said = said;
+    form = variable (value scope.side said) (choice (c.holds ++ equal (opaque scope said) a.form) (c.fails ++ equal (opaque scope said) b.form));
     holds = choice (c.holds ++ a.holds) (c.fails ++ b.holds);
     fails = choice (c.holds ++ a.fails) (c.fails ++ b.fails);
   }
 
-  of_cond : (c a b : Reading) (words : List ℕ) → Offers c → Offers a → Offers b → Offers (conditional words c a b)
-  of_cond c a b words h k l =
-      let v : Form = opaque scope words in
+  of_cond : (c a b : Reading) (said : CoreExpr) → Offers c → Offers a → Offers b → Offers (conditional said c a b)
+  of_cond c a b said h k l =
+      let v : Form = opaque scope said in
       record {
-        form = of_variable (value scope.side words) _ (either (c.holds ++ equal v a.form) (c.fails ++ equal v b.form)
-            (join c.holds (equal v a.form) h.holds (of_equal v a.form (of_opaque words) k.form))
-            (join c.fails (equal v b.form) h.fails (of_equal v b.form (of_opaque words) l.form)));
+        form = of_variable (value scope.side said) _ (either (c.holds ++ equal v a.form) (c.fails ++ equal v b.form)
+            (join c.holds (equal v a.form) h.holds (of_equal v a.form (of_opaque said) k.form))
+            (join c.fails (equal v b.form) h.fails (of_equal v b.form (of_opaque said) l.form)));
         holds = either (c.holds ++ a.holds) (c.fails ++ b.holds) (join c.holds a.holds h.holds k.holds) (join c.fails b.holds h.fails l.holds);
         fails = either (c.holds ++ a.fails) (c.fails ++ b.fails) (join c.holds a.fails h.holds k.fails) (join c.fails b.fails h.fails l.fails);
       }
@@ -618,7 +620,7 @@ no_bounds : (n : ℕ) → AllByRecursion BoundsOffer (replicate n None)
 no_bounds zero = tt
 no_bounds (suc n) = (tt, no_bounds n)
 
-of_opening : (g : Grammar) (marks : List Bool) (edition : Edition) (side : ℕ) (alt : CoreAlt) → ScopeOffers (opening g marks edition side alt)
+of_opening : (g : Grammar) (marks : List Bool) (edition : Edition) (side : Side) (alt : CoreAlt) → ScopeOffers (opening g marks edition side alt)
 unfolding opening
 of_opening g marks edition side alt = no_bounds (length alt.terms)
 

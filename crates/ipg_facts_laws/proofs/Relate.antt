@@ -24,15 +24,16 @@ use Rattle.ipg_facts.specs.declared.fact.Fact.{Fact}
 use Rattle.ipg_facts.specs.declared.fact.Bounds.{Bounds}
 use Rattle.ipg_facts.specs.declared.edition.Edition.{Edition}
 use Rattle.ipg_facts.specs.declared.edition.Edition.TheVariants.{Earlier, Later}
-use Rattle.ipg_facts.specs.Key.{Key, whole, attribute, loop, field, value, holder_side}
+use Rattle.ipg_facts.specs.declared.key.Key.{Key}
+use Rattle.ipg_facts.specs.Key.{whole, attribute, loop, field, value, holder_side}
 use Rattle.ipg_facts.specs.Form.{variable, number, plus, minus, scaled, shifted, is_constant, in_limits, leq, less, equal, differ, choice}
 use Rattle.ipg_facts.specs.Reading.{Scope, Reading, length_of, opaque, nought, plain, least_width, item_at, greatest_of, ranges, item_facts, inside}
 use Rattle.ipg_facts.specs.Reading.{if_later, touching, after_facts, product, computed, limited, asserted, denied, reading, read}
 use Rattle.ipg_facts_laws.specs.Valued.{Valuation}
 use Rattle.ipg_facts_laws.specs.Known.{AreSo, Stands, Knows, IsRanged, IsItemField, IsPlace, IsBehind, Fits}
 use Rattle.ipg_facts_laws.specs.Laws.{ValuesAreKnown}
-use Rattle.ipg_facts_laws.proofs.Induct.{Sure, bare, induct}
-use Rattle.ipg_facts_laws.proofs.Words.{words_are_spelled}
+use Rattle.ipg_facts.specs.Induct.{Sure, bare, induct}
+use Rattle.ipg_facts.specs.Said.{said_is}
 use Rattle.ipg_facts_laws.proofs.Forms.{stands_at, stands_number, stands_variable, stands_plus, stands_minus, stands_scaled, stands_negated}
 use Rattle.ipg_facts_laws.proofs.Forms.{stands_shifted, so_append, so_leq, so_less, so_equal, so_first, so_second, so_below, so_above, constant_value}
 use Rattle.ipg_facts_laws.proofs.Answers.{found_is, limited_is, Kept, kept, first_of, flag_is, not_true, not_false, eq_true, eq_false, lt_true, lt_false}
@@ -51,9 +52,9 @@ module _ (v : Valuation) where
   so_other a z s (inl h) = so_below v a nought z (pos 0) s stands_nought h
   so_other a z s (inr h) = so_above v a nought z (pos 0) s stands_nought h
 
-  pub knows_plain : (words : List ℕ) (a : Form) (z : ℤ) → Stands v a z → Knows v (plain words a) z
+  pub knows_plain : (said : CoreExpr) (a : Form) (z : ℤ) → Stands v a z → Knows v (plain said a) z
   unfolding plain
-  knows_plain words a z s = record {
+  knows_plain said a z s = record {
     form = s;
     holds = λ e. so_other a z s (not_zero z e);
     fails = λ e. so_equal v a nought z (pos 0) s stands_nought (zero_is z e);
@@ -71,11 +72,11 @@ module _ (v : Valuation) where
   StandsSome None z = Unit {0}
   StandsSome (Some a) z = Stands v a z
 
-  pub stands_limited : (scope : Scope) (words : List ℕ) (a : Option Form) (z : ℤ) → v (value scope.side words) ≡ z → StandsSome a z
-      → Stands v (limited scope words a) z
+  pub stands_limited : (scope : Scope) (said : CoreExpr) (a : Option Form) (z : ℤ) → v (value scope.side said) ≡ z → StandsSome a z
+      → Stands v (limited scope said a) z
   unfolding limited
-  stands_limited scope words None z e s = stands_key (value scope.side words) [] z refl e
-  stands_limited scope words (Some a) z e s = stands_chosen (in_limits a) a _ z s (stands_key (value scope.side words) [] z refl e)
+  stands_limited scope said None z e s = stands_key (value scope.side said) [] z refl e
+  stands_limited scope said (Some a) z e s = stands_chosen (in_limits a) a _ z s (stands_key (value scope.side said) [] z refl e)
 
   -- a form without variables has its constant's value
   constant_is : (a : Form) (x : ℤ) → is_constant a ≡ true → Stands v a x → a.constant ≡ x
@@ -216,8 +217,8 @@ module _ (v : Valuation) where
     pub stands_length : Stands v (length_of scope) (pos env.eoi)
     stands_length = stands_key (whole scope.side) [] (pos env.eoi) refl fits.length
 
-    stands_opaque : (words : List ℕ) (z : ℤ) → v (value scope.side words) ≡ z → Stands v (opaque scope words) z
-    stands_opaque words z e = stands_key (value scope.side words) [] z refl e
+    stands_opaque : (said : CoreExpr) (z : ℤ) → v (value scope.side said) ≡ z → Stands v (opaque scope said) z
+    stands_opaque said z e = stands_key (value scope.side said) [] z refl e
 
     so_item : (item : Option Sym) (f : CoreField) (a : Form) (z : ℤ) → Stands v a z → IsItemField scope env.eoi item f z → AreSo v (item_facts scope item f a)
     unfolding item_facts
@@ -264,102 +265,102 @@ module _ (v : Valuation) where
     abbrev evals : CoreExpr-F (Sure IsKnown) → CoreExpr-F core.Reading
     evals y = map-CoreExpr CoreExpr core.Reading eval (bare y)
 
-    knows_negated : (a : Form) (words : List ℕ) (x z : ℤ) → negate_of x ≡ Val z → Stands v a x → v (value scope.side words) ≡ z
-        → Knows v (plain words (limited scope words (Some (scaled (negsuc 0) a)))) z
-    knows_negated a words x z e s h =
-        knows_plain words (limited scope words (Some (scaled (negsuc 0) a))) z
-        (stands_limited scope words (Some (scaled (negsuc 0) a)) z h
+    knows_negated : (a : Form) (said : CoreExpr) (x z : ℤ) → negate_of x ≡ Val z → Stands v a x → v (value scope.side said) ≡ z
+        → Knows v (plain said (limited scope said (Some (scaled (negsuc 0) a)))) z
+    knows_negated a said x z e s h =
+        knows_plain said (limited scope said (Some (scaled (negsuc 0) a))) z
+        (stands_limited scope said (Some (scaled (negsuc 0) a)) z h
         (stands_at v (scaled (negsuc 0) a) (pos 0 -ℤ x) z (minus_is x ∙ limited_is (neg_ℤ x) z e) (stands_negated v a x s)))
 
-    knows_not : (r : Reading) (words : List ℕ) (x z : ℤ) → flag (is_zero x) ≡ Val z → Knows v r x → v (value scope.side words) ≡ z
-        → Knows v (record { words = words; form = opaque scope words; holds = r.fails; fails = r.holds }) z
-    knows_not r words x z e k h = record {
-      form = stands_opaque words z h;
+    knows_not : (r : Reading) (said : CoreExpr) (x z : ℤ) → flag (is_zero x) ≡ Val z → Knows v r x → v (value scope.side said) ≡ z
+        → Knows v (record { said = said; form = opaque scope said; holds = r.fails; fails = r.holds }) z
+    knows_not r said x z e k h = record {
+      form = stands_opaque said z h;
       holds = λ f. k.fails (not_false (is_zero z) (is_zero x) (flag_is (is_zero x) z e) f);
       fails = λ f. k.holds (not_true (is_zero z) (is_zero x) (flag_is (is_zero x) z e) f);
     }
 
-    knows_two : (op : Op2) (a b : Reading) (words : List ℕ) (x y z : ℤ) → apply_of op x y ≡ Val z → Knows v a x → Knows v b y → v (value scope.side words) ≡ z
-        → (let form = limited scope words (computed op a.form b.form) in
-        Knows v (record { words = words; form = form; holds = asserted op a.form b.form form; fails = denied op a.form b.form form }) z)
-    knows_two op a b words x y z e k l h =
-        let form : Form = limited scope words (computed op a.form b.form) in
-        let s : Stands v form z = stands_limited scope words (computed op a.form b.form) z h (stands_computed op a.form b.form x y z e k.form l.form) in
+    knows_two : (op : Op2) (a b : Reading) (said : CoreExpr) (x y z : ℤ) → apply_of op x y ≡ Val z → Knows v a x → Knows v b y → v (value scope.side said) ≡ z
+        → (let form = limited scope said (computed op a.form b.form) in
+        Knows v (record { said = said; form = form; holds = asserted op a.form b.form form; fails = denied op a.form b.form form }) z)
+    knows_two op a b said x y z e k l h =
+        let form : Form = limited scope said (computed op a.form b.form) in
+        let s : Stands v form z = stands_limited scope said (computed op a.form b.form) z h (stands_computed op a.form b.form x y z e k.form l.form) in
         record { form = s; holds = so_asserted op a.form b.form form x y z e k.form l.form s; fails = so_denied op a.form b.form form x y z e k.form l.form s }
 
     -- of two conditions both: the second is evaluated where the first isn't 0
-    both_on : (zero : Bool) (a b : Reading) (rest : Answer) (words : List ℕ) (x z : ℤ) → is_zero x ≡ zero → Knows v a x
+    both_on : (zero : Bool) (a b : Reading) (rest : Answer) (said : CoreExpr) (x z : ℤ) → is_zero x ≡ zero → Knows v a x
         → (if zero then flag false else on_value rest (λ y. flag (not (is_zero y)))) ≡ Val z → ((y : ℤ) → rest ≡ Val y → Knows v b y)
-        → v (value scope.side words) ≡ z
-        → Knows v (record { words = words; form = opaque scope words; holds = a.holds ++ b.holds; fails = choice a.fails (a.holds ++ b.fails) }) z
-    both_on true a b rest words x z f k e l h = record {
-      form = stands_opaque words z h;
+        → v (value scope.side said) ≡ z
+        → Knows v (record { said = said; form = opaque scope said; holds = a.holds ++ b.holds; fails = choice a.fails (a.holds ++ b.fails) }) z
+    both_on true a b rest said x z f k e l h = record {
+      form = stands_opaque said z h;
       holds = λ g. (let t : is_zero z ≡ true = flag_is false z e in absurd (differs (is_zero z) t g));
       fails = λ g. so_first v a.fails (a.holds ++ b.fails) (k.fails f);
     }
-    both_on false a b rest words x z f k e l h =
+    both_on false a b rest said x z f k e l h =
         let y = first_of rest (λ y. flag (not (is_zero y))) z e in
         let same : is_zero z ≡ is_zero y.first = flag_is (not (is_zero y.first)) z y.goes ∙ not_not (is_zero y.first) in
         let m = l y.first y.is in
         record {
-          form = stands_opaque words z h;
+          form = stands_opaque said z h;
           holds = λ g. so_append v a.holds b.holds (k.holds f) (m.holds (sym same ∙ g));
           fails = λ g. so_second v a.fails (a.holds ++ b.fails) (so_append v a.holds b.fails (k.holds f) (m.fails (sym same ∙ g)));
         }
 
-    either_on : (zero : Bool) (a b : Reading) (rest : Answer) (words : List ℕ) (x z : ℤ) → is_zero x ≡ zero → Knows v a x
+    either_on : (zero : Bool) (a b : Reading) (rest : Answer) (said : CoreExpr) (x z : ℤ) → is_zero x ≡ zero → Knows v a x
         → (if zero then on_value rest (λ y. flag (not (is_zero y))) else flag true) ≡ Val z → ((y : ℤ) → rest ≡ Val y → Knows v b y)
-        → v (value scope.side words) ≡ z
-        → Knows v (record { words = words; form = opaque scope words; holds = choice a.holds (a.fails ++ b.holds); fails = a.fails ++ b.fails }) z
-    either_on false a b rest words x z f k e l h = record {
-      form = stands_opaque words z h;
+        → v (value scope.side said) ≡ z
+        → Knows v (record { said = said; form = opaque scope said; holds = choice a.holds (a.fails ++ b.holds); fails = a.fails ++ b.fails }) z
+    either_on false a b rest said x z f k e l h = record {
+      form = stands_opaque said z h;
       holds = λ g. so_first v a.holds (a.fails ++ b.holds) (k.holds f);
       fails = λ g. (let t : is_zero z ≡ false = flag_is true z e in absurd (differs (is_zero z) g t));
     }
-    either_on true a b rest words x z f k e l h =
+    either_on true a b rest said x z f k e l h =
         let y = first_of rest (λ y. flag (not (is_zero y))) z e in
         let same : is_zero z ≡ is_zero y.first = flag_is (not (is_zero y.first)) z y.goes ∙ not_not (is_zero y.first) in
         let m = l y.first y.is in
         record {
-          form = stands_opaque words z h;
+          form = stands_opaque said z h;
           holds = λ g. so_second v a.holds (a.fails ++ b.holds) (so_append v a.fails b.holds (k.fails f) (m.holds (sym same ∙ g)));
           fails = λ g. so_append v a.fails b.fails (k.fails f) (m.fails (sym same ∙ g));
         }
 
-    abbrev conditional : List ℕ → Reading → Reading → Reading → Reading
-    conditional words c a b = record {
-      words = words;
-      form = variable (value scope.side words) (choice (c.holds ++ equal (opaque scope words) a.form) (c.fails ++ equal (opaque scope words) b.form));
+    abbrev conditional : CoreExpr → Reading → Reading → Reading → Reading
+    conditional said c a b = record {
+      said = said;
+      form = variable (value scope.side said) (choice (c.holds ++ equal (opaque scope said) a.form) (c.fails ++ equal (opaque scope said) b.form));
       holds = choice (c.holds ++ a.holds) (c.fails ++ b.holds);
       fails = choice (c.holds ++ a.fails) (c.fails ++ b.fails);
     }
 
-    cond_on : (zero : Bool) (c a b : Reading) (one two : Answer) (words : List ℕ) (x z : ℤ) → is_zero x ≡ zero → Knows v c x
-        → (if zero then two else one) ≡ Val z → (one ≡ Val z → Knows v a z) → (two ≡ Val z → Knows v b z) → v (value scope.side words) ≡ z
-        → Knows v (conditional words c a b) z
-    cond_on false c a b one two words x z f k e l m h =
+    cond_on : (zero : Bool) (c a b : Reading) (one two : Answer) (said : CoreExpr) (x z : ℤ) → is_zero x ≡ zero → Knows v c x
+        → (if zero then two else one) ≡ Val z → (one ≡ Val z → Knows v a z) → (two ≡ Val z → Knows v b z) → v (value scope.side said) ≡ z
+        → Knows v (conditional said c a b) z
+    cond_on false c a b one two said x z f k e l m h =
         let t = l e in
         record {
-          form = stands_key (value scope.side words) _ z
-              (so_first v (c.holds ++ equal (opaque scope words) a.form) (c.fails ++ equal (opaque scope words) b.form)
-              (so_append v c.holds (equal (opaque scope words) a.form) (k.holds f)
-              (so_equal v (opaque scope words) a.form z z (stands_opaque words z h) t.form refl))) h;
+          form = stands_key (value scope.side said) _ z
+              (so_first v (c.holds ++ equal (opaque scope said) a.form) (c.fails ++ equal (opaque scope said) b.form)
+              (so_append v c.holds (equal (opaque scope said) a.form) (k.holds f)
+              (so_equal v (opaque scope said) a.form z z (stands_opaque said z h) t.form refl))) h;
           holds = λ g. so_first v (c.holds ++ a.holds) (c.fails ++ b.holds) (so_append v c.holds a.holds (k.holds f) (t.holds g));
           fails = λ g. so_first v (c.holds ++ a.fails) (c.fails ++ b.fails) (so_append v c.holds a.fails (k.holds f) (t.fails g));
         }
-    cond_on true c a b one two words x z f k e l m h =
+    cond_on true c a b one two said x z f k e l m h =
         let t = m e in
         record {
-          form = stands_key (value scope.side words) _ z
-              (so_second v (c.holds ++ equal (opaque scope words) a.form) (c.fails ++ equal (opaque scope words) b.form)
-              (so_append v c.fails (equal (opaque scope words) b.form) (k.fails f)
-              (so_equal v (opaque scope words) b.form z z (stands_opaque words z h) t.form refl))) h;
+          form = stands_key (value scope.side said) _ z
+              (so_second v (c.holds ++ equal (opaque scope said) a.form) (c.fails ++ equal (opaque scope said) b.form)
+              (so_append v c.fails (equal (opaque scope said) b.form) (k.fails f)
+              (so_equal v (opaque scope said) b.form z z (stands_opaque said z h) t.form refl))) h;
           holds = λ g. so_second v (c.holds ++ a.holds) (c.fails ++ b.holds) (so_append v c.fails b.holds (k.fails f) (t.holds g));
           fails = λ g. so_second v (c.holds ++ a.fails) (c.fails ++ b.fails) (so_append v c.fails b.fails (k.fails f) (t.fails g));
         }
 
     -- one level of an expression
-    layer : (y : CoreExpr-F (Sure IsKnown)) (z : ℤ) → Kept (core.reading (evals y) env) z → v (value scope.side (reading scope (readings y)).words) ≡ z
+    layer : (y : CoreExpr-F (Sure IsKnown)) (z : ℤ) → Kept (core.reading (evals y) env) z → v (value scope.side (reading scope (readings y)).said) ≡ z
         → Knows v (reading scope (readings y)) z
     unfolding reading plain
     layer (CoreExpr-F.Num n) z k h = knows_plain _ (number n) z (stands_at v (number n) n z (let e : Val n ≡ Val z = k.is in cc) (stands_number v n))
@@ -407,7 +408,7 @@ module _ (v : Valuation) where
         (fold-roll-CoreExpr core.Reading limited_reading (bare y)) in
         subst (λ r. Knows v r z) (sym made)
         (layer y z (kept (core.reading (evals y) env) z (sym valued ∙ e))
-        (ap (λ (r : Reading). v (value scope.side r.words)) (sym made) ∙ ap (λ ws. v (value scope.side ws)) (words_are_spelled scope (roll-CoreExpr (bare y)))
+        (ap (λ (r : Reading). v (value scope.side r.said)) (sym made) ∙ ap (λ ws. v (value scope.side ws)) (said_is scope (roll-CoreExpr (bare y)))
         ∙ fits.opaques (roll-CoreExpr (bare y)) z e))
 
     pub known : (e : CoreExpr) → IsKnown e

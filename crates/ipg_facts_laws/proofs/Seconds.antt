@@ -1,7 +1,7 @@
 -- The second variable of a gap's formula is the place.
 use Rattle.std.proofs.Common.{◌≡◌, ℕ, ◌<◌, Bool, true, false, List, [], ◌∷◌, ◌++◌, map, length, refl, sym, ap}
 use Rattle.std.proofs.Common.{◌∙◌, arith, pos, negsuc, Option, Some, None, if◌then◌else◌}
-use Rattle.std.specs.Prelude.{slice_get, flat_map, bytes_eq}
+use Rattle.std.specs.Prelude.{slice_get, flat_map}
 use Rattle.std.specs.List.{list_any}
 use Rattle.std.proofs.lemmas.List.{length-map}
 use Rattle.ipg_core.specs.declared.grammar.CoreAlt.{CoreAlt}
@@ -13,7 +13,8 @@ use Rattle.ipg_facts.specs.declared.fact.Fact.{Fact, fold-roll-Fact}
 use Rattle.ipg_facts.specs.declared.fact.Fact.TheOpen.{Fact-F}
 use Rattle.ipg_facts.specs.declared.fact.Fact.TheVariants as facts
 use Rattle.ipg_facts.specs.declared.edition.Edition.TheVariants.{Later}
-use Rattle.ipg_facts.specs.Key.{Key, whole, caller_side}
+use Rattle.ipg_facts.specs.declared.key.Key.{Key}
+use Rattle.ipg_facts.specs.Key.{whole, caller_side, same_key}
 use Rattle.ipg_facts.specs.Form.{leq, less, at_most_zero, minus, plus, scaled, add_part, add_parts, facts_of, mentioned, bare, in_limits}
 use Rattle.ipg_facts.specs.Reading.{Scope, nought, length_of}
 use Rattle.ipg_facts.specs.Keep.{opening, holder_facts, alt_of, alt_at}
@@ -27,7 +28,7 @@ at_least_nought = record { terms = (whole point_side, negsuc 0) ∷ []; constant
 
 -- the first fact says that the place is at least 0
 begins : leq nought point ≡ facts.Atom at_least_nought ∷ []
-unfolding leq at_most_zero minus plus scaled add_part add_parts facts_of mentioned bare in_limits
+unfolding leq at_most_zero minus plus scaled add_part add_parts facts_of mentioned bare in_limits same_key
 begins = refl
 
 second_by : (b : Bool) (keys more : List Key) (m j k : Key) → ((keys : List Key) → slice_get (with_keys (j ∷ (k ∷ keys)) more) 1 ≡ Some k)
@@ -37,14 +38,14 @@ second_by false keys more m j k f = f (keys ++ m ∷ [])
 
 second_stays : (more keys : List Key) (j k : Key) → slice_get (with_keys (j ∷ (k ∷ keys)) more) 1 ≡ Some k
 second_stays [] keys j k = refl
-second_stays (m ∷ more) keys j k = second_by (list_any (bytes_eq m) (j ∷ (k ∷ keys))) keys more m j k (λ keys. second_stays more keys j k)
+second_stays (m ∷ more) keys j k = second_by (list_any (same_key m) (j ∷ (k ∷ keys))) keys more m j k (λ keys. second_stays more keys j k)
 
 first_keys : keys_in (facts.Atom at_least_nought) ≡ whole point_side ∷ []
 unfolding keys_in
 first_keys = ap keys_in (sym (facts.rolls-Atom at_least_nought)) ∙ fold-roll-Fact (List Key) keys_step (Fact-F.Atom at_least_nought)
 
 second_key : (rest : List Fact) → slice_get (keys_of (facts.Atom at_least_nought ∷ rest)) 1 ≡ Some (whole point_side)
-unfolding keys_of
+unfolding keys_of same_key
 second_key rest =
     ap (λ keys. slice_get (with_keys (whole caller_side ∷ []) (keys ++ flat_map keys_in rest)) 1) first_keys
     ∙ second_stays (flat_map keys_in rest) [] (whole caller_side) (whole point_side)

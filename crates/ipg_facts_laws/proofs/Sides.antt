@@ -1,7 +1,7 @@
 -- Values for the variables of an alternative at a moment, of its holder, and of a place on a side of its own.
-use Rattle.std.proofs.Common.{◌≡◌, ℕ, ◌≤◌, ◌^◌, refl, ap, ◌∙◌, subst, arith, List, [], ◌∷◌, length, Option, Some, Bool, true, false}
+use Rattle.std.proofs.Common.{◌≡◌, ℕ, ◌≤◌, ◌^◌, refl, ap, ◌∙◌, subst, arith, List, length, Option, Some, Bool, true, false}
 use Rattle.std.proofs.Common.{if◌then◌else◌, ℤ, pos}
-use Rattle.std.specs.Prelude.{◌≤ℤ◌, bytes_eq}
+use Rattle.std.specs.Prelude.{◌≤ℤ◌}
 use Rattle.std.proofs.lemmas.Int.{ints}
 use Rattle.ipg_num.specs.Number.{limited}
 use Rattle.ipg_num.specs.declared.op.Answer.TheVariants.{Val}
@@ -14,14 +14,17 @@ use Rattle.ipg_core.specs.MustTouch.{Marks, AreLimit}
 use Rattle.ipg_core.specs.Good.{AltAt, Good}
 use Rattle.ipg_core.specs.Grown.{IsInput, GrownUnder, Grown}
 use Rattle.ipg_core.specs.Laws.{LiesWithin, TouchingTouches}
-use Rattle.ipg_facts.specs.Key.{Key, whole, attribute, caller_side, holder_side}
+use Rattle.ipg_facts.specs.declared.key.Known.{Known}
+use Rattle.ipg_facts.specs.declared.key.Known.TheVariants.{Whole, Attribute}
+use Rattle.ipg_facts.specs.declared.key.Key.{Key}
+use Rattle.ipg_facts.specs.Key.{whole, attribute, caller_side, holder_side, same_key}
 use Rattle.ipg_facts.specs.Keep.{holder_facts}
 use Rattle.ipg_facts.specs.Gap.{point_side}
 use Rattle.ipg_facts_laws.specs.Valued.{Valuation}
 use Rattle.ipg_facts_laws.specs.Known.{AreSo, Fits}
 use Rattle.ipg_facts_laws.specs.Laws.{IsInRange}
 use Rattle.ipg_facts_laws.specs.Finished.{IsNumber}
-use Rattle.ipg_facts_laws.proofs.Valuing.{or_zero, small, clamped, clamped_is, of_kind, values_of, are_numbers}
+use Rattle.ipg_facts_laws.proofs.Valuing.{or_zero, small, clamped, clamped_is, of_known, key_of, values_of, are_numbers}
 use Rattle.ipg_facts_laws.proofs.Works.{first_scope, at_work, Results, work_fits}
 use Rattle.ipg_facts_laws.proofs.Holders.{Holder, holder_of_call}
 
@@ -51,19 +54,19 @@ module _ (lies : LiesWithin) (must : TouchingTouches) (g : Grammar) (good : Good
     env = environment (at_work g at s outer) end item
 
     values : Valuation
-    values key = if bytes_eq key (whole point_side) then z else values_of env held_by.env key
+    values key = if same_key key (whole point_side) then z else values_of env held_by.env key
 
-    agrees : (kind : ℕ) (words : List ℕ) → values (caller_side ∷ kind ∷ words) ≡ clamped (of_kind env kind words)
-    unfolding values values_of
-    agrees kind words = refl
+    agrees : (known : Known) → values (key_of caller_side known) ≡ clamped (of_known env known)
+    unfolding values values_of same_key
+    agrees known = refl
 
-    holder_agrees : (kind : ℕ) (words : List ℕ) → values (holder_side ∷ kind ∷ words) ≡ clamped (of_kind held_by.env kind words)
-    unfolding values values_of
-    holder_agrees kind words = refl
+    holder_agrees : (known : Known) → values (key_of holder_side known) ≡ clamped (of_known held_by.env known)
+    unfolding values values_of same_key
+    holder_agrees known = refl
 
     outer_is : (a : ℕ) (y : ℤ) → value_at outer a ≡ Some y → limited y ≡ Val y → values (attribute holder_side a) ≡ y
     outer_is a y there n =
-        holder_agrees 1 (a ∷ []) ∙ ap (λ own. clamped (or_zero (value_at own a))) held_by.own ∙ ap (λ o. clamped (or_zero o)) there ∙ clamped_is y n
+        holder_agrees (Attribute a) ∙ ap (λ own. clamped (or_zero (value_at own a))) held_by.own ∙ ap (λ o. clamped (or_zero o)) there ∙ clamped_is y n
 
     it_fits : Fits values (first_scope g marks caller_side alt) env
     it_fits = work_fits g good marks at alt s input outer caller_side end item results values agrees outer_is
@@ -76,7 +79,7 @@ module _ (lies : LiesWithin) (must : TouchingTouches) (g : Grammar) (good : Good
     size_is = it_fits.length ∙ ap pos part_is
 
     holder_size_is : values (whole holder_side) ≡ pos held_by.env.eoi
-    holder_size_is = holder_agrees 0 [] ∙ clamped_is (pos held_by.env.eoi) (small held_by.env.eoi held_by.size)
+    holder_size_is = holder_agrees Whole ∙ clamped_is (pos held_by.env.eoi) (small held_by.env.eoi held_by.size)
 
     number_if : (key : Key) (b : Bool) → IsNumber (if b then z else values_of env held_by.env key)
     number_if key true = is_number
@@ -84,10 +87,10 @@ module _ (lies : LiesWithin) (must : TouchingTouches) (g : Grammar) (good : Good
 
     numbers : (key : Key) → IsNumber (values key)
     unfolding values
-    numbers key = number_if key (bytes_eq key (whole point_side))
+    numbers key = number_if key (same_key key (whole point_side))
 
     place_is : values (whole point_side) ≡ z
-    unfolding values
+    unfolding values same_key
     place_is = refl
 
     pub sides : Sides g marks at rule alt s outer end item z

@@ -1,9 +1,8 @@
 -- A solution of a formula over numbers, as values by key.
 use Rattle.std.proofs.Common.{◌≡◌, suc, ◌+◌, Bool, true, false, not, cond, ◌||◌, List, [], ◌∷◌, map, refl, sym, ap, ◌∙◌, arith}
 use Rattle.std.proofs.Common.{ℤ, pos, negsuc, Some, if◌then◌else◌}
-use Rattle.std.specs.Prelude.{slice_get, flat_map, ◌≤ℤ◌, bytes_eq}
+use Rattle.std.specs.Prelude.{slice_get, flat_map, ◌≤ℤ◌}
 use Rattle.std.specs.List.{list_any}
-use Rattle.std.proofs.lemmas.Slice.Eq.{bytes_eq-Decides}
 use Rattle.std.proofs.lemmas.Int.{ints}
 use Rattle.ipg_lin.specs.Form.{Assignment}
 use Rattle.ipg_lin.specs.Formula.{holds_at, holds_step, every}
@@ -15,13 +14,15 @@ use Rattle.ipg_core.specs.MustTouch.{Marks}
 use Rattle.ipg_graph.specs.declared.edge.Edge.{Edge}
 use Rattle.ipg_facts.specs.declared.edition.Edition.TheVariants.{Earlier, Later}
 use Rattle.ipg_facts.specs.declared.fact.Fact.{Fact}
-use Rattle.ipg_facts.specs.Key.{Key, whole, caller_side, holder_side}
+use Rattle.ipg_facts.specs.declared.key.Key.{Key}
+use Rattle.ipg_facts.specs.Key.{whole, caller_side, holder_side, same_key}
+use Rattle.ipg_facts.specs.Equality.{same_keys_are_equal}
 use Rattle.ipg_facts.specs.Keep.{edge_facts}
 use Rattle.ipg_facts.specs.Numbers.{keys_in, keys_of, place, bounds_of, all_of, keep, keep_before}
 use Rattle.ipg_facts_laws.specs.Valued.{Valuation, is_so}
 use Rattle.ipg_facts_laws.specs.Laws.{IsInRange, Solves, AllSolved}
 use Rattle.ipg_facts_laws.specs.Before.{Keyed, SolutionsHold, KeepsSolveBefore, JointsSolveBefore}
-use Rattle.ipg_facts_laws.proofs.Numbering.{same_key, keys_have, all_agree, facts_solve}
+use Rattle.ipg_facts_laws.proofs.Numbering.{keys_equal, keys_have, all_agree, facts_solve}
 use Rattle.ipg_facts_laws.proofs.Sooner.{edges_give}
 use Rattle.ipg_facts_laws.proofs.Widths.{first_stays, facts_are_part, conditions_are_parts}
 use Rattle.ipg_facts_laws.proofs.Joints.{parts_solve_joint}
@@ -32,31 +33,31 @@ IsWithin z b = (b.0 ≤ℤ z) × (z ≤ℤ b.1)
 
 -- a key that is in no table has the value 0
 abbrev by_key : List Key → Assignment → Valuation
-by_key keys values key = if list_any (bytes_eq key) keys then values (place keys key) else pos 0
+by_key keys values key = if list_any (same_key key) keys then values (place keys key) else pos 0
 
 -- the bounds of a key's number are the key's
-bounds_by : (k key : Key) (keys : List Key) (b : Bool) → bytes_eq key k ≡ b → b || list_any (bytes_eq key) keys ≡ true
-    → (list_any (bytes_eq key) keys ≡ true → slice_get (map bounds_of keys) (place keys key) ≡ Some (bounds_of key))
+bounds_by : (k key : Key) (keys : List Key) (b : Bool) → same_key key k ≡ b → b || list_any (same_key key) keys ≡ true
+    → (list_any (same_key key) keys ≡ true → slice_get (map bounds_of keys) (place keys key) ≡ Some (bounds_of key))
     → slice_get (map bounds_of (k ∷ keys)) (cond (not b) (1 + place keys key) 0) ≡ Some (bounds_of key)
-bounds_by k key keys true e h f = ap (λ x. Some (bounds_of x)) (sym (same_key key k e))
+bounds_by k key keys true e h f = ap (λ x. Some (bounds_of x)) (sym (keys_equal key k e))
 bounds_by k key keys false e h f =
     ap (slice_get (map bounds_of (k ∷ keys))) (let n : 1 + place keys key ≡ suc (place keys key) = omega arith in n) ∙ f h
 
-bounds_at : (keys : List Key) (key : Key) → list_any (bytes_eq key) keys ≡ true → slice_get (map bounds_of keys) (place keys key) ≡ Some (bounds_of key)
+bounds_at : (keys : List Key) (key : Key) → list_any (same_key key) keys ≡ true → slice_get (map bounds_of keys) (place keys key) ≡ Some (bounds_of key)
 bounds_at [] key e = absurd (cc)
-bounds_at (k ∷ keys) key e = bounds_by k key keys (bytes_eq key k) refl e (bounds_at keys key)
+bounds_at (k ∷ keys) key e = bounds_by k key keys (same_key key k) refl e (bounds_at keys key)
 
 -- the first key has the number 0
 first_by : (k : Key) (keys : List Key) (b : Bool) → b ≡ true → cond (not b) (1 + place keys k) 0 ≡ 0
 first_by k keys true e = refl
 first_by k keys false e = absurd (cc)
 
-first_here : (keys : List Key) (k : Key) → slice_get keys 0 ≡ Some k → (list_any (bytes_eq k) keys ≡ true) × (place keys k ≡ 0)
+first_here : (keys : List Key) (k : Key) → slice_get keys 0 ≡ Some k → (list_any (same_key k) keys ≡ true) × (place keys k ≡ 0)
 first_here [] k e = absurd (cc)
 first_here (x ∷ keys) k e =
     let is : x ≡ k = cc in
-    let same : bytes_eq k x ≡ true = (bytes_eq-Decides k x).1 (sym is) in
-    (ap (λ b. b || list_any (bytes_eq k) keys) same, first_by k keys (bytes_eq k x) same)
+    let same : same_key k x ≡ true = (same_keys_are_equal k x).1 (sym is) in
+    (ap (λ b. b || list_any (same_key k) keys) same, first_by k keys (same_key k x) same)
 
 -- all bounds are numbers of 64 bits
 in_bounds : (b : Bool) (z : ℤ) → IsWithin z (if b then (pos 0, pos 1073741824) else (negsuc 9223372036854775807, pos 9223372036854775807))
@@ -71,10 +72,10 @@ module _ (facts : List Fact) (values : Assignment) (solves : Solves values (all_
   abbrev v : Valuation
   v = by_key keys values
 
-  agree : (key : Key) → list_any (bytes_eq key) keys ≡ true → values (place keys key) ≡ v key
+  agree : (key : Key) → list_any (same_key key) keys ≡ true → values (place keys key) ≡ v key
   agree key e = sym (ap (λ b. if b then values (place keys key) else pos 0) e)
 
-  chosen : (b : Bool) (key : Key) → list_any (bytes_eq key) keys ≡ b → IsWithin (pos 0) (bounds_of key)
+  chosen : (b : Bool) (key : Key) → list_any (same_key key) keys ≡ b → IsWithin (pos 0) (bounds_of key)
       → IsWithin (if b then values (place keys key) else pos 0) (bounds_of key)
   chosen true key e h = solves.0 (place keys key) (bounds_of key).0 (bounds_of key).1 (bounds_at keys key e)
   chosen false key e h = h
@@ -84,13 +85,14 @@ module _ (facts : List Fact) (values : Assignment) (solves : Solves values (all_
   none_within false = (omega (arith, ints), omega (arith, ints))
 
   within : (key : Key) → IsWithin (v key) (bounds_of key)
-  within key = chosen (list_any (bytes_eq key) keys) key refl (none_within (bytes_eq key (whole caller_side) || bytes_eq key (whole holder_side)))
+  within key = chosen (list_any (same_key key) keys) key refl (none_within (same_key key (whole caller_side) || same_key key (whole holder_side)))
 
   ranged : IsInRange v
+  unfolding same_key
   ranged = record {
     caller = within (whole caller_side);
     holder = within (whole holder_side);
-    number = λ key. in_bounds (bytes_eq key (whole caller_side) || bytes_eq key (whole holder_side)) (v key) (within key);
+    number = λ key. in_bounds (same_key key (whole caller_side) || same_key key (whole holder_side)) (v key) (within key);
   }
 
   so : every (map (is_so v) facts) ≡ true

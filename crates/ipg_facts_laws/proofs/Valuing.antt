@@ -1,7 +1,7 @@
 -- Values for the variables of conditions: those of what they stand for, in the caller's environment and in its holder's.
 use Rattle.std.proofs.Common.{◌≡◌, ℕ, zero, suc, ◌+◌, ◌<◌, ◌≤◌, ◌^◌, refl, sym, ap, ◌∙◌, subst, arith, List, [], ◌∷◌, length, Option, Some, None}
 use Rattle.std.proofs.Common.{Bool, true, false, not, cond, true≢false, if◌then◌else◌, ℤ, pos, negsuc}
-use Rattle.std.specs.Prelude.{slice_get, nat_eq, nat_lt, bytes_eq, ◌≤ℤ◌}
+use Rattle.std.specs.Prelude.{slice_get, nat_lt, bytes_eq, ◌≤ℤ◌}
 use Rattle.std.specs.List.{IsDistinct, AllByRecursion, position_or_len}
 use Rattle.std.proofs.lemmas.Int.{ints}
 use Rattle.std.proofs.lemmas.Bool.{ltb-true, lt-ltb}
@@ -21,13 +21,17 @@ use Rattle.ipg_core.specs.Touch.{ends_of}
 use Rattle.ipg_core.specs.Environment.{Environment, Done, value_at, done_at, items_so_far, is_read_by, seen, field_of, field_of_item, number_attr}
 use Rattle.ipg_core.specs.Eval as core
 use Rattle.ipg_core.specs.Eval.{eval, greatest_end}
-use Rattle.ipg_facts.specs.Key.{Key, attribute, field, named, value, holder_side, spelled}
+use Rattle.ipg_facts.specs.declared.key.Side.{Side}
+use Rattle.ipg_facts.specs.declared.key.Side.TheVariants.{Caller, Holder, Point}
+use Rattle.ipg_facts.specs.declared.key.Known.{Known}
+use Rattle.ipg_facts.specs.declared.key.Known.TheVariants as keys
+use Rattle.ipg_facts.specs.declared.key.Known.TheVariants.{Whole, Attribute, Loop, Named, Value}
+use Rattle.ipg_facts.specs.declared.key.Key.{Key}
+use Rattle.ipg_facts.specs.Key.{attribute, field, named, value, holder_side}
 use Rattle.ipg_facts.specs.Reading.{Scope, item_at, item_of, touching}
 use Rattle.ipg_facts_laws.specs.Valued.{Valuation}
 use Rattle.ipg_facts_laws.specs.Known.{Fits, IsItemField, IsBehind}
 use Rattle.ipg_facts_laws.proofs.Answers.{is_limited}
-use Rattle.ipg_facts_laws.proofs.Rebuild.{rebuilt, rebuilt_is}
-use Rattle.ipg_facts_laws.proofs.Words.{words_are_spelled}
 use Rattle.ipg_facts_laws.proofs.Results.{KidNamed}
 use Rattle.ipg_facts_laws.proofs.Items.{ItemsOf, IsPlaced, placed, items_fields, start_is, end_is}
 
@@ -113,36 +117,26 @@ abbrev named_in : List (List ℕ) → List ℕ → Option Done → ℤ
 named_in names name None = pos 0
 named_in names name (Some d) = or_zero (attr_named names name d.kid)
 
-abbrev value_in : Environment → Option CoreExpr → ℤ
-value_in env None = pos 0
-value_in env (Some e) = value_by (eval e env)
+-- what is known so
+abbrev pub of_known : Environment → Known → ℤ
+of_known env Whole = pos env.eoi
+of_known env (Attribute a) = or_zero (value_at env.own a)
+of_known env Loop = or_zero env.item
+of_known env (keys.Start term) = start_in (done_at env.done term)
+of_known env (keys.End term) = end_in (done_at env.done term)
+of_known env (Named term name) = named_in env.names name (done_at env.done term)
+of_known env (Value e) = value_by (eval e env)
 
-abbrev head : List ℕ → ℕ
-head [] = 0
-head (x ∷ xs) = x
+abbrev of_side : Environment → Environment → Side → Environment
+of_side caller holder Caller = caller
+of_side caller holder Holder = holder
+of_side caller holder Point = holder
 
-abbrev tail : List ℕ → List ℕ
-tail [] = []
-tail (x ∷ xs) = xs
-
--- by the kind of the key, and its words behind that
-abbrev pub of_kind : Environment → ℕ → List ℕ → ℤ
-of_kind env kind words =
-    if nat_eq kind 0 then pos env.eoi
-    else if nat_eq kind 1 then or_zero (value_at env.own (head words))
-    else if nat_eq kind 2 then or_zero env.item
-    else if nat_eq kind 3 then start_in (done_at env.done (head words))
-    else if nat_eq kind 4 then end_in (done_at env.done (head words))
-    else if nat_eq kind 5 then named_in env.names (tail words) (done_at env.done (head words))
-    else value_in env (rebuilt words)
-
-abbrev of_side : Environment → Environment → ℕ → Environment
-of_side caller holder side = if nat_eq side 0 then caller else holder
+abbrev pub key_of : Side → Known → Key
+key_of side known = record { side = side; of = known }
 
 abbrev of_key : Environment → Environment → Key → ℤ
-of_key caller holder [] = pos 0
-of_key caller holder (side ∷ []) = pos 0
-of_key caller holder (side ∷ kind ∷ words) = of_kind (of_side caller holder side) kind words
+of_key caller holder key = of_known (of_side caller holder key.side) key.of
 
 unfoldable pub values_of : Environment → Environment → Valuation
 values_of caller holder key = clamped (of_key caller holder key)
@@ -171,12 +165,12 @@ seen_is names one f None z e = absurd (cc)
 seen_is names one f (Some d) z e = (d, refl, if_read (is_read_by d one) (field_of names f d.kid) z e)
 
 module _ (v : Valuation) (scope : Scope) (env : Environment) (names : ℕ)
-    (agree : (kind : ℕ) (words : List ℕ) → v (scope.side ∷ kind ∷ words) ≡ clamped (of_kind env kind words))
+    (agree : (known : Known) → v (key_of scope.side known) ≡ clamped (of_known env known))
     (distinct : IsDistinct bytes_eq env.names) (same : env.names ≡ scope.names) (few : length env.names ≡ names)
     (named_kids : (t : ℕ) (d : Done) → done_at env.done t ≡ Some d → KidNamed names d.kid) where
   -- by the value that a key stands for
-  stands_for : (kind : ℕ) (words : List ℕ) (z : ℤ) → of_kind env kind words ≡ z → limited z ≡ Val z → v (scope.side ∷ kind ∷ words) ≡ z
-  stands_for kind words z e n = agree kind words ∙ ap clamped e ∙ clamped_is z n
+  stands_for : (known : Known) (z : ℤ) → of_known env known ≡ z → limited z ≡ Val z → v (key_of scope.side known) ≡ z
+  stands_for known z e n = agree known ∙ ap clamped e ∙ clamped_is z n
 
   kid_attr : (a : ℕ) (k : Kid) (z : ℤ) → KidNamed names k → field_of env.names (Attr a) k ≡ Some z → attr_named env.names (name_at env.names a) k ≡ Some z
   kid_attr a (Sub from to tree) z h e =
@@ -190,20 +184,18 @@ module _ (v : Valuation) (scope : Scope) (env : Environment) (names : ℕ)
   result_is : (term : ℕ) (f : CoreField) (z : ℤ) (d : Done) → done_at env.done term ≡ Some d → field_of env.names f d.kid ≡ Some z → limited z ≡ Val z
       → v (field env.names scope.side term f) ≡ z
   result_is term (Attr a) z d there e n =
-      stands_for 5 (term ∷ name_at env.names a) z
+      stands_for (Named term (name_at env.names a)) z
       (ap (named_in env.names (name_at env.names a)) there ∙ ap or_zero (kid_attr a d.kid z (named_kids term d there) e)) n
-  result_is term Start z d there e n = stands_for 3 (term ∷ []) z (ap start_in there ∙ start_is env.names d.kid z e) n
-  result_is term End z d there e n = stands_for 4 (term ∷ []) z (ap end_in there ∙ end_is env.names d.kid z e) n
+  result_is term Start z d there e n = stands_for (keys.Start term) z (ap start_in there ∙ start_is env.names d.kid z e) n
+  result_is term End z d there e n = stands_for (keys.End term) z (ap end_in there ∙ end_is env.names d.kid z e) n
 
   number_is : (term : ℕ) (d : Done) (from to : ℕ) (prim : Primitive) (high low : ℕ) (name : List ℕ) (z : ℤ) → done_at env.done term ≡ Some d
       → d.kid ≡ Number from to prim high low → number_attr prim name high low ≡ Some z → limited z ≡ Val z → v (named scope.side term name) ≡ z
   number_is term d from to prim high low name z there is e n =
-      stands_for 5 (term ∷ name) z (ap (named_in env.names name) there ∙ ap (λ k. or_zero (attr_named env.names name k)) is ∙ ap or_zero e) n
+      stands_for (Named term name) z (ap (named_in env.names name) there ∙ ap (λ k. or_zero (attr_named env.names name k)) is ∙ ap or_zero e) n
 
-  opaque_is : (e : CoreExpr) (z : ℤ) → eval e env ≡ Val z → v (value scope.side (spelled e)) ≡ z
-  opaque_is e z h =
-      let found : rebuilt (spelled e) ≡ Some e = ap rebuilt (sym (words_are_spelled scope e)) ∙ rebuilt_is scope e in
-      stands_for 6 (spelled e) z (ap (value_in env) found ∙ ap value_by h) (is_limited e env z h)
+  opaque_is : (e : CoreExpr) (z : ℤ) → eval e env ≡ Val z → v (value scope.side e) ≡ z
+  opaque_is e z h = stands_for (Value e) z (ap value_by h) (is_limited e env z h)
 
   module _ (size : env.eoi ≤ 2 ^ 30)
       (outer : (a : ℕ) (z : ℤ) → value_at env.outer a ≡ Some z → limited z ≡ Val z → v (attribute holder_side a) ≡ z)
@@ -228,10 +220,10 @@ module _ (v : Valuation) (scope : Scope) (env : Environment) (names : ℕ)
 
     pub fits : Fits v scope env
     fits = record {
-      length = stands_for 0 [] (pos env.eoi) refl (small env.eoi size);
-      own = λ a z e n. stands_for 1 (a ∷ []) z (ap or_zero e) n;
+      length = stands_for Whole (pos env.eoi) refl (small env.eoi size);
+      own = λ a z e n. stands_for (Attribute a) z (ap or_zero e) n;
       outer = outer;
-      turn = λ z e n. stands_for 2 [] z (ap or_zero e) n;
+      turn = λ z e n. stands_for Loop z (ap or_zero e) n;
       results = result_fits;
       numbers = number_is;
       opaques = opaque_is;

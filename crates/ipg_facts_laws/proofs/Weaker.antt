@@ -1,14 +1,15 @@
 -- Forms that are alike but for the facts of their variables, and the facts that they make: those of the second follow from those of the first.
 use Rattle.std.proofs.Common.{◌≡◌, suc, Bool, true, false, not, ◌&&◌, ◌||◌, List, [], ◌∷◌, ◌++◌, map, length, refl, sym, ap, subst, ◌∙◌, ◌⊎◌, inl, inr}
 use Rattle.std.proofs.Common.{Option, Some, None, ℤ, pos, negsuc, ◌+ℤ◌, ◌*ℤ◌, if◌then◌else◌}
-use Rattle.std.specs.Prelude.{◌^◌, nat_le, bytes_eq, flat_map}
+use Rattle.std.specs.Prelude.{◌^◌, nat_le, flat_map}
 use Rattle.std.specs.List.{filter, list_all}
 use Rattle.std.specs.Int.RustNames.{unsigned_abs}
 use Rattle.ipg_facts.specs.declared.fact.Part.{Part}
 use Rattle.ipg_facts.specs.declared.fact.Form.{Form}
 use Rattle.ipg_facts.specs.declared.fact.Fact.{Fact}
 use Rattle.ipg_facts.specs.declared.fact.Fact.TheVariants as facts
-use Rattle.ipg_facts.specs.Key.{Key}
+use Rattle.ipg_facts.specs.declared.key.Key.{Key}
+use Rattle.ipg_facts.specs.Key.{same_key}
 use Rattle.ipg_facts.specs.Form.{variable, add_part, add_parts, plus, minus, scaled, scaled_part, shifted, is_zero, counts, is_light, is_constant}
 use Rattle.ipg_facts.specs.Form.{mentioned, in_limits, facts_of, bare, at_most_zero, leq, less, both_at_most_zero, equal, choice, differ}
 use Rattle.ipg_facts_laws.specs.Valued.{Valuation, is_so}
@@ -118,10 +119,10 @@ module _ (v : Valuation) where
   added [] (y ∷ ys) p q h r = absurd h
   added (x ∷ xs) [] p q h r = absurd h
   added (x ∷ xs) (y ∷ ys) p q h r =
-      subst (λ c. PartsGive v (if bytes_eq x.key p.key then record x { factor = x.factor +ℤ p.factor } ∷ xs else x ∷ add_part xs p)
+      subst (λ c. PartsGive v (if same_key x.key p.key then record x { factor = x.factor +ℤ p.factor } ∷ xs else x ∷ add_part xs p)
       (if c then record y { factor = y.factor +ℤ q.factor } ∷ ys else y ∷ add_part ys q))
-      (ap (λ k. bytes_eq k p.key) h.0.key ∙ ap (bytes_eq y.key) r.key)
-      (added_here (bytes_eq x.key p.key) x y p q xs ys (add_part xs p) (add_part ys q) h.0 r h.1 (added xs ys p q h.1 r))
+      (ap (λ k. same_key k p.key) h.0.key ∙ ap (same_key y.key) r.key)
+      (added_here (same_key x.key p.key) x y p q xs ys (add_part xs p) (add_part ys q) h.0 r h.1 (added xs ys p q h.1 r))
 
   all_added : (ps ps' qs qs' : List Part) → PartsGive v ps ps' → PartsGive v qs qs' → PartsGive v (add_parts ps qs) (add_parts ps' qs')
   unfolding add_parts

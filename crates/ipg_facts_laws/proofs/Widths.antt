@@ -1,10 +1,9 @@
 -- Conditions have bounds for each of their variables.
 use Rattle.std.proofs.Common.{◌≡◌, ℕ, suc, ◌+◌, ◌<◌, ◌≤◌, Bool, true, false, not, cond, ◌||◌, List, [], ◌∷◌, ◌++◌, map, length, refl, sym, ap, subst}
 use Rattle.std.proofs.Common.{◌∙◌, arith, ℤ, pos, Some, if◌then◌else◌, nat_lt}
-use Rattle.std.specs.Prelude.{slice_get, flat_map, bytes_eq}
+use Rattle.std.specs.Prelude.{slice_get, flat_map}
 use Rattle.std.specs.List.{list_any}
 use Rattle.std.proofs.lemmas.List.{length-map}
-use Rattle.std.proofs.lemmas.Slice.Eq.{bytes_eq-Decides}
 use Rattle.ipg_lin.specs.Form.{terms_width}
 use Rattle.ipg_lin.specs.Formula.{width, width_step, greatest}
 use Rattle.ipg_lin.specs.declared.formula.Formula.{Formula}
@@ -14,21 +13,23 @@ use Rattle.ipg_lin.specs.declared.formula.Formula.TheFolds.{fold-roll-Formula}
 use Rattle.ipg_facts.specs.declared.fact.Draft.{Draft}
 use Rattle.ipg_facts.specs.declared.fact.Fact.{Fact, roll-Fact, map-Fact, fold-roll-Fact, ind-Fact}
 use Rattle.ipg_facts.specs.declared.fact.Fact.TheOpen.{Fact-F}
-use Rattle.ipg_facts.specs.Key.{Key, whole, caller_side}
+use Rattle.ipg_facts.specs.declared.key.Key.{Key}
+use Rattle.ipg_facts.specs.Key.{whole, caller_side, same_key}
+use Rattle.ipg_facts.specs.Equality.{same_keys_are_equal}
 use Rattle.ipg_facts.specs.declared.edition.Edition.TheVariants.{Later}
 use Rattle.ipg_facts.specs.Keep.{edge_facts}
 use Rattle.ipg_facts.specs.Numbers.{keys_in, keys_step, with_keys, keys_of, place, insert, numbered, formula_of, formula_step, bounds_of, all_of, keep}
 use Rattle.ipg_facts_laws.specs.Laws.{IsPart, ConditionsAreParts}
 use Rattle.ipg_facts_laws.proofs.Numbering.{Has, or_left, or_right, any_left, any_right, keys_have, keys_of_terms, keys_joined}
 
-place_by : (k key : Key) (keys : List Key) (b : Bool) → bytes_eq key k ≡ b → b || list_any (bytes_eq key) keys ≡ true
-    → (list_any (bytes_eq key) keys ≡ true → place keys key < length keys) → cond (not b) (1 + place keys key) 0 < suc (length keys)
+place_by : (k key : Key) (keys : List Key) (b : Bool) → same_key key k ≡ b → b || list_any (same_key key) keys ≡ true
+    → (list_any (same_key key) keys ≡ true → place keys key < length keys) → cond (not b) (1 + place keys key) 0 < suc (length keys)
 place_by k key keys true e h f = omega arith
 place_by k key keys false e h f = let lt = f h in omega arith
 
-place_below : (keys : List Key) (key : Key) → list_any (bytes_eq key) keys ≡ true → place keys key < length keys
+place_below : (keys : List Key) (key : Key) → list_any (same_key key) keys ≡ true → place keys key < length keys
 place_below [] key e = absurd (cc)
-place_below (k ∷ keys) key e = place_by k key keys (bytes_eq key k) refl e (place_below keys key)
+place_below (k ∷ keys) key e = place_by k key keys (same_key key k) refl e (place_below keys key)
 
 inserted_width : (n : ℕ) (b : Bool) (t next : ℕ × ℤ) (terms more : List (ℕ × ℤ)) → t.0 < n → next.0 < n → terms_width terms ≤ n → terms_width more ≤ n
     → terms_width (if b then next ∷ more else t ∷ (next ∷ terms)) ≤ n
@@ -48,7 +49,7 @@ module _ (keys : List Key) where
   numbered_width [] h = omega arith
   numbered_width (t ∷ terms) h =
       insert_width (length keys) (place keys t.0, t.1) (numbered keys terms)
-      (place_below keys t.0 (h t.0 (or_left _ _ ((bytes_eq-Decides t.0 t.0).1 refl)))) (numbered_width terms (λ key e. h key (or_right _ _ e)))
+      (place_below keys t.0 (h t.0 (or_left _ _ ((same_keys_are_equal t.0 t.0).1 refl)))) (numbered_width terms (λ key e. h key (or_right _ _ e)))
 
   -- the formula of a fact mentions variables of the table
   abbrev Fits : Fact → Type 0
@@ -73,7 +74,7 @@ module _ (keys : List Key) where
       at_most _ _ (length keys)
       (ap width (fold-roll-Fact Formula (formula_step keys) (Fact-F.Atom draft))
       ∙ ap width (sym (formula.rolls-Atom _)) ∙ fold-roll-Formula ℕ width_step (Formula-F.Atom _))
-      (numbered_width draft.terms (λ key e. h key (ap (list_any (bytes_eq key)) (fold-roll-Fact (List Key) keys_step (Fact-F.Atom draft)) ∙ e)))
+      (numbered_width draft.terms (λ key e. h key (ap (list_any (same_key key)) (fold-roll-Fact (List Key) keys_step (Fact-F.Atom draft)) ∙ e)))
 
   on_all : (ms : List ((fact : Fact) × Fits fact)) → Fits (roll-Fact (Fact-F.All (facts_in ms)))
   unfolding formula_of keys_in
@@ -81,7 +82,7 @@ module _ (keys : List Key) where
       at_most _ _ (length keys)
       (ap width (fold-roll-Fact Formula (formula_step keys) (Fact-F.All (facts_in ms)))
       ∙ ap width (sym (formula.rolls-All _)) ∙ fold-roll-Formula ℕ width_step (Formula-F.All _))
-      (members_fit ms (λ key e. h key (ap (list_any (bytes_eq key)) (fold-roll-Fact (List Key) keys_step (Fact-F.All (facts_in ms)) ∙ keys_joined (facts_in ms))
+      (members_fit ms (λ key e. h key (ap (list_any (same_key key)) (fold-roll-Fact (List Key) keys_step (Fact-F.All (facts_in ms)) ∙ keys_joined (facts_in ms))
       ∙ e)))
 
   on_any : (ms : List ((fact : Fact) × Fits fact)) → Fits (roll-Fact (Fact-F.Any (facts_in ms)))
@@ -90,7 +91,7 @@ module _ (keys : List Key) where
       at_most _ _ (length keys)
       (ap width (fold-roll-Fact Formula (formula_step keys) (Fact-F.Any (facts_in ms)))
       ∙ ap width (sym (formula.rolls-Any _)) ∙ fold-roll-Formula ℕ width_step (Formula-F.Any _))
-      (members_fit ms (λ key e. h key (ap (list_any (bytes_eq key)) (fold-roll-Fact (List Key) keys_step (Fact-F.Any (facts_in ms)) ∙ keys_joined (facts_in ms))
+      (members_fit ms (λ key e. h key (ap (list_any (same_key key)) (fold-roll-Fact (List Key) keys_step (Fact-F.Any (facts_in ms)) ∙ keys_joined (facts_in ms))
       ∙ e)))
 
   on_layer : (y : Fact-F ((fact : Fact) × Fits fact)) (x : Fact-F Fact) → map-Fact ((fact : Fact) × Fits fact) Fact (λ m. m.0) y ≡ x → Fits (roll-Fact x)
@@ -115,7 +116,7 @@ first_by false keys more m k f = f (keys ++ m ∷ [])
 
 pub first_stays : (more keys : List Key) (k : Key) → slice_get (with_keys (k ∷ keys) more) 0 ≡ Some k
 first_stays [] keys k = refl
-first_stays (m ∷ more) keys k = first_by (list_any (bytes_eq m) (k ∷ keys)) keys more m k (λ keys. first_stays more keys k)
+first_stays (m ∷ more) keys k = first_by (list_any (same_key m) (k ∷ keys)) keys more m k (λ keys. first_stays more keys k)
 
 first_bounds : (keys : List Key) (k : Key) → slice_get keys 0 ≡ Some k → slice_get (map bounds_of keys) 0 ≡ Some (bounds_of k)
 first_bounds [] k e = absurd (cc)
@@ -126,7 +127,7 @@ some_first [] k e = absurd (cc)
 some_first (x ∷ keys) k e = omega arith
 
 pub facts_are_part : (facts : List Fact) → IsPart (all_of facts) × (slice_get (all_of facts).1.bounds 0 ≡ Some (pos 0, pos 1073741824))
-unfolding keys_of
+unfolding keys_of same_key
 facts_are_part facts =
     let keys : List Key = keys_of facts in
     let first : slice_get keys 0 ≡ Some (whole caller_side) = first_stays (flat_map keys_in facts) [] (whole caller_side) in

@@ -15,6 +15,8 @@ use Rattle.ipg_core.specs.Good.{AltAt, Good}
 use Rattle.ipg_core.specs.Grown.{IsInput}
 use Rattle.ipg_core.specs.Laws.{LiesWithin, TouchingTouches}
 use Rattle.ipg_facts.specs.declared.fact.Bounds.{Bounds}
+use Rattle.ipg_facts.specs.declared.key.Side.{Side}
+use Rattle.ipg_facts.specs.declared.key.Known.{Known}
 use Rattle.ipg_facts.specs.Key.{attribute, holder_side}
 use Rattle.ipg_facts.specs.declared.edition.Edition.TheVariants as editions
 use Rattle.ipg_facts.specs.Reading.{Scope, item_of, if_there}
@@ -26,10 +28,10 @@ use Rattle.ipg_facts_laws.proofs.Items.{ItemsOf}
 use Rattle.ipg_facts_laws.proofs.Came.{Later, Stands, stands_first, stays_same}
 use Rattle.ipg_facts_laws.proofs.Steps.{Settled, passed, terms_came}
 use Rattle.ipg_facts_laws.proofs.Ordered.{settled, in_order, runs, provided}
-use Rattle.ipg_facts_laws.proofs.Valuing.{clamped, of_kind, fits}
+use Rattle.ipg_facts_laws.proofs.Valuing.{clamped, of_known, key_of, fits}
 
 -- an alternative's scope, where none of its arrays has run
-abbrev pub first_scope : Grammar → Marks → ℕ → CoreAlt → Scope
+abbrev pub first_scope : Grammar → Marks → Side → CoreAlt → Scope
 first_scope g marks side alt = record { edition = editions.Later; side = side; names = g.names; marks = marks; terms = alt.terms; arrays = replicate (length alt.terms) None }
 
 -- the alternative on s
@@ -37,7 +39,7 @@ abbrev pub at_work : Grammar → ℕ × ℕ → List ℕ → Values → Frame
 at_work g at s outer = record { grammar = g; rule = at.0; alt = at.1; bytes = s; outer = outer }
 
 -- these terms have run, from the first, in this state and in each later one
-record RanFrom (g : Grammar) (marks : Marks) (at : ℕ × ℕ) (alt : CoreAlt) (s : List ℕ) (outer : Values) (side : ℕ) (before : List ℕ) (state : State)
+record RanFrom (g : Grammar) (marks : Marks) (at : ℕ × ℕ) (alt : CoreAlt) (s : List ℕ) (outer : Values) (side : Side) (before : List ℕ) (state : State)
     : Type 0 where
   holds : Stands marks (length g.names) alt.terms (length s) (passed [] before) state
   ran : (end : State) (item : Option ℤ) → Later (passed [] before) state end
@@ -45,7 +47,7 @@ record RanFrom (g : Grammar) (marks : Marks) (at : ℕ × ℕ) (alt : CoreAlt) (
 
 -- terms that have run in the order of their alternative
 came_in_order : LiesWithin → TouchingTouches → (g : Grammar) → (good : Good g) → (marks : Marks) → (limit : AreLimit g marks)
-    → (at : ℕ × ℕ) (rule : CoreRule) (alt : CoreAlt) → AltAt g rule alt at → (h : ℕ) (s : List ℕ) → IsInput s → (outer : Values) (side : ℕ)
+    → (at : ℕ × ℕ) (rule : CoreRule) (alt : CoreAlt) → AltAt g rule alt at → (h : ℕ) (s : List ℕ) → IsInput s → (outer : Values) (side : Side)
     → (before behind : List ℕ) → alt.order ≡ before ++ behind → (state : State)
     → (terms_on (den g h) (at_work g at s outer) alt.terms before (start (length alt.terms))).answer ≡ Ok state
     → RanFrom g marks at alt s outer side before state
@@ -59,7 +61,7 @@ came_in_order lies must g good marks limit at rule alt is_at h s input outer sid
     (stands_first marks (length g.names) alt.terms (length s)) came in
     record { holds = is.holds; ran = is.ran }
 
-pub record Work (g : Grammar) (marks : Marks) (at : ℕ × ℕ) (alt : CoreAlt) (s : List ℕ) (outer : Values) (side : ℕ) (before : List ℕ) (u : ℕ)
+pub record Work (g : Grammar) (marks : Marks) (at : ℕ × ℕ) (alt : CoreAlt) (s : List ℕ) (outer : Values) (side : Side) (before : List ℕ) (u : ℕ)
     (state : State) : Type 0 where
   pub holds : Stands marks (length g.names) alt.terms (length s) (passed [] before) state
   pub ran : (end : State) (item : Option ℤ) → Later (passed [] before) state end
@@ -70,7 +72,7 @@ pub record Work (g : Grammar) (marks : Marks) (at : ℕ × ℕ) (alt : CoreAlt) 
   pub at_hand : (v : ℕ) → Provides g at alt.terms u v → is_taken (passed [] before) v ≡ true
 
 pub work : LiesWithin → TouchingTouches → (g : Grammar) → Good g → (marks : Marks) → AreLimit g marks
-    → (at : ℕ × ℕ) (rule : CoreRule) (alt : CoreAlt) → AltAt g rule alt at → (h : ℕ) (s : List ℕ) → IsInput s → (outer : Values) (side : ℕ)
+    → (at : ℕ × ℕ) (rule : CoreRule) (alt : CoreAlt) → AltAt g rule alt at → (h : ℕ) (s : List ℕ) → IsInput s → (outer : Values) (side : Side)
     → (before behind : List ℕ) (u : ℕ) → alt.order ≡ before ++ u ∷ behind → (state : State)
     → (terms_on (den g h) (at_work g at s outer) alt.terms before (start (length alt.terms))).answer ≡ Ok state
     → Work g marks at alt s outer side before u state
@@ -96,12 +98,12 @@ pub record Results (marks : Marks) (names : ℕ) (alt : CoreAlt) (eoi : ℕ) (en
   pub named : (t : ℕ) (d : Done) → done_at end.done t ≡ Some d → KidNamed names d.kid
 
 -- an alternative whose terms have all run
-pub record Finish (g : Grammar) (marks : Marks) (at : ℕ × ℕ) (alt : CoreAlt) (s : List ℕ) (outer : Values) (side : ℕ) (state : State) : Type 0 where
+pub record Finish (g : Grammar) (marks : Marks) (at : ℕ × ℕ) (alt : CoreAlt) (s : List ℕ) (outer : Values) (side : Side) (state : State) : Type 0 where
   pub results : Results marks (length g.names) alt (length s) state
   pub ran : AllRan (first_scope g marks side alt) (environment (at_work g at s outer) state None) alt.order
 
 pub finish : LiesWithin → TouchingTouches → (g : Grammar) → Good g → (marks : Marks) → AreLimit g marks
-    → (at : ℕ × ℕ) (rule : CoreRule) (alt : CoreAlt) → AltAt g rule alt at → (h : ℕ) (s : List ℕ) → IsInput s → (outer : Values) (side : ℕ) (state : State)
+    → (at : ℕ × ℕ) (rule : CoreRule) (alt : CoreAlt) → AltAt g rule alt at → (h : ℕ) (s : List ℕ) → IsInput s → (outer : Values) (side : Side) (state : State)
     → (terms_on (den g h) (at_work g at s outer) alt.terms alt.order (start (length alt.terms))).answer ≡ Ok state
     → Finish g marks at alt s outer side state
 finish lies must g good marks limit at rule alt is_at h s input outer side state came =
@@ -121,9 +123,9 @@ none_touching true o e = e
 none_touching false o e = refl
 
 pub work_fits : (g : Grammar) → Good g → (marks : Marks) (at : ℕ × ℕ) (alt : CoreAlt) (s : List ℕ) → IsInput s
-    → (outer : Values) (side : ℕ) (end : State) (item : Option ℤ)
+    → (outer : Values) (side : Side) (end : State) (item : Option ℤ)
     → Results marks (length g.names) alt (length s) end → (v : Valuation)
-    → ((kind : ℕ) (words : List ℕ) → v (side ∷ kind ∷ words) ≡ clamped (of_kind (environment (at_work g at s outer) end item) kind words))
+    → ((known : Known) → v (key_of side known) ≡ clamped (of_known (environment (at_work g at s outer) end item) known))
     → ((a : ℕ) (z : ℤ) → value_at outer a ≡ Some z → limited z ≡ Val z → v (attribute holder_side a) ≡ z)
     → Fits v (first_scope g marks side alt) (environment (at_work g at s outer) end item)
 unfolding environment

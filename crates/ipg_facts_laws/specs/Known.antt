@@ -21,7 +21,7 @@ use Rattle.ipg_facts.specs.declared.fact.Part.{Part}
 use Rattle.ipg_facts.specs.declared.fact.Form.{Form}
 use Rattle.ipg_facts.specs.declared.fact.Fact.{Fact}
 use Rattle.ipg_facts.specs.declared.fact.Bounds.{Bounds}
-use Rattle.ipg_facts.specs.Key.{whole, attribute, loop, field, named, value, holder_side, spelled}
+use Rattle.ipg_facts.specs.Key.{whole, attribute, loop, field, named, value, holder_side}
 use Rattle.ipg_facts.specs.Reading.{Scope, Reading, least_width, item_at, greatest, greatest_of, touching}
 use Rattle.ipg_facts_laws.specs.Valued.{Valuation, are_so}
 
@@ -81,7 +81,7 @@ pub record Fits (v : Valuation) (scope : Scope) (env : Environment) : Type 0 whe
   pub numbers : (term : ℕ) (d : Done) (from to : ℕ) (prim : Primitive) (high low : ℕ) (name : List ℕ) (z : ℤ) → done_at env.done term ≡ Some d
       → d.kid ≡ Number from to prim high low
       → number_attr prim name high low ≡ Some z → limited z ≡ Val z → v (named scope.side term name) ≡ z
-  pub opaques : (e : CoreExpr) (z : ℤ) → eval e env ≡ Val z → v (value scope.side (spelled e)) ≡ z
+  pub opaques : (e : CoreExpr) (z : ℤ) → eval e env ≡ Val z → v (value scope.side e) ≡ z
   pub items : (term : ℕ) (f : CoreField) (i z : ℤ) → field_of_item env.names f (core.item_at (items_so_far (done_at env.done term)) i) ≡ Some z
       → IsItemField scope env.eoi (item_at scope term) f z
   pub ends : (term : ℕ) → IsBehind v env.eoi (touching scope term) (greatest_end (items_so_far (done_at env.done term)))

@@ -5,7 +5,8 @@ use Rattle.ipg_lin.specs.Formula.{holds_at, width, LiesIn}
 use Rattle.ipg_lin.specs.declared.formula.Formula.{Formula}
 use Rattle.ipg_lin.specs.declared.formula.Boxed.{Boxed}
 use Rattle.ipg_facts.specs.declared.fact.Fact.{Fact}
-use Rattle.ipg_facts.specs.Key.{Key, whole, caller_side, holder_side}
+use Rattle.ipg_facts.specs.declared.key.Key.{Key}
+use Rattle.ipg_facts.specs.Key.{whole, caller_side, holder_side}
 use Rattle.ipg_facts.specs.Numbers.{all_of}
 use Rattle.ipg_facts.specs.Joint.{joint}
 use Rattle.ipg_num.specs.declared.op.Answer.TheVariants.{Val}
@@ -85,10 +86,6 @@ EdgesCall = (g : Grammar) (e : Edge) (s : List ℕ) (outer : Values) (height : �
 abbrev pub ValuesStay : Type 0
 ValuesStay = (has_ended : ℕ → Bool) (env later : Environment) → Grows has_ended env later
     → (e : CoreExpr) (z : ℤ) → AllByRecursion (IsSettled has_ended) (mentions e) → eval e env ≡ Val z → eval e later ≡ Val z
-
--- no two expressions are spelled alike
-abbrev pub SpellingsDiffer : Type 0
-SpellingsDiffer = (scope : Scope) (e f : CoreExpr) → (read scope e).words ≡ (read scope f).words → e ≡ f
 
 -- where an edge is reached, its conditions have a solution, in which the part's length is that of the caller's part
 abbrev pub ReachedEdgesSolve : Type 0

@@ -3,7 +3,7 @@ use Rattle.std.specs.Prelude.{List, [], ◌∷◌, map, Bool, ℤ, pos, ◌+ℤ�
 use Rattle.ipg_lin.specs.Formula.{every, some}
 use Rattle.ipg_facts.specs.declared.fact.Fact.{Fact, fold-Fact}
 use Rattle.ipg_facts.specs.declared.fact.Fact.TheOpen.{Fact-F}
-use Rattle.ipg_facts.specs.Key.{Key}
+use Rattle.ipg_facts.specs.declared.key.Key.{Key}
 
 -- a value for each variable
 abbrev pub Valuation : Type 0

@@ -1,5 +1,6 @@
 //! Laws of the conditions, each the contract of a function that does nothing.
 
+ghost use Rattle.ipg_facts.specs.Key.{SameKeysAreEqual};
 ghost use Rattle.ipg_facts_laws.specs.Before.{JointsSolveBefore, KeepsSolveBefore, SolutionsHold};
 ghost use Rattle.ipg_facts_laws.specs.Bounded.{JointIsPart};
 ghost use Rattle.ipg_facts_laws.specs.Finished.{FinishedFit};
@@ -7,7 +8,7 @@ ghost use Rattle.ipg_facts_laws.specs.Gapped.{GapsAreBounded};
 ghost use Rattle.ipg_facts_laws.specs.Missed.{AllMissedSolve};
 ghost use Rattle.ipg_facts_laws.specs.Offers.{ConditionsOffer, JointsOffer};
 ghost use Rattle.ipg_facts_laws.specs.Laws.{ConditionsAreParts, EdgesAreFew, EdgesAreInside, EdgesCall, FactsSolve, JointSolvesParts, MembersAreKnown};
-ghost use Rattle.ipg_facts_laws.specs.Laws.{OwnMembersAreKnown, PartsSolveJoint, ReachedCyclesSolve, ReachedEdgesSolve, SpellingsDiffer, TermsAreKnown};
+ghost use Rattle.ipg_facts_laws.specs.Laws.{OwnMembersAreKnown, PartsSolveJoint, ReachedCyclesSolve, ReachedEdgesSolve, TermsAreKnown};
 ghost use Rattle.ipg_facts_laws.specs.Laws.{ValuesAreKnown, ValuesStay};
 
 use ipg_core::laws::{lies_within, touching_touches};
@@ -60,9 +61,9 @@ pub fn values_are_known()
     ensures { ValuesAreKnown }
 {}
 
-/// No two expressions are spelled alike, so a key of an expression's value is of that expression alone.
-pub fn spellings_differ()
-    ensures { SpellingsDiffer }
+/// Keys that are the same are equal, so a key of an expression's value is of that expression alone.
+pub fn same_keys_are_equal()
+    ensures { SameKeysAreEqual }
 {}
 
 /// What a term that has run puts holds: intervals are valid, results touch of them what results of their symbols do,
