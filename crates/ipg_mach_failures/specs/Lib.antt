@@ -1,0 +1,6 @@
+-- when a term fails by itself, why, and where
+pub mod Failing
+-- the failures that an evaluation meets, and the furthest of them
+pub mod Furthest
+-- what holds of them
+pub mod Laws
