@@ -1,6 +1,6 @@
 -- What is read of the highest call stands for its environment.
 use Rattle.std.proofs.Common.{◌≡◌, ℕ, suc, ◌+◌, ◌-◌, ◌^◌, ◌<◌, arith, refl, sym, ap, ◌∙◌, subst, List, drop, take, length, Some, None, false, ℤ, Bor}
-use Rattle.std.specs.Prelude.{slice_get, slice_set, option_map}
+use Rattle.std.specs.Prelude.{slice_get, slice_set, option_map, Option}
 use Rattle.std.proofs.lemmas.List.{drop-drop}
 use Rattle.std.proofs.lemmas.Option.{slice_get_within}
 use Rattle.ipg_core.specs.declared.grammar.CoreTerm.{CoreTerm}
@@ -22,6 +22,9 @@ use Rattle.ipg_table.specs.declared.row.Action.{Action}
 use Rattle.ipg_table.specs.declared.row.Action.TheVariants as action
 use Rattle.ipg_table.specs.Rows.{Rows, HoldsTerm, StandFor}
 use Rattle.ipg_mach_slot.specs.declared.now.Running.{Running}
+use Rattle.ipg_mach_slot.specs.declared.now.Done.{Done}
+use Rattle.ipg_core.specs.Environment as core
+use Rattle.ipg_mach_node.specs.Items.{HasItems}
 use Rattle.ipg_mach_slot.specs.Found.{LiesAt}
 use Rattle.ipg_mach_slot.specs.Now.{Lent, HasRun, Stands, AreResults, WithRunning}
 use Rattle.ipg_mach_term.specs.declared.entry.Entry.{Entry}
@@ -168,3 +171,22 @@ view_stands v src items c is whole size small u term is_term number entered hold
       outer = lends.outer ∙ sym (between_below piles.own frame.base.own frame.outer.from frame.outer.to is.call.outer_inside);
       done = lends.done;
     }) whole v.instr.now u term is_term number lends.items lends.are_items frame.entry entered holds lends.running
+
+-- ---- what is lent of a call, in other words for the same
+
+module _ (src : Source) (st lent : Stored) (from at n size : ℕ) where
+  pub results_lent : (rows new : List (Option Done)) (done : List (Option core.Done)) → st ≡ lent → from ≡ at → n ≡ size → rows ≡ new
+      → AreResults src st from n rows done → AreResults src lent at size new done
+  results_lent rows new done is_store is_from is_size is_rows h =
+      subst (λ l. AreResults src l at size new done) is_store
+      (subst (λ a. AreResults src st a size new done) is_from
+      (subst (λ k. AreResults src st from k new done) is_size
+      (subst (λ r. AreResults src st from n r done) is_rows h)))
+
+  pub items_lent : (rows new : List Kid) (items : List tree.Kid) → st ≡ lent → from ≡ at → n ≡ size → rows ≡ new
+      → HasItems src st from n rows items → HasItems src lent at size new items
+  items_lent rows new items is_store is_from is_size is_rows h =
+      subst (λ l. HasItems src l at size new items) is_store
+      (subst (λ a. HasItems src st a size new items) is_from
+      (subst (λ k. HasItems src st from k new items) is_size
+      (subst (λ r. HasItems src st from n r items) is_rows h)))

@@ -18,3 +18,5 @@ pub mod Turning
 pub mod Outcome
 -- what a parse over what is kept comes to
 pub mod Verdict
+-- the term at hand as it is lent
+pub mod Scene

@@ -38,7 +38,7 @@ pub struct Reader<'m, A: Allocator> {
 }
 
 /// A part of the input, as far as there is any.
-fn part(input: &[u8], from: u32, to: u32) -> &[u8]
+pub(crate) fn part(input: &[u8], from: u32, to: u32) -> &[u8]
     ensures part { result.now ≡ part_of input.now from to }
     ensures small { length result.now < 2 ^ 32 }
 {
@@ -75,17 +75,17 @@ fn running<'m>(instr: Instr, entry: Entry, items: &'m [Kid]) -> Option<Running<'
 
 /// The highest call at an instruction, as expressions read it. What they don't ask for isn't lent.
 #[derive(Drop)]
-struct View<'v, 'm, A: Allocator> {
-    tables: &'v Tables,
-    top: &'v Top<'m, A>,
-    size: u32,
-    instr: &'v Instr,
+pub(crate) struct View<'v, 'm, A: Allocator> {
+    pub tables: &'v Tables,
+    pub top: &'v Top<'m, A>,
+    pub size: u32,
+    pub instr: &'v Instr,
 }
 
 impl<'v, 'm, A: Allocator + Clone + Drop> View<'v, 'm, A> {
     /// All that expressions may ask for.
     #[inline]
-    fn now(&self) -> Now<'v, A>
+    pub fn now(&self) -> Now<'v, A>
         ensures { Lends self.now (lent result) }
     {
         let top = self.top;

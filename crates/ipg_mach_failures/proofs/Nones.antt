@@ -13,15 +13,15 @@ use Rattle.ipg_core.specs.declared.grammar.CoreSlot.{CoreSlot}
 use Rattle.ipg_core.specs.declared.grammar.CoreTerm.{CoreTerm}
 use Rattle.ipg_core.specs.declared.grammar.CoreTerm.TheVariants.{Slot, Set, Test, Repeat, Many, Pick}
 use Rattle.ipg_core.specs.Part.{part, interval}
-use Rattle.ipg_core.specs.Tree.{Kid, Array, kids_of}
+use Rattle.ipg_core.specs.Tree.{Tree, Kid, Sub, Array, kids_of}
 use Rattle.ipg_core.specs.Touch.{width}
 use Rattle.ipg_core.specs.Eval.{eval, is_zero}
 use Rattle.ipg_core.specs.Environment.{Values}
 use Rattle.ipg_core.specs.Run.{Stop, NoTree, OutOfRange, Deep, Run, finish, stop, after, go_on, value_of, some_of, ◌>>=◌}
-use Rattle.ipg_core.specs.Meaning.{Frame, State, Place, environment, with_kid, with_value, value_in, ask, slot_on, pick_on, item_on, item_end, symbol_on, token_on, number_on, primitive_on, times}
-use Rattle.ipg_mach_moves.specs.Moves.{Entry, Outside, Items, Turns, Advance, Inside, Past, lifted, array_on, silent, parsed, taken, advance}
+use Rattle.ipg_core.specs.Meaning.{Call, Frame, State, Place, environment, with_kid, with_value, value_in, ask, slot_on, pick_on, item_on, item_end, symbol_on, token_on, number_on, primitive_on, times}
+use Rattle.ipg_mach_moves.specs.Moves.{Entry, Outside, Items, Turns, Advance, Inside, Past, lifted, array_on, parsed, taken, advance}
 use Rattle.ipg_mach_failures.specs.Failing.{Miss, miss, reached, agreed, token_fails, number_fails, symbol_fails, on_value, on_interval, slot_fails, pick_fails, test_fails, bounds_fail, ends_fail, item_fails, term_fails}
-use Rattle.ipg_mach_failures.specs.Laws.{MayEnter, is_no_tree, has_none, FailsWhereNone}
+use Rattle.ipg_mach_failures.specs.Laws.{MayEnter, NeverNone, is_no_tree, has_none, FailsWhereNone}
 
 -- ---- one step of a run
 
@@ -74,88 +74,101 @@ of_primitive branch from to bytes U32BE = of_number branch from to bytes U32BE _
 of_primitive branch from to bytes U64LE = of_number branch from to bytes U64LE _ refl
 of_primitive branch from to bytes U64BE = of_number branch from to bytes U64BE _ refl
 
-of_symbol : (branch : ℕ) (f : Frame) (place : Place) (own : Values) (from to : ℕ) (one : Sym)
-    → is_some (symbol_fails branch f.bytes from to one) ≡ is_no_tree (symbol_on silent f place own from to one).answer
-unfolding ◌>>=◌ after go_on finish stop ask
-of_symbol branch f place own from to (Text token) = of_token branch from to (part f.bytes from to) token _ refl
-of_symbol branch f place own from to (Prim prim) = of_primitive branch from to (part f.bytes from to) prim
-of_symbol branch f place own from to (Rule callee) = refl
+of_sub : (from to : ℕ) (answer : Result Tree Stop) → is_no_tree answer ≡ false
+    → false ≡ is_no_tree (go_on answer (λ tree. finish (Sub from to tree))).answer
+unfolding go_on finish stop
+of_sub from to (Ok tree) h = refl
+of_sub from to (Err NoTree) h = sym h
+of_sub from to (Err OutOfRange) h = refl
+of_sub from to (Err Deep) h = refl
 
--- ---- slots
+module _ (call : Call) (never : NeverNone call) where
+  of_symbol : (branch : ℕ) (f : Frame) (place : Place) (own : Values) (from to : ℕ) (one : Sym)
+      → is_some (symbol_fails branch f.bytes from to one) ≡ is_no_tree (symbol_on call f place own from to one).answer
+  unfolding ◌>>=◌ after go_on finish stop ask
+  of_symbol branch f place own from to (Text token) = of_token branch from to (part f.bytes from to) token _ refl
+  of_symbol branch f place own from to (Prim prim) = of_primitive branch from to (part f.bytes from to) prim
+  of_symbol branch f place own from to (Rule callee) = of_sub from to (call callee (part f.bytes from to) _) (never callee _ _)
 
-module _ (f : Frame) (state : State) (at : ℕ) where
-  of_slot : (branch : ℕ) (place : Place) (item : Option ℤ) (slot : CoreSlot)
-      → is_some (slot_fails f state at branch item slot) ≡ is_no_tree (slot_on silent f place state item slot).answer
-  unfolding slot_on value_in
-  of_slot branch place item slot =
-      of_value branch at (eval slot.from (environment f state item)) _ _ (λ l.
-      of_value branch at (eval slot.to (environment f state item)) _ _ (λ r.
-      of_interval branch at l r (interval (length f.bytes) l r) _ _ (λ e. of_symbol branch f place state.own e.0 e.1 slot.sym)))
+  -- ---- slots
 
-  of_choice : {A : Type 0} (b : Bool) (x y : Option Miss) (one other : Run A) → is_some x ≡ is_no_tree one.answer → is_some y ≡ is_no_tree other.answer
-      → is_some (if b then x else y) ≡ is_no_tree (if b then one else other).answer
-  of_choice true x y one other e h = e
-  of_choice false x y one other e h = h
+  module _ (f : Frame) (state : State) (at : ℕ) where
+    of_slot : (branch : ℕ) (place : Place) (item : Option ℤ) (slot : CoreSlot)
+        → is_some (slot_fails f state at branch item slot) ≡ is_no_tree (slot_on call f place state item slot).answer
+    unfolding slot_on value_in
+    of_slot branch place item slot =
+        of_value branch at (eval slot.from (environment f state item)) _ _ (λ l.
+        of_value branch at (eval slot.to (environment f state item)) _ _ (λ r.
+        of_interval branch at l r (interval (length f.bytes) l r) _ _ (λ e. of_symbol branch f place state.own e.0 e.1 slot.sym)))
 
-  of_pick : (branch : ℕ) (place : Place) (cases : List (CoreExpr × CoreSlot)) (other : CoreSlot)
-      → is_some (pick_fails f state at branch cases other) ≡ is_no_tree (pick_on silent f place state cases other).answer
-  unfolding pick_on value_in
-  of_pick branch place [] other = of_slot branch place None other
-  of_pick branch place (c ∷ cases) other =
-      of_value branch at (eval c.0 (environment f state None)) _ _ (λ x.
-      of_choice (is_zero x) _ _ _ _ (of_pick (branch + 1) (record place { branch = place.branch + 1 }) cases other) (of_slot branch place None c.1))
+    of_choice : {A : Type 0} (b : Bool) (x y : Option Miss) (one other : Run A) → is_some x ≡ is_no_tree one.answer → is_some y ≡ is_no_tree other.answer
+        → is_some (if b then x else y) ≡ is_no_tree (if b then one else other).answer
+    of_choice true x y one other e h = e
+    of_choice false x y one other e h = h
 
-  of_test : (u : ℕ) (e : CoreExpr) → is_some (test_fails f state at e) ≡ is_no_tree (advance silent f state u Outside (Some (Test e))).answer
-  unfolding value_in finish stop
-  of_test u e = of_value 0 at (eval e (environment f state None)) _ _ (λ z. of_choice (is_zero z) _ _ _ _ refl refl)
+    of_pick : (branch : ℕ) (place : Place) (cases : List (CoreExpr × CoreSlot)) (other : CoreSlot)
+        → is_some (pick_fails f state at branch cases other) ≡ is_no_tree (pick_on call f place state cases other).answer
+    unfolding pick_on value_in
+    of_pick branch place [] other = of_slot branch place None other
+    of_pick branch place (c ∷ cases) other =
+        of_value branch at (eval c.0 (environment f state None)) _ _ (λ x.
+        of_choice (is_zero x) _ _ _ _ (of_pick (branch + 1) (record place { branch = place.branch + 1 }) cases other) (of_slot branch place None c.1))
 
-  of_set : (u attr : ℕ) (e : CoreExpr)
-      → is_some (on_value 0 at (eval e (environment f state None)) (λ z. None)) ≡ is_no_tree (advance silent f state u Outside (Some (Set attr e))).answer
-  unfolding value_in finish stop
-  of_set u attr e = of_value 0 at (eval e (environment f state None)) _ _ (λ z. refl)
+    of_test : (u : ℕ) (e : CoreExpr) → is_some (test_fails f state at e) ≡ is_no_tree (advance call f state u Outside (Some (Test e))).answer
+    unfolding value_in finish stop
+    of_test u e = of_value 0 at (eval e (environment f state None)) _ _ (λ z. of_choice (is_zero z) _ _ _ _ refl refl)
 
-  of_bounds : (u : ℕ) (first last : CoreExpr) (one : Sym) (from to : CoreExpr) → is_some (bounds_fail f state at first last)
-      ≡ is_no_tree (advance silent f state u Outside (Some (Repeat first last one from to))).answer
-  unfolding value_in finish stop
-  of_bounds u first last one from to =
-      of_value 0 at (eval first (environment f state None)) _ _ (λ a. of_value 0 at (eval last (environment f state None)) _ _ (λ b. refl))
+    of_set : (u attr : ℕ) (e : CoreExpr)
+        → is_some (on_value 0 at (eval e (environment f state None)) (λ z. None)) ≡ is_no_tree (advance call f state u Outside (Some (Set attr e))).answer
+    unfolding value_in finish stop
+    of_set u attr e = of_value 0 at (eval e (environment f state None)) _ _ (λ z. refl)
 
-  of_ends : (u : ℕ) (one : Sym) (from to : CoreExpr)
-      → is_some (ends_fail f state at from to) ≡ is_no_tree (advance silent f state u Outside (Some (Many one from to))).answer
-  unfolding value_in finish stop
-  of_ends u one from to =
-      of_value 0 at (eval from (environment f state None)) _ _ (λ l.
-      of_value 0 at (eval to (environment f state None)) _ _ (λ r.
-      of_interval 0 at l r (interval (length f.bytes) l r) _ _ (λ e. refl)))
+    of_bounds : (u : ℕ) (first last : CoreExpr) (one : Sym) (from to : CoreExpr) → is_some (bounds_fail f state at first last)
+        ≡ is_no_tree (advance call f state u Outside (Some (Repeat first last one from to))).answer
+    unfolding value_in finish stop
+    of_bounds u first last one from to =
+        of_value 0 at (eval first (environment f state None)) _ _ (λ a. of_value 0 at (eval last (environment f state None)) _ _ (λ b. refl))
 
-of_item : (f : Frame) (place : Place) (own : Values) (p r : ℕ) (one : Sym) (end : Option ℕ)
-    → is_some (item_fails f.bytes p r one end) ≡ is_no_tree (some_of end >>= λ to. symbol_on silent f place own p to one).answer
-unfolding ◌>>=◌ after go_on finish stop
-of_item f place own p r one None = refl
-of_item f place own p r one (Some to) = of_symbol 0 f place own p to one
+    of_ends : (u : ℕ) (one : Sym) (from to : CoreExpr)
+        → is_some (ends_fail f state at from to) ≡ is_no_tree (advance call f state u Outside (Some (Many one from to))).answer
+    unfolding value_in finish stop
+    of_ends u one from to =
+        of_value 0 at (eval from (environment f state None)) _ _ (λ l.
+        of_value 0 at (eval to (environment f state None)) _ _ (λ r.
+        of_interval 0 at l r (interval (length f.bytes) l r) _ _ (λ e. refl)))
 
--- ---- terms
+  of_item : (f : Frame) (place : Place) (own : Values) (p r : ℕ) (one : Sym) (end : Option ℕ)
+      → is_some (item_fails f.bytes p r one end) ≡ is_no_tree (some_of end >>= λ to. symbol_on call f place own p to one).answer
+  unfolding ◌>>=◌ after go_on finish stop
+  of_item f place own p r one None = refl
+  of_item f place own p r one (Some to) = of_symbol 0 f place own p to one
+
+  -- ---- terms
+
+  fails_so : (f : Frame) (state : State) (u : ℕ) (entry : Entry) (term : CoreTerm) → MayEnter entry term
+      → is_some (term_fails f state u entry term) ≡ has_none call f state u entry term
+  unfolding item_on
+  fails_so f state u Outside (Slot slot) may = of_slot f state (reached state Outside) 0 _ None slot ∙ sym (of_lifted _ _)
+  fails_so f state u Outside (Pick cases other) may = of_pick f state (reached state Outside) 0 _ cases other ∙ sym (of_lifted _ _)
+  fails_so f state u Outside (Set attr e) may = of_set f state (reached state Outside) u attr e
+  fails_so f state u Outside (Test e) may = of_test f state (reached state Outside) u e
+  fails_so f state u Outside (Repeat first last one from to) may = of_bounds f state (reached state Outside) u first last one from to
+  fails_so f state u Outside (Many one from to) may = of_ends f state (reached state Outside) u one from to
+  fails_so f state u (Items (suc n) i items) (Repeat first last one from to) may =
+      of_slot f (with_kid state u false (Array one (kids_of items))) (reached state (Items (suc n) i items)) 0 _ (Some i)
+      (record { sym = one; from = from; to = to }) ∙ sym (of_lifted _ _)
+  fails_so f state u (Items zero i items) term may = absurd may
+  fails_so f state u (Items (suc n) i items) (Slot slot) may = absurd may
+  fails_so f state u (Items (suc n) i items) (Pick cases other) may = absurd may
+  fails_so f state u (Items (suc n) i items) (Set attr e) may = absurd may
+  fails_so f state u (Items (suc n) i items) (Test e) may = absurd may
+  fails_so f state u (Items (suc n) i items) (Many one from to) may = absurd may
+  fails_so f state u (Turns p r items) (Many one from to) may = of_item f _ state.own p r one (item_end p r one)
+  fails_so f state u (Turns p r items) (Slot slot) may = absurd may
+  fails_so f state u (Turns p r items) (Pick cases other) may = absurd may
+  fails_so f state u (Turns p r items) (Set attr e) may = absurd may
+  fails_so f state u (Turns p r items) (Test e) may = absurd may
+  fails_so f state u (Turns p r items) (Repeat first last one from to) may = absurd may
 
 pub fails_where_none : FailsWhereNone
-unfolding item_on
-fails_where_none f state u Outside (Slot slot) may = of_slot f state (reached state Outside) 0 _ None slot ∙ sym (of_lifted _ _)
-fails_where_none f state u Outside (Pick cases other) may = of_pick f state (reached state Outside) 0 _ cases other ∙ sym (of_lifted _ _)
-fails_where_none f state u Outside (Set attr e) may = of_set f state (reached state Outside) u attr e
-fails_where_none f state u Outside (Test e) may = of_test f state (reached state Outside) u e
-fails_where_none f state u Outside (Repeat first last one from to) may = of_bounds f state (reached state Outside) u first last one from to
-fails_where_none f state u Outside (Many one from to) may = of_ends f state (reached state Outside) u one from to
-fails_where_none f state u (Items (suc n) i items) (Repeat first last one from to) may =
-    of_slot f (with_kid state u false (Array one (kids_of items))) (reached state (Items (suc n) i items)) 0 _ (Some i)
-    (record { sym = one; from = from; to = to }) ∙ sym (of_lifted _ _)
-fails_where_none f state u (Items zero i items) term may = absurd may
-fails_where_none f state u (Items (suc n) i items) (Slot slot) may = absurd may
-fails_where_none f state u (Items (suc n) i items) (Pick cases other) may = absurd may
-fails_where_none f state u (Items (suc n) i items) (Set attr e) may = absurd may
-fails_where_none f state u (Items (suc n) i items) (Test e) may = absurd may
-fails_where_none f state u (Items (suc n) i items) (Many one from to) may = absurd may
-fails_where_none f state u (Turns p r items) (Many one from to) may = of_item f _ state.own p r one (item_end p r one)
-fails_where_none f state u (Turns p r items) (Slot slot) may = absurd may
-fails_where_none f state u (Turns p r items) (Pick cases other) may = absurd may
-fails_where_none f state u (Turns p r items) (Set attr e) may = absurd may
-fails_where_none f state u (Turns p r items) (Test e) may = absurd may
-fails_where_none f state u (Turns p r items) (Repeat first last one from to) may = absurd may
+fails_where_none call f state u entry term never may = fails_so call never f state u entry term may

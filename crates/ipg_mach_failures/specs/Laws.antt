@@ -1,11 +1,16 @@
 -- What holds of failures.
-use Rattle.std.specs.Prelude.{◌≡◌, ℕ, suc, Option, Some, None, Bool, true, false, Result, Ok, Err, is_some}
+use Rattle.std.specs.Prelude.{◌≡◌, ◌≢◌, ℕ, suc, ◌+◌, List, [], Option, Some, None, Bool, true, false, Result, Ok, Err, is_some}
+use Rattle.ipg_core.specs.Good.{Good}
+use Rattle.ipg_core.specs.Grammar.{Grammar}
+use Rattle.ipg_core.specs.Tree.{Tree}
+use Rattle.ipg_core.specs.Environment.{Values}
 use Rattle.ipg_core.specs.declared.grammar.CoreTerm.{CoreTerm}
 use Rattle.ipg_core.specs.declared.grammar.CoreTerm.TheVariants.{Slot, Set, Test, Repeat, Many, Pick}
 use Rattle.ipg_core.specs.Run.{Stop, NoTree, OutOfRange, Deep}
-use Rattle.ipg_core.specs.Meaning.{Frame, State}
-use Rattle.ipg_mach_moves.specs.Moves.{Entry, Outside, Items, Turns, silent, parsed, advance}
+use Rattle.ipg_core.specs.Meaning.{Call, Frame, State}
+use Rattle.ipg_mach_moves.specs.Moves.{Entry, Outside, Items, Turns, Key, Known, Evaluation, parsed, advance, known_of, moves, opening, ended}
 use Rattle.ipg_mach_failures.specs.Failing.{term_fails}
+use Rattle.ipg_mach_failures.specs.Furthest.{failures}
 
 -- a term may be entered so
 abbrev pub MayEnter : Entry → CoreTerm → Type 0
@@ -20,13 +25,26 @@ is_no_tree (Err NoTree) = true
 is_no_tree (Err OutOfRange) = false
 is_no_tree (Err Deep) = false
 
--- the term, or its next item, has no result, and no call is asked for one: an item of a repetition by what is parsed for it
-abbrev pub has_none : Frame → State → ℕ → Entry → CoreTerm → Bool
-has_none f state u (Turns p r items) term = is_no_tree (parsed silent f state u (Turns p r items) term).answer
-has_none f state u Outside term = is_no_tree (advance silent f state u Outside (Some term)).answer
-has_none f state u (Items n i items) term = is_no_tree (advance silent f state u (Items n i items) (Some term)).answer
+-- whatever is called, it isn't answered that there is no tree
+abbrev pub NeverNone : Call → Type 0
+NeverNone call = (r : ℕ) (s : List ℕ) (outer : Values) → is_no_tree (call r s outer) ≡ false
 
--- a term fails by itself exactly where it has no result
+-- the term, or its next item, has no result: an item of a repetition by what is parsed for it, since the repetition has one then
+abbrev pub has_none : Call → Frame → State → ℕ → Entry → CoreTerm → Bool
+has_none call f state u Outside term = is_no_tree (advance call f state u Outside (Some term)).answer
+has_none call f state u (Items n i items) term = is_no_tree (advance call f state u (Items n i items) (Some term)).answer
+has_none call f state u (Turns p r items) term = is_no_tree (parsed call f state u (Turns p r items) term).answer
+
+-- a term fails by itself exactly where it has no result though each call that it makes has one
 abbrev pub FailsWhereNone : Type 0
-FailsWhereNone = (f : Frame) (state : State) (u : ℕ) (entry : Entry) (term : CoreTerm)
-    → MayEnter entry term → is_some (term_fails f state u entry term) ≡ has_none f state u entry term
+FailsWhereNone = (call : Call) (f : Frame) (state : State) (u : ℕ) (entry : Entry) (term : CoreTerm)
+    → NeverNone call → MayEnter entry term → is_some (term_fails f state u entry term) ≡ has_none call f state u entry term
+
+-- without answers of calls that have no tree, an evaluation that ends with no tree has met a failure
+abbrev pub SomeWhereNone : Type 0
+SomeWhereNone = (g : Grammar) (s : List ℕ) (known : Option Known) (n : ℕ) → Good g → ((key : Key) → known_of known key ≢ Some (Err NoTree))
+    → ended (moves n (opening g s known)) ≡ Some (Err NoTree) → failures n (opening g s known) ≢ []
+
+-- it meets none once it has ended
+abbrev pub NoneBehindEnd : Type 0
+NoneBehindEnd = (e : Evaluation) (answer : Result Tree Stop) (n k : ℕ) → ended (moves n e) ≡ Some answer → failures (n + k) e ≡ failures n e
