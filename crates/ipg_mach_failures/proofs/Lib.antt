@@ -1,1 +1,5 @@
 pub mod Nones
+pub mod Sound
+pub mod Alive
+pub mod Calling
+pub mod Ending

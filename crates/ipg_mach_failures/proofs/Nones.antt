@@ -1,6 +1,6 @@
 -- A term fails by itself exactly where the meaning gives it no result.
-use Rattle.std.proofs.Common.{◌≡◌, ℕ, zero, suc, ◌+◌, refl, sym, ap, ◌∙◌, subst, arith, List, [], ◌∷◌, Option, Some, None, Result, Ok, Err, Bool, true, false, length, ℤ}
-use Rattle.std.specs.Prelude.{is_some, nat_lt, bytes_eq, take, if◌then◌else◌, ◌-ℤ◌}
+use Rattle.std.proofs.Common.{◌≡◌, ℕ, zero, suc, ◌+◌, refl, sym, ◌∙◌, arith, List, [], ◌∷◌, Option, Some, None, Result, Ok, Err, Bool, true, false, length, ℤ}
+use Rattle.std.specs.Prelude.{is_some, nat_lt, bytes_eq, take, if◌then◌else◌}
 use Rattle.std.proofs.lemmas.Bool.{le-ltb}
 use Rattle.ipg_num.specs.declared.op.Answer.{Answer}
 use Rattle.ipg_num.specs.declared.op.Answer.TheVariants.{Val, Fail, Range}
@@ -13,31 +13,32 @@ use Rattle.ipg_core.specs.declared.grammar.CoreSlot.{CoreSlot}
 use Rattle.ipg_core.specs.declared.grammar.CoreTerm.{CoreTerm}
 use Rattle.ipg_core.specs.declared.grammar.CoreTerm.TheVariants.{Slot, Set, Test, Repeat, Many, Pick}
 use Rattle.ipg_core.specs.Part.{part, interval}
-use Rattle.ipg_core.specs.Tree.{Tree, Kid, Sub, Array, kids_of}
+use Rattle.ipg_core.specs.Tree.{Tree, Sub, Array, kids_of}
 use Rattle.ipg_core.specs.Touch.{width}
 use Rattle.ipg_core.specs.Eval.{eval, is_zero}
 use Rattle.ipg_core.specs.Environment.{Values}
 use Rattle.ipg_core.specs.Run.{Stop, NoTree, OutOfRange, Deep, Run, finish, stop, after, go_on, value_of, some_of, ◌>>=◌}
-use Rattle.ipg_core.specs.Meaning.{Call, Frame, State, Place, environment, with_kid, with_value, value_in, ask, slot_on, pick_on, item_on, item_end, symbol_on, token_on, number_on, primitive_on, times}
-use Rattle.ipg_mach_moves.specs.Moves.{Entry, Outside, Items, Turns, Advance, Inside, Past, lifted, array_on, parsed, taken, advance}
-use Rattle.ipg_mach_failures.specs.Failing.{Miss, miss, reached, agreed, token_fails, number_fails, symbol_fails, on_value, on_interval, slot_fails, pick_fails, test_fails, bounds_fail, ends_fail, item_fails, term_fails}
+use Rattle.ipg_core.specs.Meaning.{Call, Frame, State, Place, environment, with_kid, value_in, ask, slot_on, pick_on, item_on, item_end, symbol_on, token_on, number_on, primitive_on}
+use Rattle.ipg_mach_moves.specs.Moves.{Entry, Outside, Items, Turns, lifted, advance}
+use Rattle.ipg_mach_failures.specs.declared.failure.Miss.{Miss}
+use Rattle.ipg_mach_failures.specs.Failing.{token_fails, number_fails, symbol_fails, on_value, on_interval, slot_fails, pick_fails, test_fails, bounds_fail, ends_fail, item_fails, term_fails}
 use Rattle.ipg_mach_failures.specs.Laws.{MayEnter, NeverNone, is_no_tree, has_none, FailsWhereNone}
 
 -- ---- one step of a run
 
-of_value : {A : Type 0} (branch at : ℕ) (a : Answer) (go : ℤ → Run A) (rest : ℤ → Option Miss)
-    → ((z : ℤ) → is_some (rest z) ≡ is_no_tree (go z).answer) → is_some (on_value branch at a rest) ≡ is_no_tree (value_of a >>= go).answer
+of_value : {A : Type 0} (branch : ℕ) (a : Answer) (go : ℤ → Run A) (rest : ℤ → Option Miss)
+    → ((z : ℤ) → is_some (rest z) ≡ is_no_tree (go z).answer) → is_some (on_value branch a rest) ≡ is_no_tree (value_of a >>= go).answer
 unfolding ◌>>=◌ after go_on finish stop
-of_value branch at (Val z) go rest each = each z
-of_value branch at Fail go rest each = refl
-of_value branch at Range go rest each = refl
+of_value branch (Val z) go rest each = each z
+of_value branch Fail go rest each = refl
+of_value branch Range go rest each = refl
 
-of_interval : {A : Type 0} (branch at : ℕ) (l r : ℤ) (ends : Option (ℕ × ℕ)) (go : ℕ × ℕ → Run A) (rest : ℕ → ℕ → Option Miss)
+of_interval : {A : Type 0} (branch : ℕ) (l r : ℤ) (ends : Option (ℕ × ℕ)) (go : ℕ × ℕ → Run A) (rest : ℕ → ℕ → Option Miss)
     → ((e : ℕ × ℕ) → is_some (rest e.0 e.1) ≡ is_no_tree (go e).answer)
-    → is_some (on_interval branch at l r ends rest) ≡ is_no_tree (some_of ends >>= go).answer
+    → is_some (on_interval branch l r ends rest) ≡ is_no_tree (some_of ends >>= go).answer
 unfolding ◌>>=◌ after go_on finish stop
-of_interval branch at l r None go rest each = refl
-of_interval branch at l r (Some ends) go rest each = each ends
+of_interval branch l r None go rest each = refl
+of_interval branch l r (Some ends) go rest each = each ends
 
 of_lifted : {A B : Type 0} (k : A → B) (r : Result A Stop) → is_no_tree (lifted k r) ≡ is_no_tree r
 of_lifted k (Ok a) = refl
@@ -92,14 +93,14 @@ module _ (call : Call) (never : NeverNone call) where
 
   -- ---- slots
 
-  module _ (f : Frame) (state : State) (at : ℕ) where
+  module _ (f : Frame) (state : State) where
     of_slot : (branch : ℕ) (place : Place) (item : Option ℤ) (slot : CoreSlot)
-        → is_some (slot_fails f state at branch item slot) ≡ is_no_tree (slot_on call f place state item slot).answer
+        → is_some (slot_fails f state branch item slot) ≡ is_no_tree (slot_on call f place state item slot).answer
     unfolding slot_on value_in
     of_slot branch place item slot =
-        of_value branch at (eval slot.from (environment f state item)) _ _ (λ l.
-        of_value branch at (eval slot.to (environment f state item)) _ _ (λ r.
-        of_interval branch at l r (interval (length f.bytes) l r) _ _ (λ e. of_symbol branch f place state.own e.0 e.1 slot.sym)))
+        of_value branch (eval slot.from (environment f state item)) _ _ (λ l.
+        of_value branch (eval slot.to (environment f state item)) _ _ (λ r.
+        of_interval branch l r (interval (length f.bytes) l r) _ _ (λ e. of_symbol branch f place state.own e.0 e.1 slot.sym)))
 
     of_choice : {A : Type 0} (b : Bool) (x y : Option Miss) (one other : Run A) → is_some x ≡ is_no_tree one.answer → is_some y ≡ is_no_tree other.answer
         → is_some (if b then x else y) ≡ is_no_tree (if b then one else other).answer
@@ -107,35 +108,35 @@ module _ (call : Call) (never : NeverNone call) where
     of_choice false x y one other e h = h
 
     of_pick : (branch : ℕ) (place : Place) (cases : List (CoreExpr × CoreSlot)) (other : CoreSlot)
-        → is_some (pick_fails f state at branch cases other) ≡ is_no_tree (pick_on call f place state cases other).answer
+        → is_some (pick_fails f state branch cases other) ≡ is_no_tree (pick_on call f place state cases other).answer
     unfolding pick_on value_in
     of_pick branch place [] other = of_slot branch place None other
     of_pick branch place (c ∷ cases) other =
-        of_value branch at (eval c.0 (environment f state None)) _ _ (λ x.
+        of_value branch (eval c.0 (environment f state None)) _ _ (λ x.
         of_choice (is_zero x) _ _ _ _ (of_pick (branch + 1) (record place { branch = place.branch + 1 }) cases other) (of_slot branch place None c.1))
 
-    of_test : (u : ℕ) (e : CoreExpr) → is_some (test_fails f state at e) ≡ is_no_tree (advance call f state u Outside (Some (Test e))).answer
+    of_test : (u : ℕ) (e : CoreExpr) → is_some (test_fails f state e) ≡ is_no_tree (advance call f state u Outside (Some (Test e))).answer
     unfolding value_in finish stop
-    of_test u e = of_value 0 at (eval e (environment f state None)) _ _ (λ z. of_choice (is_zero z) _ _ _ _ refl refl)
+    of_test u e = of_value 0 (eval e (environment f state None)) _ _ (λ z. of_choice (is_zero z) _ _ _ _ refl refl)
 
     of_set : (u attr : ℕ) (e : CoreExpr)
-        → is_some (on_value 0 at (eval e (environment f state None)) (λ z. None)) ≡ is_no_tree (advance call f state u Outside (Some (Set attr e))).answer
+        → is_some (on_value 0 (eval e (environment f state None)) (λ z. None)) ≡ is_no_tree (advance call f state u Outside (Some (Set attr e))).answer
     unfolding value_in finish stop
-    of_set u attr e = of_value 0 at (eval e (environment f state None)) _ _ (λ z. refl)
+    of_set u attr e = of_value 0 (eval e (environment f state None)) _ _ (λ z. refl)
 
-    of_bounds : (u : ℕ) (first last : CoreExpr) (one : Sym) (from to : CoreExpr) → is_some (bounds_fail f state at first last)
+    of_bounds : (u : ℕ) (first last : CoreExpr) (one : Sym) (from to : CoreExpr) → is_some (bounds_fail f state first last)
         ≡ is_no_tree (advance call f state u Outside (Some (Repeat first last one from to))).answer
     unfolding value_in finish stop
     of_bounds u first last one from to =
-        of_value 0 at (eval first (environment f state None)) _ _ (λ a. of_value 0 at (eval last (environment f state None)) _ _ (λ b. refl))
+        of_value 0 (eval first (environment f state None)) _ _ (λ a. of_value 0 (eval last (environment f state None)) _ _ (λ b. refl))
 
     of_ends : (u : ℕ) (one : Sym) (from to : CoreExpr)
-        → is_some (ends_fail f state at from to) ≡ is_no_tree (advance call f state u Outside (Some (Many one from to))).answer
+        → is_some (ends_fail f state from to) ≡ is_no_tree (advance call f state u Outside (Some (Many one from to))).answer
     unfolding value_in finish stop
     of_ends u one from to =
-        of_value 0 at (eval from (environment f state None)) _ _ (λ l.
-        of_value 0 at (eval to (environment f state None)) _ _ (λ r.
-        of_interval 0 at l r (interval (length f.bytes) l r) _ _ (λ e. refl)))
+        of_value 0 (eval from (environment f state None)) _ _ (λ l.
+        of_value 0 (eval to (environment f state None)) _ _ (λ r.
+        of_interval 0 l r (interval (length f.bytes) l r) _ _ (λ e. refl)))
 
   of_item : (f : Frame) (place : Place) (own : Values) (p r : ℕ) (one : Sym) (end : Option ℕ)
       → is_some (item_fails f.bytes p r one end) ≡ is_no_tree (some_of end >>= λ to. symbol_on call f place own p to one).answer
@@ -148,14 +149,14 @@ module _ (call : Call) (never : NeverNone call) where
   fails_so : (f : Frame) (state : State) (u : ℕ) (entry : Entry) (term : CoreTerm) → MayEnter entry term
       → is_some (term_fails f state u entry term) ≡ has_none call f state u entry term
   unfolding item_on
-  fails_so f state u Outside (Slot slot) may = of_slot f state (reached state Outside) 0 _ None slot ∙ sym (of_lifted _ _)
-  fails_so f state u Outside (Pick cases other) may = of_pick f state (reached state Outside) 0 _ cases other ∙ sym (of_lifted _ _)
-  fails_so f state u Outside (Set attr e) may = of_set f state (reached state Outside) u attr e
-  fails_so f state u Outside (Test e) may = of_test f state (reached state Outside) u e
-  fails_so f state u Outside (Repeat first last one from to) may = of_bounds f state (reached state Outside) u first last one from to
-  fails_so f state u Outside (Many one from to) may = of_ends f state (reached state Outside) u one from to
+  fails_so f state u Outside (Slot slot) may = of_slot f state 0 _ None slot ∙ sym (of_lifted _ _)
+  fails_so f state u Outside (Pick cases other) may = of_pick f state 0 _ cases other ∙ sym (of_lifted _ _)
+  fails_so f state u Outside (Set attr e) may = of_set f state u attr e
+  fails_so f state u Outside (Test e) may = of_test f state u e
+  fails_so f state u Outside (Repeat first last one from to) may = of_bounds f state u first last one from to
+  fails_so f state u Outside (Many one from to) may = of_ends f state u one from to
   fails_so f state u (Items (suc n) i items) (Repeat first last one from to) may =
-      of_slot f (with_kid state u false (Array one (kids_of items))) (reached state (Items (suc n) i items)) 0 _ (Some i)
+      of_slot f (with_kid state u false (Array one (kids_of items))) 0 _ (Some i)
       (record { sym = one; from = from; to = to }) ∙ sym (of_lifted _ _)
   fails_so f state u (Items zero i items) term may = absurd may
   fails_so f state u (Items (suc n) i items) (Slot slot) may = absurd may

@@ -1,10 +1,9 @@
 -- When the term at hand of an open call fails by itself, why, and where.
-use Rattle.std.specs.Prelude.{ℕ, zero, suc, ◌+◌, ◌-◌, max, List, [], ◌∷◌, length, take, Option, Some, None, Bool, false, if◌then◌else◌, ℤ}
+use Rattle.std.specs.Prelude.{ℕ, suc, ◌+◌, ◌-◌, max, List, [], ◌∷◌, length, take, Option, Some, None, false, if◌then◌else◌, ℤ}
 use Rattle.std.specs.Prelude.{nat_eq, nat_lt, bytes_eq, slice_get}
 use Rattle.ipg_num.specs.declared.op.Answer.{Answer}
 use Rattle.ipg_num.specs.declared.op.Answer.TheVariants.{Val, Fail, Range}
 use Rattle.ipg_core.specs.declared.grammar.Primitive.{Primitive}
-use Rattle.ipg_core.specs.declared.grammar.Primitive.TheVariants.{Bytes}
 use Rattle.ipg_core.specs.declared.grammar.Sym.{Sym}
 use Rattle.ipg_core.specs.declared.grammar.Sym.TheVariants.{Text, Prim, Rule}
 use Rattle.ipg_core.specs.declared.grammar.CoreExpr.{CoreExpr}
@@ -12,7 +11,7 @@ use Rattle.ipg_core.specs.declared.grammar.CoreSlot.{CoreSlot}
 use Rattle.ipg_core.specs.declared.grammar.CoreTerm.{CoreTerm}
 use Rattle.ipg_core.specs.declared.grammar.CoreTerm.TheVariants.{Slot, Set, Test, Repeat, Many, Pick}
 use Rattle.ipg_core.specs.Part.{part, interval}
-use Rattle.ipg_core.specs.Tree.{Kid, Kids, kid, Array, kids_of, items_of}
+use Rattle.ipg_core.specs.Tree.{Kid, kid, Array, kids_of, items_of}
 use Rattle.ipg_core.specs.Touch.{width}
 use Rattle.ipg_core.specs.Environment.{Done}
 use Rattle.ipg_core.specs.Eval.{eval, is_zero, greatest_end}
@@ -20,15 +19,10 @@ use Rattle.ipg_core.specs.Meaning.{Frame, State, environment, with_kid, item_end
 use Rattle.ipg_mach_moves.specs.Moves.{Entry, Outside, Items, Turns, OpenCall}
 use Rattle.ipg_mach_failures.specs.declared.failure.Cause.{Cause}
 use Rattle.ipg_mach_failures.specs.declared.failure.Cause.TheVariants.{Differs, CutShort, NoInterval, IsZero, NoValue}
+use Rattle.ipg_mach_failures.specs.declared.failure.Miss.{Miss}
 use Rattle.ipg_mach_failures.specs.declared.failure.Failure.{Failure}
 
--- why a term fails, at which branch of a switch, and at which place of its call's part
-pub record Miss : Type 0 where
-  pub branch : ℕ
-  pub cause : Cause
-  pub place : ℕ
-
-abbrev pub miss : ℕ → Cause → ℕ → Miss
+abbrev pub miss : ℕ → Cause → Option ℕ → Miss
 miss branch cause place = record { branch = branch; cause = cause; place = place }
 
 -- ---- how far a call has come
@@ -37,11 +31,14 @@ abbrev pub or_zero : Option ℕ → ℕ
 or_zero None = 0
 or_zero (Some n) = n
 
--- the greatest end of results that touch, their items among them; 0 where none does
+-- the greatest end of a result that touches, its items among them; 0 where none does
+abbrev pub end_in : Option Done → ℕ
+end_in None = 0
+end_in (Some d) = or_zero (greatest_end (kid d.kid (items_of d.kid)))
+
 abbrev pub reach_of : List (Option Done) → ℕ
 reach_of [] = 0
-reach_of (None ∷ done) = reach_of done
-reach_of (Some d ∷ done) = max (or_zero (greatest_end (kid d.kid (items_of d.kid)))) (reach_of done)
+reach_of (d ∷ done) = max (end_in d) (reach_of done)
 
 -- the items of the term at hand so far
 abbrev pub items_so_far : Entry → List Kid
@@ -65,12 +62,12 @@ agreed (want ∷ wanted) (byte ∷ bytes) = if nat_eq want byte then suc (agreed
 abbrev pub token_fails : ℕ → ℕ → List ℕ → List ℕ → Option Miss
 token_fails branch from bytes token =
     if bytes_eq token (take (length token) bytes) then None
-    else Some (miss branch (Differs (agreed token bytes)) (from + agreed token bytes))
+    else Some (miss branch (Differs (agreed token bytes)) (Some (from + agreed token bytes)))
 
 -- a number, at the end of the bytes, which agree with whatever number is wanted
 abbrev pub number_fails : ℕ → ℕ → List ℕ → Primitive → Option Miss
 number_fails branch from bytes prim =
-    if nat_lt (length bytes) (width prim) then Some (miss branch (CutShort (length bytes)) (from + length bytes)) else None
+    if nat_lt (length bytes) (width prim) then Some (miss branch (CutShort (length bytes)) (Some (from + length bytes))) else None
 
 -- a symbol on a valid interval of the part; a call of a rule doesn't fail by itself
 abbrev pub symbol_fails : ℕ → List ℕ → ℕ → ℕ → Sym → Option Miss
@@ -80,62 +77,65 @@ symbol_fails branch bytes from to (Rule callee) = None
 
 -- ---- expressions and intervals
 
--- an expression without a value fails at what was reached; where it has one, the rest of the term decides
-abbrev pub on_value : ℕ → ℕ → Answer → (ℤ → Option Miss) → Option Miss
-on_value branch at (Val z) rest = rest z
-on_value branch at Fail rest = Some (miss branch NoValue at)
-on_value branch at Range rest = None
+-- an expression without a value has no place of its own; where it has one, the rest of the term decides
+abbrev pub on_value : ℕ → Answer → (ℤ → Option Miss) → Option Miss
+on_value branch (Val z) rest = rest z
+on_value branch Fail rest = Some (miss branch NoValue None)
+on_value branch Range rest = None
 
--- two values that are no ends of an interval fail at what was reached
-abbrev pub on_interval : ℕ → ℕ → ℤ → ℤ → Option (ℕ × ℕ) → (ℕ → ℕ → Option Miss) → Option Miss
-on_interval branch at l r None rest = Some (miss branch (NoInterval l r) at)
-on_interval branch at l r (Some ends) rest = rest ends.0 ends.1
+-- two values that are no ends of an interval have no place of their own
+abbrev pub on_interval : ℕ → ℤ → ℤ → Option (ℕ × ℕ) → (ℕ → ℕ → Option Miss) → Option Miss
+on_interval branch l r None rest = Some (miss branch (NoInterval l r) None)
+on_interval branch l r (Some ends) rest = rest ends.0 ends.1
 
--- ---- terms, where an alternative has reached `at`
+abbrev pub zero_fails : ℤ → Option Miss
+zero_fails z = if is_zero z then Some (miss 0 IsZero None) else None
 
-module _ (f : Frame) (state : State) (at : ℕ) where
+-- ---- terms
+
+module _ (f : Frame) (state : State) where
   abbrev pub slot_fails : ℕ → Option ℤ → CoreSlot → Option Miss
   slot_fails branch item slot =
-      on_value branch at (eval slot.from (environment f state item)) (λ l.
-      on_value branch at (eval slot.to (environment f state item)) (λ r.
-      on_interval branch at l r (interval (length f.bytes) l r) (λ from to. symbol_fails branch f.bytes from to slot.sym)))
+      on_value branch (eval slot.from (environment f state item)) (λ l.
+      on_value branch (eval slot.to (environment f state item)) (λ r.
+      on_interval branch l r (interval (length f.bytes) l r) (λ from to. symbol_fails branch f.bytes from to slot.sym)))
 
   -- the first branch whose condition isn't 0, else the last one
   abbrev pub pick_fails : ℕ → List (CoreExpr × CoreSlot) → CoreSlot → Option Miss
   pick_fails branch [] other = slot_fails branch None other
   pick_fails branch (c ∷ cases) other =
-      on_value branch at (eval c.0 (environment f state None)) (λ x.
+      on_value branch (eval c.0 (environment f state None)) (λ x.
       if is_zero x then pick_fails (branch + 1) cases other else slot_fails branch None c.1)
 
   abbrev pub test_fails : CoreExpr → Option Miss
-  test_fails e = on_value 0 at (eval e (environment f state None)) (λ z. if is_zero z then Some (miss 0 IsZero at) else None)
+  test_fails e = on_value 0 (eval e (environment f state None)) zero_fails
 
   -- an array as it is entered
   abbrev pub bounds_fail : CoreExpr → CoreExpr → Option Miss
-  bounds_fail first last = on_value 0 at (eval first (environment f state None)) (λ a. on_value 0 at (eval last (environment f state None)) (λ b. None))
+  bounds_fail first last = on_value 0 (eval first (environment f state None)) (λ a. on_value 0 (eval last (environment f state None)) (λ b. None))
 
   -- a repetition as it is entered
   abbrev pub ends_fail : CoreExpr → CoreExpr → Option Miss
   ends_fail from to =
-      on_value 0 at (eval from (environment f state None)) (λ l.
-      on_value 0 at (eval to (environment f state None)) (λ r.
-      on_interval 0 at l r (interval (length f.bytes) l r) (λ from to. None)))
+      on_value 0 (eval from (environment f state None)) (λ l.
+      on_value 0 (eval to (environment f state None)) (λ r.
+      on_interval 0 l r (interval (length f.bytes) l r) (λ from to. None)))
 
 -- the next item of a repetition from p to r
 abbrev pub item_fails : List ℕ → ℕ → ℕ → Sym → Option ℕ → Option Miss
-item_fails bytes p r sym None = Some (miss 0 (CutShort (r - p)) r)
+item_fails bytes p r sym None = Some (miss 0 (CutShort (r - p)) (Some r))
 item_fails bytes p r sym (Some to) = symbol_fails 0 bytes p to sym
 
 -- a term, or its next item
 abbrev pub term_fails : Frame → State → ℕ → Entry → CoreTerm → Option Miss
-term_fails f state u Outside (Slot slot) = slot_fails f state (reached state Outside) 0 None slot
-term_fails f state u Outside (Pick cases other) = pick_fails f state (reached state Outside) 0 cases other
-term_fails f state u Outside (Set attr e) = on_value 0 (reached state Outside) (eval e (environment f state None)) (λ z. None)
-term_fails f state u Outside (Test e) = test_fails f state (reached state Outside) e
-term_fails f state u Outside (Repeat first last sym from to) = bounds_fail f state (reached state Outside) first last
-term_fails f state u Outside (Many sym from to) = ends_fail f state (reached state Outside) from to
+term_fails f state u Outside (Slot slot) = slot_fails f state 0 None slot
+term_fails f state u Outside (Pick cases other) = pick_fails f state 0 cases other
+term_fails f state u Outside (Set attr e) = on_value 0 (eval e (environment f state None)) (λ z. None)
+term_fails f state u Outside (Test e) = test_fails f state e
+term_fails f state u Outside (Repeat first last sym from to) = bounds_fail f state first last
+term_fails f state u Outside (Many sym from to) = ends_fail f state from to
 term_fails f state u (Items (suc n) i items) (Repeat first last sym from to) =
-    slot_fails f (with_kid state u false (Array sym (kids_of items))) (reached state (Items (suc n) i items)) 0 (Some i) (record { sym = sym; from = from; to = to })
+    slot_fails f (with_kid state u false (Array sym (kids_of items))) 0 (Some i) (record { sym = sym; from = from; to = to })
 term_fails f state u (Turns p r items) (Many sym from to) = item_fails f.bytes p r sym (item_end p r sym)
 term_fails f state u entry term = None
 
@@ -151,6 +151,11 @@ item_at_hand Outside = None
 item_at_hand (Items n i items) = Some (length items)
 item_at_hand (Turns p r items) = Some (length items)
 
+-- in its part; what has no place of its own is told where the alternative has come to
+abbrev pub place_of : OpenCall → Option ℕ → ℕ
+place_of c None = reached c.state c.entry
+place_of c (Some place) = place
+
 -- the miss of its term u, as a failure at a place of the input
 abbrev pub failure_at : OpenCall → ℕ → Option Miss → Option Failure
 failure_at c u None = None
@@ -163,7 +168,7 @@ failure_at c u (Some m) = Some (record {
   branch = m.branch;
   item = item_at_hand c.entry;
   cause = m.cause;
-  place = c.from + m.place;
+  place = c.from + place_of c m.place;
 })
 
 abbrev pub first_fails : OpenCall → List ℕ → Option Failure

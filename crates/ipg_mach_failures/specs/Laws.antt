@@ -1,11 +1,11 @@
 -- What holds of failures.
-use Rattle.std.specs.Prelude.{◌≡◌, ◌≢◌, ℕ, suc, ◌+◌, List, [], Option, Some, None, Bool, true, false, Result, Ok, Err, is_some}
+use Rattle.std.specs.Prelude.{◌≡◌, ◌≢◌, ℕ, suc, ◌+◌, List, [], Option, Some, Bool, true, false, Result, Ok, Err, is_some}
 use Rattle.ipg_core.specs.Good.{Good}
 use Rattle.ipg_core.specs.Grammar.{Grammar}
 use Rattle.ipg_core.specs.Tree.{Tree}
 use Rattle.ipg_core.specs.Environment.{Values}
 use Rattle.ipg_core.specs.declared.grammar.CoreTerm.{CoreTerm}
-use Rattle.ipg_core.specs.declared.grammar.CoreTerm.TheVariants.{Slot, Set, Test, Repeat, Many, Pick}
+use Rattle.ipg_core.specs.declared.grammar.CoreTerm.TheVariants.{Repeat, Many}
 use Rattle.ipg_core.specs.Run.{Stop, NoTree, OutOfRange, Deep}
 use Rattle.ipg_core.specs.Meaning.{Call, Frame, State}
 use Rattle.ipg_mach_moves.specs.Moves.{Entry, Outside, Items, Turns, Key, Known, Evaluation, parsed, advance, known_of, moves, opening, ended}

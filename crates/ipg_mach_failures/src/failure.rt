@@ -15,6 +15,15 @@ pub enum Cause {
     NoValue,
 }
 
+/// Why a term fails, at which branch of a switch (else 0), and at which place of its call's part; None where the cause has no
+/// place of its own.
+#[derive(Clone, Copy, Debug, PartialEq, Eq)]
+pub struct Miss {
+    pub branch: u64,
+    pub cause: Cause,
+    pub place: Option<u64>,
+}
+
 /// A term that failed by itself: the open call, by its rule and alternative and by its interval of the input; the term by
 /// its number in the text, the branch of a switch (else 0), and the item of an array or a repetition; why, and where in the
 /// input.
@@ -25,7 +34,7 @@ pub struct Failure {
     pub from: u32,
     pub to: u32,
     pub term: u32,
-    pub branch: u32,
+    pub branch: u64,
     pub item: Option<u64>,
     pub cause: Cause,
     pub place: u64,

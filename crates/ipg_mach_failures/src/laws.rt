@@ -1,8 +1,18 @@
-//! Laws of failures, each the contract of a function that calls at most the laws it stands on.
+//! Laws of failures, each the contract of a function that does nothing.
 
-ghost use Rattle.ipg_mach_failures.specs.Laws.{FailsWhereNone};
+ghost use Rattle.ipg_mach_failures.specs.Laws.{FailsWhereNone, NoneBehindEnd, SomeWhereNone};
 
-/// A term fails by itself exactly where the meaning gives it no result and it makes no call.
+/// A term fails by itself exactly where the meaning gives it no result though each call that it makes has one.
 pub fn fails_where_none()
     ensures { FailsWhereNone }
+{}
+
+/// Where no call is known beforehand to have no tree, an evaluation that ends with no tree has met a failure.
+pub fn some_where_none()
+    ensures { SomeWhereNone }
+{}
+
+/// An evaluation that has ended meets no failure.
+pub fn none_behind_end()
+    ensures { NoneBehindEnd }
 {}

@@ -4,4 +4,4 @@
 mod failure;
 pub mod laws;
 
-pub use failure::{Cause, Failure};
+pub use failure::{Cause, Failure, Miss};
