@@ -8,3 +8,6 @@ pub mod Coming
 pub mod Piling
 pub mod Picking
 pub mod Placed
+pub mod Walking
+pub mod Falling
+pub mod Shallow

@@ -121,6 +121,19 @@ pub record Comes (src : Source) (st : Stored) (g : Grammar) (lefts : List Rest) 
   pub stand : Each (IsLeft src st) lefts courses
   pub is : flat_map (comes_to g) courses ≡ xs
 
+-- the results begin with what the spot is, and what is left comes to the others
+pub record Reaches (src : Source) (st : Stored) (g : Grammar) (spot : Spot) (lefts : List Rest) (xs : List Found) : Type 0 where
+  pub next : Found
+  pub more : List Found
+  pub are : xs ≡ next ∷ more
+  pub is_spot : IsSpot src st spot next
+  pub comes : Comes src st g lefts more
+
+-- where there is no spot there are no results
+abbrev pub ReachesIf : Source → Stored → Grammar → Option Spot → List Rest → List Found → Type 0
+ReachesIf src st g None lefts xs = xs ≡ []
+ReachesIf src st g (Some spot) lefts xs = Reaches src st g spot lefts xs
+
 -- what is shown of a spot is all that is picked of a result
 abbrev pub IsShown : Option Hit → List Pick → Type 0
 IsShown None picks = picks ≡ []

@@ -1,5 +1,5 @@
 //! Selects what a path picks.
-ghost use Rattle.std.specs.Prelude.{◌≡◌, ◌<◌, ℕ, List, ◌∷◌, ◌++◌, length, reverse, IfOk, OnOk};
+ghost use Rattle.std.specs.Prelude.{◌≡◌, ◌<◌, ℕ, List, [], ◌∷◌, ◌++◌, length, reverse, IfOk, OnOk};
 ghost use Rattle.ipg_core.specs.Grammar.{Grammar};
 ghost use Rattle.ipg_core.specs.Tree as tree;
 ghost use Rattle.ipg_core.specs.Tree.{Tree};
@@ -9,13 +9,13 @@ ghost use Rattle.ipg_tree_walk.specs.Visits.{whole, from_of, to_of};
 ghost use Rattle.ipg_query.specs.Hits.{IsHit, Shares, IsTree};
 ghost use Rattle.ipg_query.specs.Picked as picked;
 ghost use Rattle.ipg_query.specs.Picked.{Found, Pick, found, shown};
-ghost use Rattle.ipg_query.specs.Spots.{IsSpot, IsShown, Comes, seen, seen_one};
+ghost use Rattle.ipg_query.specs.Spots.{IsSpot, AreSpots, IsShown, Comes, ReachesIf, seen, seen_one};
 
 use crate::deeper::{pile_deeper, without_idle};
 use crate::fields::field_named;
 use crate::hit::Hit;
 use crate::left::{Left, pile_up, push_left};
-use crate::spot::{MOST, Spot};
+use crate::spot::{MOST, Spot, push};
 use crate::steps::push_taken;
 use ipg_mach_nodes::Kid;
 use ipg_query_path::{Name, Query};
@@ -126,6 +126,54 @@ fn take<'q, A: Allocator + Clone + Drop>(
     }
 }
 
+/// The next result that is come to, taken off the pile; None where nothing is left. In `spots` any may stand, before and after.
+fn next_member<'q, A: Allocator + Clone + Drop>(
+    alloc: Global,
+    p: &Parsed<'_, A>,
+    pile: &mut Vec<Left<'q>>,
+    spots: &mut Vec<Spot>,
+) -> Result<Option<Spot>, AllocError>
+    ensures { (src : Source) (g : Grammar) (xs : List Found) → StandFor p.now.parse.tables g
+        → Comes src p.now.parse.store g (reverse (seen pile.old.items)) xs
+        → IfOk result (λ next. ReachesIf src p.now.parse.store g next (reverse (seen pile.new.items)) xs) }
+{
+    'piled: for _ in 0..u64::MAX {
+        match pile.pop() {
+            Some(top) => {
+                let next = without_idle(p, top);
+                if next.steps.is_empty() {
+                    return Ok(Some(next.spot));
+                }
+                take(alloc, p, pile, spots, next)?
+            }
+            None => return Ok(None),
+        }
+    }
+    Err(AllocError)
+}
+
+/// What the steps of a path come to in a parsed tree, in order; doubles stay.
+pub fn members<A: Allocator + Clone + Drop>(
+    alloc: Global,
+    query: &Query,
+    p: &Parsed<'_, A>,
+) -> Result<Vec<Spot>, AllocError>
+    ensures { (src : Source) (g : Grammar) (one : Tree) → IsTree p.now.parse src g one
+        → IfOk result (λ spots. AreSpots src p.now.parse.store spots.items (picked.members g query.now.steps (found 0 (whole one) ∷ []))) }
+{
+    let mut found = Vec::new(alloc);
+    let mut pile = Vec::new(alloc);
+    let mut spots = Vec::new(alloc);
+    push_left(&mut pile, query.steps.as_slice(), root_of(p))?;
+    'piled: for _ in 0..u64::MAX {
+        match next_member(alloc, p, &mut pile, &mut spots)? {
+            Some(spot) => push(&mut found, spot)?,
+            None => return Ok(found),
+        }
+    }
+    Err(AllocError)
+}
+
 /// What a path picks of a parsed tree, in order; doubles stay.
 pub fn select<'a, A: Allocator + Clone + Drop>(
     alloc: Global,
@@ -140,15 +188,8 @@ pub fn select<'a, A: Allocator + Clone + Drop>(
     let mut spots = Vec::new(alloc);
     push_left(&mut pile, query.steps.as_slice(), root_of(p))?;
     'piled: for _ in 0..u64::MAX {
-        match pile.pop() {
-            Some(top) => {
-                let next = without_idle(p, top);
-                if next.steps.is_empty() {
-                    push_hit(p, &mut hits, &query.field, next.spot)?
-                } else {
-                    take(alloc, p, &mut pile, &mut spots, next)?
-                }
-            }
+        match next_member(alloc, p, &mut pile, &mut spots)? {
+            Some(spot) => push_hit(p, &mut hits, &query.field, spot)?,
             None => return Ok(hits),
         }
     }

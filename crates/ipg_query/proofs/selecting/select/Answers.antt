@@ -1,54 +1,35 @@
-use Rattle.std.proofs.Common.{◌≡◌, ◌++◌, [], ◌∷◌, length, arith, ap, ◌∙◌, reverse, sym}
-use Rattle.std.proofs.lemmas.Bool.{eqb-true, eqb-false}
-use Rattle.std.proofs.lemmas.List.{nil_from_length}
+use Rattle.std.proofs.Common.{◌++◌, [], ◌∷◌, ap, ◌∙◌, reverse, subst}
 use Rattle.ipg_tree_walk.specs.Visits.{whole}
-use Rattle.ipg_query.specs.Picked.{found, picked}
-use Rattle.ipg_query.specs.Spots.{left_at, seen, seen_one}
-use Rattle.ipg_query.proofs.Picking.{all_shown, next_is, shown_on, started, taken_on}
+use Rattle.ipg_query.specs.Hits.{IsHit}
+use Rattle.ipg_query.specs.Picked.{found, members, shown}
+use Rattle.ipg_query.specs.Spots.{ReachesIf, left_at, seen}
+use Rattle.ipg_query.proofs.Picking.{all_made, begun, one_more, started}
 use Rattle.ipg_query.proofs.selecting.select.Goals as goal
-use Rattle.ipg_query.proofs.selecting.select.Goals.{then-is_empty+in_ok-push_hit-in-Some, else-is_empty+in_ok-take-in-Some}
 
 pub piled-init : goal.piled-init
 piled-init g c src grammar one is =
     let p = c.args.p.now.parse in
     let query = c.args.query.now in
-    started src p.store grammar p.input query.field query.steps c.root_of.result (found 0 (whole one)) (seen c.push_left.new.pile.items)
-    c.new-hits.result.items (c.root_of.ensures src grammar one is)
-    (c.in_ok-push_left.ensures ∙ ap (λ xs. seen xs ++ left_at c.as_slice.result.now c.root_of.result ∷ []) c.new-pile.ensures.items
-    ∙ ap (λ ss. left_at ss c.root_of.result ∷ []) c.as_slice.ensures)
+    let root = found 0 (whole one) in
+    begun IsHit (shown grammar p.input query.field) src p.store grammar _ c.new-hits.result.items (members grammar query.steps (root ∷ []))
     c.new-hits.ensures.items
+    (started src p.store grammar query.steps c.root_of.result root (seen c.push_left.new.pile.items) (c.root_of.ensures src grammar one is)
+    (c.in_ok-push_left.ensures ∙ ap (λ xs. seen xs ++ left_at c.as_slice.result.now c.root_of.result ∷ []) c.new-pile.ensures.items
+    ∙ ap (λ ss. left_at ss c.root_of.result ∷ []) c.as_slice.ensures))
 
 pub piled-preserved : goal.piled-preserved
 piled-preserved g c src grammar one is =
     let p = c.args.p.now.parse in
     let query = c.args.query.now in
-    let picks = picked grammar p.input query one in
-    let top = c.in-Some.top in
-    let next = c.without_idle-next.result in
-    let rest = c.pop.new.self.items in
-    let more = reverse (seen rest) in
-    let way = taken_on src p.store grammar p.input query.field (seen_one top ∷ more) (seen_one next ∷ more) c.piled.hits.items picks
-    (next_is src p.store grammar p.input query.field c.piled.pile.items rest top c.piled.hits.items picks c.in-Some.ensures.items
-    (c.piled.invariant src grammar one is))
-    (λ xs comes. c.without_idle-next.ensures src grammar more xs comes) in
-    elim c.if-is_empty.branch [
-      | then-is_empty+in_ok-push_hit-in-Some w ↦
-          rw w.pile-is (rw w.hits-is
-          (shown_on src p.store grammar p.input query.field next.steps.now next.spot more c.piled.hits.items w.push_hit.new.hits.items picks
-          (nil_from_length next.steps.now (eqb-true (length next.steps.now) 0 (sym c.is_empty.ensures ∙ w.if-is_empty.true))) way
-          (λ x before there made. w.in_ok-push_hit-in-Some.ensures src grammar x before is.shares there made)))
-      | else-is_empty+in_ok-take-in-Some w ↦
-          rw w.pile-is (rw w.hits-is
-          (taken_on src p.store grammar p.input query.field (seen_one next ∷ more) (reverse (seen w.take.new.pile.items))
-          c.piled.hits.items picks way
-          (λ xs comes. w.in_ok-take-in-Some.ensures src grammar xs is.shares.tables
-          (omega (arith, eqb-false (length next.steps.now) 0 (sym c.is_empty.ensures ∙ w.if-is_empty.false))) comes)))
-    ]
+    one_more IsHit (shown grammar p.input query.field) src p.store grammar c.in-Some.spot _ _ _ _ _ (c.piled.invariant src grammar one is)
+    (λ xs comes. subst (λ next. ReachesIf src p.store grammar next (reverse (seen c.next_member.new.pile.items)) xs) c.in-Some.is
+    (c.in_ok-spot.ensures src grammar xs is.shares.tables comes))
+    (λ x before there made. c.in_ok-push_hit-in-Some.ensures src grammar x before is.shares there made)
 
 pub returns-in-None : goal.returns-in-None
 returns-in-None g c src grammar one is =
     let p = c.args.p.now.parse in
     let query = c.args.query.now in
-    let none : c.piled.pile.items ≡ [] = nil_from_length c.piled.pile.items (omega (arith, c.piled.pile.ok.0, c.in-None.ensures.cases.0)) in
-    all_shown src p.store grammar p.input query.field (reverse (seen c.piled.pile.items)) c.piled.hits.items (picked grammar p.input query one)
-    (ap (λ xs. reverse (seen xs)) none) (c.piled.invariant src grammar one is)
+    all_made IsHit (shown grammar p.input query.field) src p.store grammar _ _ _ (c.piled.invariant src grammar one is) (λ xs comes.
+    subst (λ next. ReachesIf src p.store grammar next (reverse (seen c.next_member.new.pile.items)) xs) c.in-None.is
+    (c.in_ok-spot.ensures src grammar xs is.shares.tables comes))
