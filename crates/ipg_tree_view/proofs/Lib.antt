@@ -10,3 +10,5 @@ pub mod Walked
 pub mod Runs
 -- all that is written is plain
 pub mod Plain
+-- members of a path
+pub mod Members

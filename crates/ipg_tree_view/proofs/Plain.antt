@@ -2,7 +2,7 @@
 use Rattle.std.proofs.Common.{◌≡◌, ℕ, zero, suc, ◌+◌, ◌-◌, ◌*◌, ◌/◌, ◌%◌, ◌^◌, ◌<◌, List, [], ◌∷◌}
 use Rattle.std.proofs.Common.{◌++◌, length, map, take, drop, flat_map, refl, sym, ap, ◌∙◌, arith}
 use Rattle.std.proofs.Common.{Bool, true, false, ◌&&◌}
-use Rattle.std.specs.Prelude.{◌||◌, nat_eq, nat_le, nat_lt, codes, decimal, slice_index, if◌then◌else◌, None}
+use Rattle.std.specs.Prelude.{◌||◌, nat_eq, nat_le, nat_lt, codes, decimal, slice_index, if◌then◌else◌}
 use Rattle.std.specs.Int.{w32, to_be_bytes, bytes_high_first, byte_at}
 use Rattle.std.specs.List.{AllByRecursion}
 use Rattle.ipg_core.specs.Grammar.{Grammar}
@@ -10,11 +10,17 @@ use Rattle.ipg_core.specs.Lines.{digit, hex_digits, primitive_name}
 use Rattle.ipg_core.specs.Part.{part}
 use Rattle.ipg_core.specs.Tree as tree
 use Rattle.ipg_core.specs.Tree.{Kid}
-use Rattle.ipg_tree_walk.specs.Visits.{visits}
+use Rattle.ipg_tree_walk.specs.Visits.{visits, whole, from_of}
+use Rattle.ipg_query.specs.Inside.{visits_of}
+use Rattle.ipg_query.specs.Picked.{Found, found, members, field_named}
+use Rattle.ipg_tree_view.specs.Picked.{member_view, value_view, shown_view}
+use Rattle.std.specs.Fmt.{signed_decimal}
+use Rattle.std.proofs.Common.{Option, None, Some}
+use Rattle.std.specs.Prelude.{ℤ}
 use Rattle.ipg_tree_view.specs.Bare.{bare_of, runs}
 use Rattle.ipg_tree_view.specs.View.{blanks, printable, offset, cells, filled, columns, cut, line, more_line, bare_line, indented, interval}
 use Rattle.ipg_tree_view.specs.View.{node_text, items_text, count_line, piece, piece_of, kid_view, seen_view, gap_view}
-use Rattle.ipg_tree_view.specs.Laws.{is_plain, IsPlain, ViewIsPlain}
+use Rattle.ipg_tree_view.specs.Laws.{is_plain, IsPlain, ViewIsPlain, PickedViewIsPlain}
 
 abbrev AreBytes : List ℕ → Type 0
 AreBytes s = AllByRecursion (λ b. b < 256) s
@@ -185,3 +191,15 @@ view_plain g input one h =
     let gaps = runs 0 None (bare_of (length input) (visits one)) in
     both (flat_map (seen_view g input) (visits one)) (flat_map (gap_view input) gaps)
     (of_each (seen_view g input) (visits one) (λ s. kid_plain g input h s.depth s.at s.child)) (of_each (gap_view input) gaps (gap_plain g input h))
+
+value_plain : (name : List ℕ) (x : Found) (value : Option ℤ) → IsPlain (value_view name x value)
+value_plain name x None = tt
+value_plain name x (Some z) = line_plain (x.at + from_of x.child) [] (name ++ (codes "=" ++ signed_decimal z)) tt
+
+found_plain : (g : Grammar) (input : List ℕ) → AreBytes input → (field : Option (List ℕ)) (x : Found) → IsPlain (shown_view g input field x)
+found_plain g input h None x = of_each (seen_view g input) (visits_of 0 x) (λ s. kid_plain g input h s.depth s.at s.child)
+found_plain g input h (Some name) x = value_plain name x (field_named g name x)
+
+pub picked_plain : PickedViewIsPlain
+picked_plain g input query one h =
+    of_each (shown_view g input query.field) (members g query.steps (found 0 (whole one) ∷ [])) (found_plain g input h query.field)

@@ -3,6 +3,8 @@ use Rattle.std.specs.Prelude.{◌≡◌, ◌<◌, ℕ, Bool, true, ◌||◌, ◌
 use Rattle.std.specs.List.{AllByRecursion}
 use Rattle.ipg_core.specs.Grammar.{Grammar}
 use Rattle.ipg_core.specs.Tree.{Tree}
+use Rattle.ipg_query_path.specs.declared.path.Query.{Query}
+use Rattle.ipg_tree_view.specs.Picked.{picked_view}
 use Rattle.ipg_tree_view.specs.View.{view}
 
 -- a line feed, or a character of ASCII
@@ -15,3 +17,6 @@ IsPlain text = AllByRecursion (λ c. is_plain c ≡ true) text
 -- whatever bytes the input has, and whatever names the grammar, nothing else is written
 abbrev pub ViewIsPlain : Type 0
 ViewIsPlain = (g : Grammar) (input : List ℕ) (one : Tree) → AllByRecursion (λ b. b < 256) input → IsPlain (view g input one)
+
+abbrev pub PickedViewIsPlain : Type 0
+PickedViewIsPlain = (g : Grammar) (input : List ℕ) (query : Query) (one : Tree) → AllByRecursion (λ b. b < 256) input → IsPlain (picked_view g input query one)

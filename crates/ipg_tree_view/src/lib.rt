@@ -6,6 +6,7 @@ mod columns;
 mod cut;
 pub mod laws;
 mod names;
+mod picked;
 mod tail;
 #[cfg(test)]
 mod tests;
@@ -13,4 +14,5 @@ mod view;
 mod words;
 
 pub use bare::bare_places;
+pub use picked::print_picked;
 pub use view::print_view;

@@ -47,7 +47,7 @@ struct Items {
 }
 
 /// An empty text with two blanks for each level.
-fn indent(depth: u64) -> Cut
+pub(crate) fn indent(depth: u64) -> Cut
     ensures { (text : List ℕ) → Lacks result (spec.indented depth text) text }
 {
     let mut text = Cut::new();
@@ -89,18 +89,33 @@ fn push_attrs(text: &mut Cut, tables: &Tables, attrs: &[(u32, i64)])
     }
 }
 
-/// What is said of a node whose part begins at `at`.
-fn node_text<A: Allocator + Clone + Drop>(p: &Parsed<'_, A>, depth: u64, at: u64, node: Node) -> Cut
-    ensures { (g : Grammar) (attrs : List (ℕ × ℤ)) → StandFor p.now.parse.tables g → slice_get p.now.parse.store.attrs node.attrs.place ≡ Some attrs
-        → at + 2 ^ 32 ≤ 2 ^ 64 → result ≡ begun (spec.indented depth (lines.rule_name g node.head.rule ++ 32 ∷ spec.interval at (at + node.head.size)
-        (spaced (map (lines.attr_word g) attrs)))) }
+/// A part of the input: the place where it begins, and how many bytes it has.
+#[derive(Clone, Copy)]
+pub(crate) struct Extent {
+    pub(crate) at: u64,
+    pub(crate) size: u32,
+}
+
+/// What is said of a node on a part of the input.
+pub(crate) fn node_text(
+    tables: &Tables,
+    depth: u64,
+    extent: Extent,
+    rule: u32,
+    attrs: &[(u32, i64)],
+) -> Cut
+    ensures { (g : Grammar) → StandFor tables.now g → extent.at + 2 ^ 32 ≤ 2 ^ 64
+        → result ≡ begun (spec.node_text g depth extent.at rule extent.size attrs.now) }
 {
-    let tables = p.tables();
     let mut text = indent(depth);
-    text.push(rule_name(tables, node.head.rule));
+    text.push(rule_name(tables, rule));
     text.push(b" ");
-    push_interval(&mut text, at, at.saturating_add(u64::from(node.head.size)));
-    push_attrs(&mut text, tables, p.attrs_at(node.attrs));
+    push_interval(
+        &mut text,
+        extent.at,
+        extent.at.saturating_add(u64::from(extent.size)),
+    );
+    push_attrs(&mut text, tables, attrs);
     text
 }
 
@@ -116,7 +131,17 @@ fn put_node<A: Allocator + Clone + Drop, S: Sink>(
     ensures { (g : Grammar) (one : Tree) → StandFor p.now.parse.tables g → Says p.now.parse.store node one → at + 2 ^ 32 ≤ 2 ^ 64
         → Puts result (spec.tree_head g depth at one) (S.output out.old) (S.faults out.old) (S.output out.new) (S.faults out.new) }
 {
-    let text = node_text(p, depth, at, node);
+    let extent = Extent {
+        at,
+        size: node.head.size,
+    };
+    let text = node_text(
+        p.tables(),
+        depth,
+        extent,
+        node.head.rule,
+        p.attrs_at(node.attrs),
+    );
     put_line(out, line, at, &[], &text)
 }
 
@@ -295,7 +320,7 @@ fn put_items<A: Allocator + Clone + Drop, S: Sink>(
 }
 
 /// Writes the lines of a visit.
-fn put_visit<A: Allocator + Clone + Drop, S: Sink>(
+pub(crate) fn put_visit<A: Allocator + Clone + Drop, S: Sink>(
     out: &mut S,
     line: &mut Tail,
     p: &Parsed<'_, A>,
