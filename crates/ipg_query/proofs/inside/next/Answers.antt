@@ -16,7 +16,9 @@ returns-in-Some-split_first-clause-ends g c =
 pub returns-in-Some-split_first-clause-end : goal.returns-in-Some-split_first-clause-end
 returns-in-Some-split_first-clause-end g c src h =
     let rest : Lot = record { rows = c.in-Some-split_first.rows.now; at = c.in-Some.level.at; size = c.in-Some.level.size } in
-    let is = c.in-Some.ensures.1 ∙ ap (λ rows. record { rows = rows; at = rest.at; size = rest.size } ∷ c.in-Some.ensures.0) c.in-Some-split_first.ensures.cases.0 in
+    let around = c.in-Some.ensures.0 in
+    let begins = c.in-Some-split_first.ensures.cases.0 in
+    let is = c.in-Some.ensures.1 ∙ ap (λ rows. record { rows = rows; at = rest.at; size = rest.size } ∷ around) begins in
     absurd (something_left src c.args.p.now.parse.store c.loop-level.walk.room c.in-Some.ensures.0 rest c.in-Some-split_first.kid.now
     (subst (λ levels. Leave src c.args.p.now.parse.store c.loop-level.walk.room levels []) is (c.loop-level.invariant.left src _ h)))
 
