@@ -3,12 +3,14 @@
   view_lines.py COMMAND [COUNT [SEED]]
 
 Taken are the samples of formats/, COUNT random grammars with inputs (300 if it isn't given), real files of the built-in grammars,
-and rows by hand. Where there is no tree, `view` says what `parse` says. Ends with status 1 where something differs.
+and rows by hand. Each tree is also viewed by some paths, of names that it has. Where there is no tree, `view` says what `parse` says,
+and of what is no path what `query` says. Ends with status 1 where something differs.
 """
 
+import itertools
 import json
 import os
-import subprocess
+import random
 import sys
 import tempfile
 
@@ -16,6 +18,9 @@ sys.dont_write_bytecode = True
 from json_trees import cases, run  # noqa: E402
 
 ROOM, LEVELS, SHOWN = 54, 12, 48
+
+# A tree with more nodes and leaves than this is not viewed by `**`, which shows each once for each node around it.
+MOST_OF_ALL = 300
 
 # A name, a grammar, a file, and the lines that are due, worked by hand.
 ROWS = [
@@ -45,6 +50,33 @@ ROWS = [
         "00000000" + " " * 70 + "Top 0..0",
         "00000000" + " " * 72 + "A" + "b" * 49 + "..",
         "00000000" + " " * 74 + "Bytes 0"]),
+]
+
+SHELF = "Shelf -> U8 {count = U8.val} for i = 0 to count do Book[1 + 4 * i, 5 + 4 * i] Rest[1 + 4 * count, EOI] ;\n" \
+    "Book -> U16LE {pages = U16LE.val} Bytes[2, 4] ;\nRest -> Bytes ;\n"
+BOOKS = b"\2\x2c\1ab\x10\0cd!"
+
+# A path of that grammar and that file, and the lines that are due, worked by hand.
+PICKED = [
+    ("Book(1)", [
+        "00000005" + " " * 70 + "Book 5..9 pages=16",
+        "00000005  10 00" + " " * 43 + "|..              |    U16LE 16",
+        "00000007  63 64" + " " * 43 + "|cd              |    Bytes 2"]),
+    ("**/Bytes", [
+        "00000003  61 62" + " " * 43 + "|ab              |  Bytes 2",
+        "00000007  63 64" + " " * 43 + "|cd              |  Bytes 2",
+        "00000009  21" + " " * 46 + "|!               |  Bytes 1"]),
+    ("Book.pages", [
+        "00000001" + " " * 70 + "pages=300",
+        "00000005" + " " * 70 + "pages=16"]),
+    ("Book/Bytes.end", [
+        "00000003" + " " * 70 + "end=5",
+        "00000007" + " " * 70 + "end=9"]),
+    ("Book.colour", []),
+    ("Rest/**", [
+        "00000009" + " " * 70 + "Rest 9..10",
+        "00000009  21" + " " * 46 + "|!               |    Bytes 1",
+        "00000009  21" + " " * 46 + "|!               |  Bytes 1"]),
 ]
 
 
@@ -100,17 +132,93 @@ def gaps(had):
     return ends
 
 
-def lines_of(tree, data):
-    lines, left, had = [], [(tree, 0)], bytearray(len(data))
+def inner(one):
+    return one.get("kids", one.get("items", []))
+
+
+def below_lines(one, data):
+    """The lines of an object and of all that lies in it."""
+    lines, left = [], [(one, 0)]
     while left:
         one, depth = left.pop()
         lines += object_lines(one, depth, data)
+        left += [(kid, depth + 1) for kid in reversed(inner(one))]
+    return lines
+
+
+def lines_of(tree, data):
+    left, had = [tree], bytearray(len(data))
+    while left:
+        one = left.pop()
         if "prim" in one:
             had[one["from"]:one["to"]] = b"\1" * (one["to"] - one["from"])
-        left += [(kid, depth + 1) for kid in reversed(one.get("kids", one.get("items", [])))]
+        left += inner(one)
+    lines = below_lines(tree, data)
     for start, end in gaps(had):
         lines += piece_lines(data, 1, start, end, f"gap {start}..{end}")
     return lines
+
+
+# ---- paths, by docs/QUERY.md
+
+
+def children(one):
+    return [kid for child in one.get("kids", []) for kid in child.get("items", [child])]
+
+
+def all_in(one):
+    """An object and all that lies in it, each before what lies in that; no array and no repetition."""
+    found, left = [], [one]
+    while left:
+        one = left.pop()
+        found += [] if "items" in one else [one]
+        left += reversed(inner(one))
+    return found
+
+
+def name_of(one):
+    return one.get("rule") or one["prim"]
+
+
+def taken(one, step):
+    if step in ("*", "**"):
+        return children(one) if step == "*" else all_in(one)
+    name, _, number = step.rstrip(")").partition("(")
+    named = [kid for kid in children(one) if name_of(kid) == name]
+    return named[int(number):][:1] if number else named
+
+
+def touched(one):
+    """Where an object begins and ends to touch bytes."""
+    if "rule" in one:
+        return {"start": one["start"], "end": one["end"]}
+    if one["prim"] == "Bytes":
+        return {"start": one["from"], "end": one["to"]}
+    count = len(one["hex"]) // 2 if one["prim"] == "tok" else int(one["prim"][1:].rstrip("BEL")) // 8
+    return {"start": one["from"], "end": one["from"] + count} if count else {"start": one["to"], "end": one["from"]}
+
+
+def fields(one):
+    values = one["attrs"] if "rule" in one else {name: one[name] for name in ("val", "hi", "lo") if name in one}
+    return {**values, **touched(one)}
+
+
+def picked_lines(tree, data, path):
+    steps, _, field = path.partition(".")
+    found = [tree]
+    for step in steps.split("/"):
+        found = [inner for one in found for inner in taken(one, step)]
+    if not field:
+        return [line for one in found for line in below_lines(one, data)]
+    return [f"{one['from']:08x}" + " " * 70 + cut(f"{field}={fields(one)[field]}") for one in found if field in fields(one)]
+
+
+def paths_of(tree, rng):
+    """Some paths, of names that the tree has."""
+    found = all_in(tree)
+    one, other = rng.choice(found), rng.choice(found)
+    paths = ["*", f"**/{name_of(one)}", f"{name_of(other)}(0)", f"**/{name_of(one)}.{rng.choice(sorted(fields(one)))}", "**/*.start"]
+    return paths + ["**"] if len(found) <= MOST_OF_ALL else paths
 
 
 def first_other(done, due):
@@ -126,7 +234,16 @@ def first_other(done, due):
                 None if len(lines) == len(due) else "%d lines, where %d are due" % (len(lines), len(due)))
 
 
-def why_differs(command, grammar, path):
+def why_picked_differs(command, grammar, path, text, due):
+    """What differs of what a path picks of a grammar and a file, or None."""
+    done = run(command, ["view", grammar, path, text])
+    if done.returncode:
+        return "%s: status %d, where 0 is due" % (text, done.returncode)
+    why = first_other(done.stdout, due)
+    return None if why is None else f"{text}: {why}"
+
+
+def why_differs(command, grammar, path, rng):
     """What differs of a grammar and a file, or None."""
     parsed, done = run(command, ["parse", grammar, path]), run(command, ["view", grammar, path])
     if done.returncode != parsed.returncode:
@@ -135,23 +252,40 @@ def why_differs(command, grammar, path):
         return None if done.stdout == parsed.stdout else "%r is said" % done.stdout[:60]
     tree = json.loads(run(command, ["json", grammar, path]).stdout)
     with open(path, "rb") as file:
-        return first_other(done.stdout, lines_of(tree, file.read()))
+        data = file.read()
+    whys = [first_other(done.stdout, lines_of(tree, data))]
+    whys += [why_picked_differs(command, grammar, path, text, picked_lines(tree, data, text)) for text in paths_of(tree, rng)]
+    return next((why for why in whys if why is not None), None)
 
 
-def by_hand(command, folder):
-    """How many rows by hand differ."""
-    failed = 0
+def why_no_path_differs(command):
+    """What differs of texts that are no paths, before any file is read; or None."""
+    for text in ("", "Book.", "Book(01)", "/Book", "a b"):
+        words = ["nosuchgrammar", "nosuchfile", text]
+        done, due = run(command, ["view", *words]), run(command, ["query", *words])
+        if (done.returncode, done.stdout) != (due.returncode, due.stdout):
+            return f"{text!r}: {done.stdout[:60]!r} is said, where {due.stdout[:60]!r} is due"
+    return None
+
+
+def written(folder, grammar, data):
+    """The paths of a grammar and a file, once they are written."""
+    paths = os.path.join(folder, "g"), os.path.join(folder, "f")
+    for path, content in zip(paths, (grammar.encode(), data)):
+        with open(path, "wb") as file:
+            file.write(content)
+    return paths
+
+
+def by_hand(command, folder, rng):
+    """What differs of the rows by hand, with the name of each; None where nothing does."""
     for name, grammar, data, due in ROWS:
-        paths = os.path.join(folder, "g"), os.path.join(folder, "f")
-        for path, content in zip(paths, (grammar.encode(), data)):
-            with open(path, "wb") as file:
-                file.write(content)
-        done = subprocess.run(command + ["view", *paths], stdin=subprocess.DEVNULL, capture_output=True)
-        why = first_other(done.stdout, due) or why_differs(command, *paths)
-        if why is not None:
-            failed += 1
-            print(f"view: {name}: {why}")
-    return failed
+        paths = written(folder, grammar, data)
+        yield name, first_other(run(command, ["view", *paths]).stdout, due) or why_differs(command, *paths, rng)
+    paths = written(folder, SHELF, BOOKS)
+    for text, due in PICKED:
+        yield "by path", why_picked_differs(command, *paths, text, due)
+    yield "no path", why_no_path_differs(command)
 
 
 def main():
@@ -159,10 +293,11 @@ def main():
     count = int(sys.argv[2]) if len(sys.argv) > 2 else 300
     seed = int(sys.argv[3]) if len(sys.argv) > 3 else 1
     sys.setrecursionlimit(10_000)
+    rng, failed, tried = random.Random(seed), 0, 0
     with tempfile.TemporaryDirectory() as folder:
-        failed, tried = by_hand(command, folder), len(ROWS)
-        for name, grammar, path in cases(folder, count, seed):
-            why, tried = why_differs(command, grammar, path), tried + 1
+        others = ((name, why_differs(command, grammar, path, rng)) for name, grammar, path in cases(folder, count, seed))
+        for name, why in itertools.chain(by_hand(command, folder, rng), others):
+            tried += 1
             if why is not None:
                 failed += 1
                 print(f"view: {name}: {why}")

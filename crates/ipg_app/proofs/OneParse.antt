@@ -32,6 +32,7 @@ module _ (heights : HeightsAgree) where
     one_text (show.Picked query) g input one a b e f = e ∙ sym f
     one_text show.Json g input one a b e f = e ∙ sym f
     one_text show.View g input one a b e f = e ∙ sym f
+    one_text (show.PickedView query) g input one a b e f = e ∙ sym f
     one_text show.Bytes g input one a b e f = (once (leaves_of one) (length input)).one_back a b e f
 
     never_both : (show : Show) (g : Grammar) (input : List ℕ) (one : Tree) (a : List ℕ) (at : ℕ) → Shows show g input one a → Misses show input one at → ⊥
@@ -39,6 +40,7 @@ module _ (heights : HeightsAgree) where
     never_both (show.Picked query) g input one a at e f = f
     never_both show.Json g input one a at e f = f
     never_both show.View g input one a at e f = f
+    never_both (show.PickedView query) g input one a at e f = f
     never_both show.Bytes g input one a at e f = let none = (once (leaves_of one) (length input)).never_both a (Gap at) e f in absurd (cc)
 
     one_place : (show : Show) (input : List ℕ) (one : Tree) (at other : ℕ) → Misses show input one at → Misses show input one other → at ≡ other
@@ -46,6 +48,7 @@ module _ (heights : HeightsAgree) where
     one_place (show.Picked query) input one at other e f = absurd e
     one_place show.Json input one at other e f = absurd e
     one_place show.View input one at other e f = absurd e
+    one_place (show.PickedView query) input one at other e f = absurd e
     one_place show.Bytes input one at other e f = elim ((once (leaves_of one) (length input)).one_fault (Gap at) (Gap other) e f) [
       | inl none ↦ absurd (cc)
       | inr more ↦ elim more [ inl none ↦ absurd (cc) | inr same ↦ cc ]

@@ -20,9 +20,10 @@ use Rattle.ipg_query_path.specs.declared.path.Query as paths
 use Rattle.ipg_query_path.specs.Laws.{OnePath}
 use Rattle.ipg_query_path.specs.Paths.{IsPath, IsFirstFault}
 use Rattle.ipg_app_words.specs.Request as words
-use Rattle.ipg_app_words.specs.Request.{Request, Use, Fmt, Trial, Query, Load, Explain, Help, Version, request_of}
+use Rattle.ipg_app_words.specs.Request.{Request, Use, Fmt, Trial, Query, View, Load, Explain, Help, Version, request_of}
 use Rattle.ipg_app.specs.declared.task.Show.{Show}
-use Rattle.ipg_app.specs.declared.task.Show.TheVariants.{Lines, Picked, Bytes, Json, View}
+use Rattle.ipg_app.specs.declared.task.Show.TheVariants.{Lines, Picked, Bytes, Json, PickedView}
+use Rattle.ipg_app.specs.declared.task.Show.TheVariants as show
 use Rattle.ipg_app.specs.Certificate.{Reads, Judges, cert_text, proof_said}
 use Rattle.ipg_app.specs.Checks.{Checks}
 use Rattle.ipg_app.specs.Editing.{ReadsScript, Edits, edit_text}
@@ -296,7 +297,6 @@ module _ (told : List ℕ → Told) where
     one_request (Some (Use grammar words.Cover)) settled = one_use grammar Cover tt
     one_request (Some (Use grammar (words.Rebuild input))) settled = one_use grammar (Parse Bytes input) tt
     one_request (Some (Use grammar (words.Json input))) settled = one_use grammar (Parse Json input) tt
-    one_request (Some (Use grammar (words.View input))) settled = one_use grammar (Parse View input) tt
     one_request (Some (Use grammar (words.Edit input script))) settled = one_use grammar (Edit input script) tt
     one_request (Some (Load table input)) settled =
         one_read table (λ bytes. have (input_in bytes) (load_in input)) (known table)
@@ -316,6 +316,10 @@ module _ (told : List ℕ → Told) where
         one_text (kind_of grammar) grammar (λ text. says (Explains grammar text)) (known grammar) (one_explained grammar)
     one_request (Some (Help command)) settled = one_only (help_said command)
     one_request (Some Version) settled = one_only version_said
+    one_request (Some (View grammar input None)) settled = one_use grammar (Parse show.View input) tt
+    one_request (Some (View grammar input (Some path))) settled =
+        one_found (ReadsPath path) (λ read. have read (λ query. use_order grammar (Parse (PickedView query) input))) (path_same one_path path)
+        (λ read. one_have read (λ query. use_order grammar (Parse (PickedView query) input)) (λ query. one_use grammar (Parse (PickedView query) input) tt))
     one_request (Some (Query grammar input path)) settled =
         one_found (ReadsPath path) (λ read. have read (λ query. use_order grammar (Parse (Picked query) input))) (path_same one_path path)
         (λ read. one_have read (λ query. use_order grammar (Parse (Picked query) input)) (λ query. one_use grammar (Parse (Picked query) input) tt))

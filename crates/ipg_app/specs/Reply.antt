@@ -12,9 +12,10 @@ use Rattle.ipg_edit_script.specs.declared.script.Edit as scripts
 use Rattle.ipg_formats.specs.Names.{kind_of}
 use Rattle.ipg_formats.specs.Text.{text_of}
 use Rattle.ipg_app_words.specs.Request as words
-use Rattle.ipg_app_words.specs.Request.{Request, Use, Fmt, Trial, Query, Load, Explain, Help, Version, request_of}
+use Rattle.ipg_app_words.specs.Request.{Request, Use, Fmt, Trial, Query, View, Load, Explain, Help, Version, request_of}
 use Rattle.ipg_app.specs.declared.task.Show.{Show}
-use Rattle.ipg_app.specs.declared.task.Show.TheVariants.{Lines, Picked, Bytes, Json, View}
+use Rattle.ipg_app.specs.declared.task.Show.TheVariants.{Lines, Picked, Bytes, Json, PickedView}
+use Rattle.ipg_app.specs.declared.task.Show.TheVariants as show
 use Rattle.ipg_app.specs.Said.{Said, done, done_line, usage, no_parse, range, too_large}
 use Rattle.ipg_app.specs.CoreOf.{grammar_in, CoreOf}
 use Rattle.ipg_app.specs.Checks.{Checks}
@@ -246,7 +247,6 @@ task_of words.Table = Table
 task_of words.Cover = Cover
 task_of (words.Rebuild input) = Parse Bytes input
 task_of (words.Json input) = Parse Json input
-task_of (words.View input) = Parse View input
 task_of (words.Edit input script) = Edit input script
 
 abbrev pub order_by : Task → Grammar → Order
@@ -269,11 +269,22 @@ query grammar input text = do
   path ← path_in text
   use_order grammar (Parse (Picked path) input)
 
+abbrev pub picked_view : (grammar input path : List ℕ) → Order
+picked_view grammar input text = do
+  path ← path_in text
+  use_order grammar (Parse (PickedView path) input)
+
+-- all of the tree, or what a path picks
+abbrev pub view : (grammar input : List ℕ) → (path : Option (List ℕ)) → Order
+view grammar input None = use_order grammar (Parse show.View input)
+view grammar input (Some path) = picked_view grammar input path
+
 abbrev pub order_on : Option Request → Order
 order_on (Some (Use grammar task)) = use_order grammar (task_of task)
 order_on (Some (Fmt grammar)) = fmt grammar
 order_on (Some (Trial kind n)) = trial kind n
 order_on (Some (Query grammar input path)) = query grammar input path
+order_on (Some (View grammar input path)) = view grammar input path
 order_on (Some (Load table input)) = load table input
 order_on (Some (Explain grammar)) = explain grammar
 order_on (Some (Help command)) = only (help_said command)

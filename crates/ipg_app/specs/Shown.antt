@@ -8,6 +8,7 @@ use Rattle.ipg_cover_leaves.specs.Back.{IsBack, IsPutFault}
 use Rattle.ipg_cover_leaves.specs.Leaves.{leaves_of}
 use Rattle.ipg_query.specs.Picked.{picked}
 use Rattle.ipg_tree.specs.Json.{json}
+use Rattle.ipg_tree_view.specs.Picked.{picked_view}
 use Rattle.ipg_tree_view.specs.View.{view}
 use Rattle.ipg_app.specs.declared.task.Show.{Show}
 use Rattle.ipg_app.specs.declared.task.Show.TheVariants as show
@@ -15,13 +16,14 @@ use Rattle.ipg_app.specs.Said.{Said, done, refused}
 use Rattle.ipg_app.specs.Queried.{picks_text}
 
 -- the text that is shown: the tree's lines, what a path picks of it, the bytes that its leaves put back, its JSON text, or its lines beside
--- the bytes
+-- the bytes, all or what a path picks
 abbrev pub Shows : Show → Grammar → List ℕ → Tree → List ℕ → Type 0
 Shows show.Lines g input tree text = text ≡ lines g tree 0
 Shows (show.Picked query) g input tree text = text ≡ picks_text (picked g input query tree)
 Shows show.Bytes g input tree text = IsBack (leaves_of tree) (length input) text
 Shows show.Json g input tree text = text ≡ json g tree
 Shows show.View g input tree text = text ≡ view g input tree
+Shows (show.PickedView query) g input tree text = text ≡ picked_view g input query tree
 
 -- they put no byte at this place of the input, which is the least such place
 abbrev pub Misses : Show → List ℕ → Tree → ℕ → Type 0
@@ -29,6 +31,7 @@ Misses show.Lines input tree at = ⊥
 Misses (show.Picked query) input tree at = ⊥
 Misses show.Json input tree at = ⊥
 Misses show.View input tree at = ⊥
+Misses (show.PickedView query) input tree at = ⊥
 Misses show.Bytes input tree at = IsPutFault (leaves_of tree) (length input) (Gap at)
 
 -- V4

@@ -10,6 +10,7 @@ ghost use Rattle.ipg_mach_nodes.specs.Stored.{Source};
 ghost use Rattle.ipg_query.specs.Hits.{IsTree};
 ghost use Rattle.ipg_query.specs.Picked.{picked};
 ghost use Rattle.ipg_tree.specs.Json.{json};
+ghost use Rattle.ipg_tree_view.specs.Picked.{picked_view};
 ghost use Rattle.ipg_tree_view.specs.View.{view};
 ghost use Rattle.ipg_app.specs.Answered.{Answers, Fails, PutsText, PutsTree};
 ghost use Rattle.ipg_app.specs.Queried.{picks_text};
@@ -25,7 +26,7 @@ use ipg_query::select;
 use ipg_query_path::Query;
 use ipg_table::tables::compile;
 use ipg_tree::{print, print_json};
-use ipg_tree_view::{bare_places, print_view};
+use ipg_tree_view::{bare_places, print_picked, print_view};
 use linked_list_allocator::LocalHeap;
 use std::alloc::{AllocError, Allocator, Global};
 
@@ -141,6 +142,24 @@ fn put_picked<A: Allocator + Clone + Drop, S: Sink>(
     }
 }
 
+/// Writes what a path picks of a parsed tree beside its input, once all of it is picked.
+fn put_picked_view<A: Allocator + Clone + Drop, S: Sink>(
+    alloc: Global,
+    query: &Query,
+    parsed: &mut Parsed<'_, A>,
+    out: &mut S,
+) -> Result<Given, AnswerFault>
+    ensures { (src : Source) (g : Grammar) (one : Tree) → IsTree parsed.old.parse src g one
+        → PutsText result (picked_view g parsed.old.parse.input query.now one) (S.output out.old) (S.faults out.old)
+        (S.output out.new) (S.faults out.new) }
+{
+    let put = print_picked(alloc, query, parsed, out)?;
+    match put {
+        Ok(()) => Ok(Given::Tree),
+        Err(_) => Err(AnswerFault::Write),
+    }
+}
+
 /// Writes a text at once.
 fn put_text<S: Sink>(text: &[u8], out: &mut S) -> Result<Given, AnswerFault>
     ensures { PutsText result text.now (S.output out.old) (S.faults out.old) (S.output out.new) (S.faults out.new) }
@@ -189,6 +208,7 @@ fn put<A: Allocator + Clone + Drop, S: Sink>(
         Show::Bytes => put_bytes(alloc, input, parsed, out),
         Show::Json => put_json(parsed, out),
         Show::View => put_view(alloc, input, parsed, out),
+        Show::PickedView(query) => put_picked_view(alloc, query, parsed, out),
     }
 }
 

@@ -1,5 +1,5 @@
 //! What is to be said, settled before anything is written.
-ghost use Rattle.std.specs.Prelude.{◌≡◌, ◌<◌, ◌≤◌, ◌^◌, ℕ, List, length, map, Ok, Err, IfOk, MatchResult};
+ghost use Rattle.std.specs.Prelude.{◌≡◌, ◌<◌, ◌≤◌, ◌^◌, ℕ, List, length, map, None, option_map, Ok, Err, IfOk, MatchResult};
 ghost use Rattle.std.specs.String.{string_bytes};
 ghost use Rattle.std.specs.List.{AllByRecursion};
 ghost use Rattle.ipg_ast.specs.Shape.{IsFlat};
@@ -7,7 +7,7 @@ ghost use Rattle.ipg_names.specs.Readable.{IsReadable};
 ghost use Rattle.ipg_formats.specs.Text.{text_of};
 ghost use Rattle.ipg_app.specs.CoreOf.{CoreOf};
 ghost use Rattle.ipg_store_body.specs.Fits.{NestsRule};
-ghost use Rattle.ipg_app.specs.Reply.{grammar_of, core_of, formatted, parse_input, parse, verify, fmt, query, load};
+ghost use Rattle.ipg_app.specs.Reply.{grammar_of, core_of, formatted, parse_input, parse, verify, fmt, query, view, picked_view, load};
 ghost use Rattle.ipg_app.specs.Reply.{load_in, use_order, order_by, order_of, task_of};
 ghost use Rattle.ipg_app.specs.Reply.{edit, edit_file, edit_input, edits_of, explain};
 ghost use Rattle.ipg_app.specs.Explained.{Explains};
@@ -71,6 +71,13 @@ pub fn settle<F: Files>(alloc: Global, words: &[String], files: &mut F) -> Resul
                 path,
             },
         ) => settle_query(alloc, grammar, input, path, files),
+        Some(
+            Asked::View {
+                grammar,
+                input,
+                path,
+            },
+        ) => settle_view(alloc, grammar, input, path, files),
         Some(Asked::Load { table, input }) => settle_load(alloc, table, input, files),
         Some(Asked::Fmt { grammar }) => Ok(Reply::Text(settle_fmt(alloc, grammar, files)?)),
         Some(Asked::Trial { kind, count }) => Ok(Reply::Text(trial(alloc, kind, count)?)),
@@ -104,11 +111,6 @@ fn task_of(task: Wanted<'_>) -> Task<'_>
             room: TREE_ROOM,
             show: Show::Json,
         },
-        Wanted::View { input } => Task::Parse {
-            input,
-            room: TREE_ROOM,
-            show: Show::View,
-        },
         Wanted::Check => Task::Check,
         Wanted::Cert => Task::Cert,
         Wanted::Verify { certificate } => Task::Verify { certificate },
@@ -134,6 +136,61 @@ fn settle_query<F: Files>(
                 input,
                 room: TREE_ROOM,
                 show: Show::Picked(path),
+            };
+            settle_use(alloc, grammar, task, files)
+        }
+        Err(settled) => Ok(Reply::Text(settled)),
+    }
+}
+
+fn settle_view<F: Files>(
+    alloc: Global,
+    grammar: &str,
+    input: &str,
+    path: Option<&str>,
+    files: &mut F,
+) -> Result<Reply, AllocError>
+    ensures { IfOk result (IsSettled (F.told files.old) (F.faults files.old) (F.faults files.new)
+        (view grammar.now input.now (option_map (λ text. text.now) path.entry))) }
+{
+    match path {
+        None => settle_whole_view(alloc, grammar, input, files),
+        Some(path) => settle_picked_view(alloc, grammar, input, path, files),
+    }
+}
+
+fn settle_whole_view<F: Files>(
+    alloc: Global,
+    grammar: &str,
+    input: &str,
+    files: &mut F,
+) -> Result<Reply, AllocError>
+    ensures { IfOk result (IsSettled (F.told files.old) (F.faults files.old) (F.faults files.new) (view grammar.now input.now None)) }
+{
+    let task = Task::Parse {
+        input,
+        room: TREE_ROOM,
+        show: Show::View,
+    };
+    settle_use(alloc, grammar, task, files)
+}
+
+/// The path is read before the grammar.
+fn settle_picked_view<F: Files>(
+    alloc: Global,
+    grammar: &str,
+    input: &str,
+    path: &str,
+    files: &mut F,
+) -> Result<Reply, AllocError>
+    ensures { IfOk result (IsSettled (F.told files.old) (F.faults files.old) (F.faults files.new) (picked_view grammar.now input.now path.now)) }
+{
+    match path_in(alloc, path)? {
+        Ok(path) => {
+            let task = Task::Parse {
+                input,
+                room: TREE_ROOM,
+                show: Show::PickedView(path),
             };
             settle_use(alloc, grammar, task, files)
         }

@@ -16,6 +16,8 @@ pub enum Show {
     Json,
     /// Its lines beside the bytes.
     View,
+    /// What a path picks of it, beside the bytes.
+    PickedView(Query),
 }
 
 /// What is done with a core grammar.

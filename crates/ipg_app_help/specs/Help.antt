@@ -37,7 +37,7 @@ lines_of topic.Commands =
     codes "ipg reads binary files by grammars, and answers what the grammar means." ∷
     [] ∷
     codes "  parse G FILE         the tree of a file" ∷
-    codes "  view G FILE          the tree beside the bytes, for a terminal" ∷
+    codes "  view G FILE [PATH]   the tree beside the bytes, for a terminal" ∷
     codes "  json G FILE          the tree as one JSON text" ∷
     codes "  query G FILE PATH    parts and values of the tree" ∷
     codes "  check G              whether parsing by the grammar always ends" ∷
@@ -71,12 +71,14 @@ lines_of topic.Parse =
     codes "  ipg parse @elf /bin/true" ∷
     []
 lines_of topic.View =
-    codes "ipg view G FILE" ∷
+    codes "ipg view G FILE [PATH]" ∷
     [] ∷
     codes "Writes the tree of FILE beside its bytes, for a terminal, and the bytes that no leaf has." ∷
+    codes "With PATH it writes only what that picks, and all that lies in it." ∷
     [] ∷
     codes "  G      the file of a grammar, or @elf, @pe, @gif, @pcap: those that are built in" ∷
     codes "  FILE   the file to read, of at most 2^30 bytes" ∷
+    codes "  PATH   as query takes it" ∷
     [] ∷
     codes "  ipg view @gif picture.gif" ∷
     []

@@ -4,7 +4,7 @@ pub const COMMANDS: &[u8] =
     br"ipg reads binary files by grammars, and answers what the grammar means.
 
   parse G FILE         the tree of a file
-  view G FILE          the tree beside the bytes, for a terminal
+  view G FILE [PATH]   the tree beside the bytes, for a terminal
   json G FILE          the tree as one JSON text
   query G FILE PATH    parts and values of the tree
   check G              whether parsing by the grammar always ends
@@ -38,12 +38,14 @@ Status 0, or 1 where there is no tree (`no parse`), 3 where a value leaves 64 bi
   ipg parse @elf /bin/true
 ";
 
-pub const VIEW: &[u8] = br"ipg view G FILE
+pub const VIEW: &[u8] = br"ipg view G FILE [PATH]
 
 Writes the tree of FILE beside its bytes, for a terminal, and the bytes that no leaf has.
+With PATH it writes only what that picks, and all that lies in it.
 
   G      the file of a grammar, or @elf, @pe, @gif, @pcap: those that are built in
   FILE   the file to read, of at most 2^30 bytes
+  PATH   as query takes it
 
   ipg view @gif picture.gif
 ";

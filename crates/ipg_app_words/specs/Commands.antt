@@ -43,8 +43,9 @@ rebuild = with_rule (on_grammar (codes "rebuild")) (required (codes "FILE"))
 abbrev pub json : App
 json = with_rule (on_grammar (codes "json")) (required (codes "FILE"))
 
+-- a path may be there
 abbrev pub view : App
-view = with_rule (on_grammar (codes "view")) (required (codes "FILE"))
+view = with_rule (with_rule (on_grammar (codes "view")) (required (codes "FILE"))) (new_rule (codes "PATH"))
 
 abbrev pub edit : App
 edit = with_rule (with_rule (on_grammar (codes "edit")) (required (codes "FILE"))) (required (codes "SCRIPT"))

@@ -22,7 +22,6 @@ pub data Task : Type 0 where
   Cover : Task
   Rebuild : (input : Text) → Task
   Json : (input : Text) → Task
-  View : (input : Text) → Task
   Edit : (input script : Text) → Task
 
 pub data Request : Type 0 where
@@ -30,6 +29,7 @@ pub data Request : Type 0 where
   Fmt : (grammar : Text) → Request
   Trial : (kind : Text) (count : ℕ) → Request
   Query : (grammar input path : Text) → Request
+  View : (grammar input : Text) (path : Option Text) → Request
   Load : (table input : Text) → Request
   Explain : (grammar : Text) → Request
   Help : (command : Option Text) → Request
@@ -56,11 +56,6 @@ abbrev pub json_task : List Row → Option Task
 json_task rows = do
   input ← first_of (codes "FILE") rows
   Some (Json input)
-
-abbrev pub view_task : List Row → Option Task
-view_task rows = do
-  input ← first_of (codes "FILE") rows
-  Some (View input)
 
 abbrev pub edit_task : List Row → Option Task
 edit_task rows = do
@@ -92,6 +87,12 @@ query_by rows = do
   input ← first_of (codes "FILE") rows
   path ← first_of (codes "PATH") rows
   Some (Query grammar input path)
+
+abbrev pub view_by : List Row → Option Request
+view_by rows = do
+  grammar ← first_of (codes "G") rows
+  input ← first_of (codes "FILE") rows
+  Some (View grammar input (first_of (codes "PATH") rows))
 
 abbrev pub explain_by : List Row → Option Request
 explain_by rows = do
@@ -128,6 +129,11 @@ query_words words = do
   rows ← taken command.query words
   query_by rows
 
+abbrev pub view_words : List Text → Option Request
+view_words words = do
+  rows ← taken command.view words
+  view_by rows
+
 abbrev pub load_words : List Text → Option Request
 load_words words = do
   rows ← taken command.load words
@@ -163,7 +169,7 @@ request_by name words = if bytes_eq name (codes "parse") then use_words command.
     else (if bytes_eq name (codes "rebuild") then use_words command.rebuild rebuild_task words
     else (if bytes_eq name (codes "edit") then use_words command.edit edit_task words
     else (if bytes_eq name (codes "json") then use_words command.json json_task words
-    else (if bytes_eq name (codes "view") then use_words command.view view_task words
+    else (if bytes_eq name (codes "view") then view_words words
     else (if bytes_eq name (codes "explain") then explain_words words
     else (if bytes_eq name (codes "help") then help_words words
     else (if bytes_eq name (codes "version") then version_words words

@@ -31,10 +31,6 @@ pub enum Wanted<'a> {
     Json {
         input: &'a str,
     },
-    /// The tree of an input beside its bytes.
-    View {
-        input: &'a str,
-    },
     /// The answers of an input that a script edits.
     Edit {
         input: &'a str,
@@ -62,6 +58,12 @@ pub enum Asked<'a> {
         grammar: &'a str,
         input: &'a str,
         path: &'a str,
+    },
+    /// The tree of an input beside its bytes, or what a path picks of it.
+    View {
+        grammar: &'a str,
+        input: &'a str,
+        path: Option<&'a str>,
     },
     /// An input is parsed by the grammar of a table file.
     Load {

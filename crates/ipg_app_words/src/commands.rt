@@ -87,10 +87,13 @@ pub fn json<'a>(alloc: Global) -> Result<Command<'a>, AllocError>
     on_grammar(alloc, "json")?.arg(required(alloc, "FILE"))
 }
 
+/// A path may be there.
 pub fn view<'a>(alloc: Global) -> Result<Command<'a>, AllocError>
     ensures { IfOk result (λ command. app_of command ≡ spec.view) }
 {
-    on_grammar(alloc, "view")?.arg(required(alloc, "FILE"))
+    on_grammar(alloc, "view")?
+        .arg(required(alloc, "FILE"))?
+        .arg(Arg::new(alloc, "PATH"))
 }
 
 pub fn edit<'a>(alloc: Global) -> Result<Command<'a>, AllocError>

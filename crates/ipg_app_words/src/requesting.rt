@@ -4,7 +4,7 @@ ghost use Rattle.std.specs.String.{string_bytes};
 ghost use Rattle.clap.specs.Words.{rows_of, found_of};
 ghost use Rattle.ipg_app_words.specs.Commands as command;
 ghost use Rattle.ipg_app_words.specs.Request as spec;
-ghost use Rattle.ipg_app_words.specs.Request.{request_of, request_by, edit_task, json_task, parse_task, rebuild_task, verify_task, view_task};
+ghost use Rattle.ipg_app_words.specs.Request.{request_of, request_by, edit_task, json_task, parse_task, rebuild_task, verify_task};
 ghost use Rattle.ipg_app_words.specs.Seen.{seen, task_seen};
 
 use crate::asking::{Asked, Wanted};
@@ -92,10 +92,10 @@ fn json_request<'a>(alloc: Global, words: &'a [String]) -> Result<Option<Asked<'
 }
 
 fn view_request<'a>(alloc: Global, words: &'a [String]) -> Result<Option<Asked<'a>>, AllocError>
-    ensures { IfOk result (λ asked. option_map seen asked ≡ spec.use_words command.view view_task (map string_bytes words.now)) }
+    ensures { IfOk result (λ asked. option_map seen asked ≡ spec.view_words (map string_bytes words.now)) }
 {
     match taken(view(alloc)?, words)? {
-        Some(matches) => Ok(use_of(&matches, view_wanted(&matches))),
+        Some(matches) => Ok(view_of(&matches)),
         None => Ok(None),
     }
 }
@@ -236,6 +236,16 @@ fn query_of<'a>(matches: &ArgMatches<'a>) -> Option<Asked<'a>>
     })
 }
 
+fn view_of<'a>(matches: &ArgMatches<'a>) -> Option<Asked<'a>>
+    ensures { option_map seen result ≡ spec.view_by (rows_of (found_of matches.now)) }
+{
+    Some(Asked::View {
+        grammar: value(matches, "G")?,
+        input: value(matches, "FILE")?,
+        path: value(matches, "PATH"),
+    })
+}
+
 fn load_of<'a>(matches: &ArgMatches<'a>) -> Option<Asked<'a>>
     ensures { option_map seen result ≡ spec.load_by (rows_of (found_of matches.now)) }
 {
@@ -266,14 +276,6 @@ fn json_wanted<'a>(matches: &ArgMatches<'a>) -> Option<Wanted<'a>>
     ensures { option_map task_seen result ≡ json_task (rows_of (found_of matches.now)) }
 {
     Some(Wanted::Json {
-        input: value(matches, "FILE")?,
-    })
-}
-
-fn view_wanted<'a>(matches: &ArgMatches<'a>) -> Option<Wanted<'a>>
-    ensures { option_map task_seen result ≡ view_task (rows_of (found_of matches.now)) }
-{
-    Some(Wanted::View {
         input: value(matches, "FILE")?,
     })
 }

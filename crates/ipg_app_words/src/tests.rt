@@ -56,7 +56,7 @@ fn reads_settings(rt: HostRuntime) -> anyhow::Result<()> {
     Ok(())
 }
 
-const REFUSED: [&[&str]; 52] = [
+const REFUSED: [&[&str]; 53] = [
     &[],
     &["parse"],
     &["parse", "g"],
@@ -97,6 +97,7 @@ const REFUSED: [&[&str]; 52] = [
     &["rebuild", "g"],
     &["json", "g"],
     &["view", "g"],
+    &["view", "g", "f", "p", "q"],
     &["edit", "g", "f"],
     &["fmt", "g", "f"],
     &["cert", "--help"],

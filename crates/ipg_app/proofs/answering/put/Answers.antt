@@ -2,6 +2,7 @@ use Rattle.std.proofs.Common.{List, ℕ, refl, sym, ap, subst}
 use Rattle.ipg_core.specs.Lines.{lines}
 use Rattle.ipg_query.specs.Picked.{picked}
 use Rattle.ipg_tree.specs.Json.{json}
+use Rattle.ipg_tree_view.specs.Picked.{picked_view}
 use Rattle.ipg_tree_view.specs.View.{view}
 use Rattle.ipg_app.specs.Queried.{picks_text}
 use Rattle.ipg_app.specs.Shown.{Shows}
@@ -32,3 +33,10 @@ returns-in-Picked g c src grammar one h same =
     let here = text c.args.parsed.now.parse.input in
     let shows = subst (λ show. Shows show grammar c.args.input.now one here) (sym c.in-Picked.is) (ap text same) in
     puts_of c.args.show.now grammar c.args.input.now one here c.put_picked.result _ _ _ _ shows (c.put_picked.ensures src grammar one h)
+
+pub returns-in-PickedView : goal.returns-in-PickedView
+returns-in-PickedView g c src grammar one h same =
+    let text : List ℕ → List ℕ = λ bytes. picked_view grammar bytes c.in-PickedView.query one in
+    let here = text c.args.parsed.now.parse.input in
+    let shows = subst (λ show. Shows show grammar c.args.input.now one here) (sym c.in-PickedView.is) (ap text same) in
+    puts_of c.args.show.now grammar c.args.input.now one here c.put_picked_view.result _ _ _ _ shows (c.put_picked_view.ensures src grammar one h)
