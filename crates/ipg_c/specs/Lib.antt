@@ -1,0 +1,5 @@
+-- what a caller hands over
+pub mod Handed
+-- what it gets
+pub mod Shown
+pub mod Answered
