@@ -1,5 +1,5 @@
 #!/usr/bin/env bash
-# Installs the proved program, its manual page, completions, formats and highlighting below PREFIX, by default /usr/local; or
+# Installs the proved program, its manual page, completions, formats, highlighting and its package for Python below PREFIX, by default /usr/local; or
 # takes all of that away again.
 #   ./install.sh [PREFIX]
 #   ./install.sh uninstall [PREFIX]
@@ -26,6 +26,8 @@ install_all() {
   while read -r name; do
     put 644 "$top/$name" "share/ipg/$name" || return 1
   done < <(cd "$top" && find formats editors/* -type f ! -path 'editors/completions/*' ! -name '*.pyc')
+  put 644 "$top/lib/include/ipg.h" share/ipg/include/ipg.h && put 755 "$top/dist/libipg.so" share/ipg/python/ipg/libipg.so || return 1
+  for name in __init__ __main__; do put 644 "$top/lib/python/ipg/$name.py" "share/ipg/python/ipg/$name.py" || return 1; done
   echo "ipg is installed as $prefix/bin/ipg; grammars of formats are in $prefix/share/ipg/formats"
 }
 

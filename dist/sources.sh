@@ -28,11 +28,11 @@ own_folders() {
   done
 }
 
-# these lines for `ipg`, and the checksum of each source
+# sources [NAME]: these lines for `ipg`, or for the crate that is named, and the checksum of each source
 sources() {
-  local folders
-  mapfile -t folders < <(own_folders ipg)
-  own_crates ipg
+  local name="${1-ipg}" folders
+  mapfile -t folders < <(own_folders "$name")
+  own_crates "$name"
   (cd "$top" && find "${folders[@]}" -type f -print0 | LC_ALL=C sort -z | xargs -0 sha256sum)
 }
 
@@ -85,4 +85,14 @@ build() {
   [ -e "$program" ] || (cd "$top/crates" && rt all check --jobs "$(at_once)") </dev/null >&2
   (cd "$top/crates/ipg" && rt run -- parse data/row.ipg data/row.bin) </dev/null >&2 || return 1
   touch -d "@$began" "$program" || true
+}
+
+# the library that is kept for C and Python: what it was built from, and by which linker
+library_sources() {
+  ld --version | head -n 1
+  sources ipg_c
+}
+
+build_library() {
+  (cd "$top/crates/ipg_c" && rt lib) </dev/null >&2 && make -s -B -C "$top/lib" >&2
 }

@@ -13,8 +13,9 @@ command -v cc >/dev/null && command -v c++ >/dev/null && command -v python3 >/de
   skip library "a C compiler and python3"
   exit 0
 }
-make -s -C lib || exit 1
+make -s -B -C lib || exit 1
 out=$top/lib/out
+. dist/sources.sh
 folder=$(mktemp -d) || exit 1
 trap 'rm -rf "$folder"' EXIT
 failed=0
@@ -38,6 +39,11 @@ python3 formats/samples.py "$folder/samples" >/dev/null 2>&1 || mkdir -p "$folde
 printf 'GIF89a\1\0\1\0\0\0\0\x2c\3\0\4\0\1\0\1\0\0\2\2\x4c\1\0\x3b' >"$folder/one.gif"
 
 says "no name of the archive but its own is seen in libipg.so" test "$(nm -D --defined-only "$out/libipg.so" | awk '$2 == "T"' | wc -l)" -eq 1
+if [ "$(library_sources)" = "$(cat dist/LIBRARY)" ]; then
+  says "the library that is kept is the one built here" cmp "$out/libipg.so" dist/libipg.so
+else
+  echo "library: the library that is kept is older than the sources, or by another linker"
+fi
 says "the edges of a call" "$folder/edges"
 says "eight threads" "$folder/threads" <"$folder/one.gif"
 says "a picture by the example in C++" test "$("$folder/gif_list" "$folder/one.gif")" = "3 4 1 1"

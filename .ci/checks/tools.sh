@@ -50,6 +50,7 @@ expect 'pe pcap' complete_by_bash ipg trial p
 if ./install.sh "$folder/a prefix" >/dev/null; then
   expect 'accepted' "$folder/a prefix/bin/ipg" check "$folder/a prefix/share/ipg/formats/png.ipg"
   expect "$folder/a prefix/share/man/man1/ipg.1" find "$folder/a prefix/share/man" -type f
+  expect "$(./ipg version)" env PYTHONPATH="$folder/a prefix/share/ipg/python" python3 -m ipg version
   cmp -s formats/zip.ipg "$folder/a prefix/share/ipg/formats/zip.ipg" || failed=1
   ./install.sh uninstall "$folder/a prefix"
   expect '' find "$folder/a prefix" -type f

@@ -8,7 +8,8 @@
     [kid.kind for kid in tree]  # ['tok', 'U8', 'Bytes']
 
 A grammar is refused by `GrammarError`, which has the place; an input without a tree is `NoParse`. `ipg.builtin("elf")` and the like are the grammars
-that come with the library. It stands on the shared library alone: `libipg.so` beside this file, or where the variable IPG_LIBRARY says.
+that come with the library. It stands on the shared library alone: where the variable IPG_LIBRARY says, or `libipg.so` beside this file, or the one
+kept in this repository's `dist/`.
 """
 
 from __future__ import annotations
@@ -85,9 +86,14 @@ class _File(ctypes.Structure):
     _fields_ = [("name", _Bytes), ("bytes", _Bytes)]
 
 
+def _path() -> str:
+    here = os.path.dirname(os.path.abspath(__file__))
+    places = (os.path.join(here, "libipg.so"), os.path.join(here, "..", "..", "..", "dist", "libipg.so"))
+    return os.environ.get("IPG_LIBRARY") or next(filter(os.path.exists, places), places[0])
+
+
 def _library() -> ctypes.CDLL:
-    path = os.environ.get("IPG_LIBRARY") or os.path.join(os.path.dirname(os.path.abspath(__file__)), "libipg.so")
-    library = ctypes.CDLL(path)
+    library = ctypes.CDLL(_path())
     size, void = ctypes.c_size_t, ctypes.c_void_p
     library.ipg_run.argtypes = [void, size, void, size, void, size, ctypes.POINTER(ctypes.c_uint64)]
     library.ipg_run.restype = ctypes.c_uint8
