@@ -1,5 +1,5 @@
 //! The whole run of the program, over any files and any output.
-ghost use Rattle.std.specs.Prelude.{map};
+ghost use Rattle.std.specs.Prelude.{◌≡◌, ℕ, List, map};
 ghost use Rattle.std.specs.String.{string_bytes};
 ghost use Rattle.ipg_app.specs.Run.{Runs, RepliesWithoutFault};
 
@@ -19,6 +19,7 @@ pub fn run<F: Files, S: Sink>(alloc: Global, words: &[String], files: &mut F, ou
         (record { told = F.told files.old; read_faults = F.faults files.old; output = S.output out.old; write_faults = S.faults out.old })
         (record { told = F.told files.new; read_faults = F.faults files.new; output = S.output out.new; write_faults = S.faults out.new })
         (map string_bytes words.now) result }
+    ensures told { (n : List ℕ) → F.told files.new n ≡ F.told files.old n }
 {
     match settle(alloc, words, files) {
         Ok(reply) => put_reply(alloc, &reply, out),

@@ -60,7 +60,8 @@ const TREE_ROOM: Room = Room {
 
 /// Answers in order: to the words, to the grammar, and then what the grammar is wanted for.
 pub fn settle<F: Files>(alloc: Global, words: &[String], files: &mut F) -> Result<Reply, AllocError>
-    ensures { IfOk result (IsSettled (F.told files.old) (F.faults files.old) (F.faults files.new) (order_of (map string_bytes words.now))) }
+    ensures settled { IfOk result (IsSettled (F.told files.old) (F.faults files.old) (F.faults files.new) (order_of (map string_bytes words.now))) }
+    ensures told { (n : List ℕ) → F.told files.new n ≡ F.told files.old n }
 {
     match request(alloc, words)? {
         Some(Asked::Use { grammar, task }) => settle_use(alloc, grammar, task_of(task), files),
@@ -128,7 +129,8 @@ fn settle_query<F: Files>(
     path: &str,
     files: &mut F,
 ) -> Result<Reply, AllocError>
-    ensures { IfOk result (IsSettled (F.told files.old) (F.faults files.old) (F.faults files.new) (query grammar.now input.now path.now)) }
+    ensures settled { IfOk result (IsSettled (F.told files.old) (F.faults files.old) (F.faults files.new) (query grammar.now input.now path.now)) }
+    ensures told { (n : List ℕ) → F.told files.new n ≡ F.told files.old n }
 {
     match path_in(alloc, path)? {
         Ok(path) => {
@@ -150,8 +152,9 @@ fn settle_view<F: Files>(
     path: Option<&str>,
     files: &mut F,
 ) -> Result<Reply, AllocError>
-    ensures { IfOk result (IsSettled (F.told files.old) (F.faults files.old) (F.faults files.new)
+    ensures settled { IfOk result (IsSettled (F.told files.old) (F.faults files.old) (F.faults files.new)
         (view grammar.now input.now (option_map (λ text. text.now) path.entry))) }
+    ensures told { (n : List ℕ) → F.told files.new n ≡ F.told files.old n }
 {
     match path {
         None => settle_whole_view(alloc, grammar, input, files),
@@ -165,7 +168,8 @@ fn settle_whole_view<F: Files>(
     input: &str,
     files: &mut F,
 ) -> Result<Reply, AllocError>
-    ensures { IfOk result (IsSettled (F.told files.old) (F.faults files.old) (F.faults files.new) (view grammar.now input.now None)) }
+    ensures settled { IfOk result (IsSettled (F.told files.old) (F.faults files.old) (F.faults files.new) (view grammar.now input.now None)) }
+    ensures told { (n : List ℕ) → F.told files.new n ≡ F.told files.old n }
 {
     let task = Task::Parse {
         input,
@@ -183,7 +187,8 @@ fn settle_picked_view<F: Files>(
     path: &str,
     files: &mut F,
 ) -> Result<Reply, AllocError>
-    ensures { IfOk result (IsSettled (F.told files.old) (F.faults files.old) (F.faults files.new) (picked_view grammar.now input.now path.now)) }
+    ensures settled { IfOk result (IsSettled (F.told files.old) (F.faults files.old) (F.faults files.new) (picked_view grammar.now input.now path.now)) }
+    ensures told { (n : List ℕ) → F.told files.new n ≡ F.told files.old n }
 {
     match path_in(alloc, path)? {
         Ok(path) => {
@@ -204,7 +209,8 @@ fn settle_load<F: Files>(
     input: &str,
     files: &mut F,
 ) -> Result<Reply, AllocError>
-    ensures { IfOk result (IsSettled (F.told files.old) (F.faults files.old) (F.faults files.new) (load table.now input.now)) }
+    ensures settled { IfOk result (IsSettled (F.told files.old) (F.faults files.old) (F.faults files.new) (load table.now input.now)) }
+    ensures told { (n : List ℕ) → F.told files.new n ≡ F.told files.old n }
 {
     match files.read_all(alloc, table, MAX_INPUT) {
         Ok(file) => load_in(alloc, &file, input, files),
@@ -219,7 +225,8 @@ fn load_in<F: Files>(
     input: &str,
     files: &mut F,
 ) -> Result<Reply, AllocError>
-    ensures { IfOk result (IsSettled (F.told files.old) (F.faults files.old) (F.faults files.new) (load_in input.now file.now)) }
+    ensures settled { IfOk result (IsSettled (F.told files.old) (F.faults files.old) (F.faults files.new) (load_in input.now file.now)) }
+    ensures told { (n : List ℕ) → F.told files.new n ≡ F.told files.old n }
 {
     match held_in(alloc, file)? {
         Ok(grammar) => parse_input(alloc, grammar, input, TREE_ROOM, Show::Lines, files),
@@ -233,7 +240,8 @@ fn settle_use<F: Files>(
     task: Task<'_>,
     files: &mut F,
 ) -> Result<Reply, AllocError>
-    ensures { IfOk result (IsSettled (F.told files.old) (F.faults files.old) (F.faults files.new) (use_order grammar.now (task_seen task.entry))) }
+    ensures settled { IfOk result (IsSettled (F.told files.old) (F.faults files.old) (F.faults files.new) (use_order grammar.now (task_seen task.entry))) }
+    ensures told { (n : List ℕ) → F.told files.new n ≡ F.told files.old n }
 {
     match kind_named(grammar) {
         Some(kind) => use_built_in(alloc, kind, task, files),
@@ -247,7 +255,9 @@ fn use_built_in<F: Files>(
     task: Task<'_>,
     files: &mut F,
 ) -> Result<Reply, AllocError>
-    ensures { IfOk result (IsSettled (F.told files.old) (F.faults files.old) (F.faults files.new) (core_of (text_of kind) (order_by (task_seen task.entry)))) }
+    ensures settled { IfOk result (IsSettled (F.told files.old) (F.faults files.old) (F.faults files.new)
+        (core_of (text_of kind) (order_by (task_seen task.entry)))) }
+    ensures told { (n : List ℕ) → F.told files.new n ≡ F.told files.old n }
 {
     text_is_shallow();
     match core_in_text(alloc, text(kind))? {
@@ -262,7 +272,9 @@ fn use_file<F: Files>(
     task: Task<'_>,
     files: &mut F,
 ) -> Result<Reply, AllocError>
-    ensures { IfOk result (IsSettled (F.told files.old) (F.faults files.old) (F.faults files.new) (core_in_file name.now (order_by (task_seen task.entry)))) }
+    ensures settled { IfOk result (IsSettled (F.told files.old) (F.faults files.old) (F.faults files.new)
+        (core_in_file name.now (order_by (task_seen task.entry)))) }
+    ensures told { (n : List ℕ) → F.told files.new n ≡ F.told files.old n }
 {
     text_is_shallow();
     match core_in_file(alloc, name, files)? {
@@ -272,7 +284,8 @@ fn use_file<F: Files>(
 }
 
 fn settle_fmt<F: Files>(alloc: Global, grammar: &str, files: &mut F) -> Result<Settled, AllocError>
-    ensures { IfOk result (λ settled. Settles (F.told files.old) (F.faults files.old) (F.faults files.new) (fmt grammar.now) (said_of settled)) }
+    ensures settled { IfOk result (λ settled. Settles (F.told files.old) (F.faults files.old) (F.faults files.new) (fmt grammar.now) (said_of settled)) }
+    ensures told { (n : List ℕ) → F.told files.new n ≡ F.told files.old n }
 {
     match kind_named(grammar) {
         Some(kind) => fmt_built_in(alloc, kind),
@@ -290,8 +303,9 @@ fn fmt_built_in(alloc: Global, kind: Kind) -> Result<Settled, AllocError>
 }
 
 fn fmt_file<F: Files>(alloc: Global, name: &str, files: &mut F) -> Result<Settled, AllocError>
-    ensures { IfOk result (λ settled. Settles (F.told files.old) (F.faults files.old) (F.faults files.new) (grammar_in_file name.now formatted)
+    ensures settled { IfOk result (λ settled. Settles (F.told files.old) (F.faults files.old) (F.faults files.new) (grammar_in_file name.now formatted)
         (said_of settled)) }
+    ensures told { (n : List ℕ) → F.told files.new n ≡ F.told files.old n }
 {
     match grammar_in_file(alloc, name, files)? {
         Ok(grammar) => format(alloc, &grammar),
@@ -304,7 +318,8 @@ fn settle_explain<F: Files>(
     grammar: &str,
     files: &mut F,
 ) -> Result<Settled, AllocError>
-    ensures { IfOk result (λ settled. Settles (F.told files.old) (F.faults files.old) (F.faults files.new) (explain grammar.now) (said_of settled)) }
+    ensures settled { IfOk result (λ settled. Settles (F.told files.old) (F.faults files.old) (F.faults files.new) (explain grammar.now) (said_of settled)) }
+    ensures told { (n : List ℕ) → F.told files.new n ≡ F.told files.old n }
 {
     match kind_named(grammar) {
         Some(kind) => explain_text(alloc, grammar, text(kind)),
@@ -313,7 +328,9 @@ fn settle_explain<F: Files>(
 }
 
 fn explain_file<F: Files>(alloc: Global, name: &str, files: &mut F) -> Result<Settled, AllocError>
-    ensures { IfOk result (λ settled. Settles (F.told files.old) (F.faults files.old) (F.faults files.new) (explain_in_file name.now) (said_of settled)) }
+    ensures settled { IfOk result (λ settled. Settles (F.told files.old) (F.faults files.old) (F.faults files.new)
+        (explain_in_file name.now) (said_of settled)) }
+    ensures told { (n : List ℕ) → F.told files.new n ≡ F.told files.old n }
 {
     match files.read_all(alloc, name, MAX_TEXT) {
         Ok(text) => explain_text(alloc, name, &text),
@@ -376,7 +393,8 @@ fn settle_task<F: Files>(
     files: &mut F,
 ) -> Result<Reply, AllocError>
     requires { AllByRecursion NestsRule core.rules }
-    ensures { IfOk result (IsSettled (F.told files.old) (F.faults files.old) (F.faults files.new) (order_by (task_seen task.entry) core)) }
+    ensures settled { IfOk result (IsSettled (F.told files.old) (F.faults files.old) (F.faults files.new) (order_by (task_seen task.entry) core)) }
+    ensures told { (n : List ℕ) → F.told files.new n ≡ F.told files.old n }
 {
     match task {
         Task::Parse { input, room, show } => parse_by(alloc, core, input, room, show, files),
@@ -408,7 +426,8 @@ fn parse_by<F: Files>(
     show: Show,
     files: &mut F,
 ) -> Result<Reply, AllocError>
-    ensures { IfOk result (IsSettled (F.told files.old) (F.faults files.old) (F.faults files.new) (parse show input.now core)) }
+    ensures settled { IfOk result (IsSettled (F.told files.old) (F.faults files.old) (F.faults files.new) (parse show input.now core)) }
+    ensures told { (n : List ℕ) → F.told files.new n ≡ F.told files.old n }
 {
     match accepted(alloc, core)? {
         Ok((checked, _)) => parse_input(alloc, checked, input, room, show, files),
@@ -424,7 +443,8 @@ fn parse_input<F: Files>(
     show: Show,
     files: &mut F,
 ) -> Result<Reply, AllocError>
-    ensures { IfOk result (IsSettled (F.told files.old) (F.faults files.old) (F.faults files.new) (parse_input show input.now grammar)) }
+    ensures settled { IfOk result (IsSettled (F.told files.old) (F.faults files.old) (F.faults files.new) (parse_input show input.now grammar)) }
+    ensures told { (n : List ℕ) → F.told files.new n ≡ F.told files.old n }
 {
     match files.read_all(alloc, input, MAX_INPUT) {
         Ok(input) => Ok(Reply::Parse(Due {
@@ -444,7 +464,8 @@ fn edit_by<F: Files>(
     script: &str,
     files: &mut F,
 ) -> Result<Reply, AllocError>
-    ensures { IfOk result (IsSettled (F.told files.old) (F.faults files.old) (F.faults files.new) (edit input.now script.now core)) }
+    ensures settled { IfOk result (IsSettled (F.told files.old) (F.faults files.old) (F.faults files.new) (edit input.now script.now core)) }
+    ensures told { (n : List ℕ) → F.told files.new n ≡ F.told files.old n }
 {
     match accepted(alloc, core)? {
         Ok((checked, _)) => edit_file(alloc, checked, input, script, files),
@@ -460,7 +481,8 @@ fn edit_file<F: Files>(
     script: &str,
     files: &mut F,
 ) -> Result<Reply, AllocError>
-    ensures { IfOk result (IsSettled (F.told files.old) (F.faults files.old) (F.faults files.new) (edit_file input.now script.now grammar)) }
+    ensures settled { IfOk result (IsSettled (F.told files.old) (F.faults files.old) (F.faults files.new) (edit_file input.now script.now grammar)) }
+    ensures told { (n : List ℕ) → F.told files.new n ≡ F.told files.old n }
 {
     match files.read_all(alloc, input, MAX_INPUT) {
         Ok(input) => edit_input(alloc, grammar, input, script, files),
@@ -476,7 +498,8 @@ fn edit_input<F: Files>(
     files: &mut F,
 ) -> Result<Reply, AllocError>
     requires { length input.items ≤ 2 ^ 30 }
-    ensures { IfOk result (IsSettled (F.told files.old) (F.faults files.old) (F.faults files.new) (edit_input script.now grammar input.items)) }
+    ensures settled { IfOk result (IsSettled (F.told files.old) (F.faults files.old) (F.faults files.new) (edit_input script.now grammar input.items)) }
+    ensures told { (n : List ℕ) → F.told files.new n ≡ F.told files.old n }
 {
     match files.read_all(alloc, script, MAX_INPUT) {
         Ok(text) => edits_of(alloc, grammar, input, &text),
@@ -522,7 +545,9 @@ fn verify_by<F: Files>(
     certificate: &str,
     files: &mut F,
 ) -> Result<Settled, AllocError>
-    ensures { IfOk result (λ settled. Settles (F.told files.old) (F.faults files.old) (F.faults files.new) (verify certificate.now core) (said_of settled)) }
+    ensures settled { IfOk result (λ settled. Settles (F.told files.old) (F.faults files.old) (F.faults files.new)
+        (verify certificate.now core) (said_of settled)) }
+    ensures told { (n : List ℕ) → F.told files.new n ≡ F.told files.old n }
 {
     match files.read_all(alloc, certificate, MAX_INPUT) {
         Ok(bytes) => judge(alloc, core, &bytes),

@@ -13,8 +13,8 @@ edit_input-requires g c =
     let whole : ReadWhole (g.F.Files.told c.args.files.now c.args.input.now) (2 ^ 30) c.in-Ok.input.items = c.in-Ok.ensures.whole in
     whole.within
 
-pub returns-in-Ok : goal.returns-in-Ok
-returns-in-Ok g c =
+pub returns-in-Ok-clause-settled : goal.returns-in-Ok-clause-settled
+returns-in-Ok-clause-settled g c =
     let told = g.F.Files.told c.args.files.now in
     let before = g.F.Files.faults c.args.files.now in
     let then = g.F.Files.told c.read_all.new.self in
@@ -30,10 +30,10 @@ returns-in-Ok g c =
     (λ reply h. settled_on told before after (edit_file name script grammar) then between after (edit_input script grammar bytes) reply
     (λ said h. read_goes_on told before after name (edit_input script grammar) said bytes whole.contents whole.within
     (settles_then told then c.read_all.ensures.told before between after (edit_input script grammar bytes) said c.read_all.ensures.counts h))
-    h) c.edit_input.ensures
+    h) c.edit_input.ensures.settled
 
-pub returns-in_ok-unread-in-Err : goal.returns-in_ok-unread-in-Err
-returns-in_ok-unread-in-Err g c =
+pub returns-in_ok-unread-in-Err-clause-settled : goal.returns-in_ok-unread-in-Err-clause-settled
+returns-in_ok-unread-in-Err-clause-settled g c =
     let told = g.F.Files.told c.args.files.now in
     let before = g.F.Files.faults c.args.files.now in
     let after = g.F.Files.faults c.read_all.new.self in

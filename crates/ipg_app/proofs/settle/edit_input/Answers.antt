@@ -9,8 +9,8 @@ use Rattle.ipg_app.proofs.Settling.{read_goes_on}
 use Rattle.ipg_app.proofs.Replying.{settled_on, unread_on}
 use Rattle.ipg_app.proofs.settle.edit_input.Goals as goal
 
-pub returns-in-Ok : goal.returns-in-Ok
-returns-in-Ok g c =
+pub returns-in-Ok-clause-settled : goal.returns-in-Ok-clause-settled
+returns-in-Ok-clause-settled g c =
     let told = g.F.Files.told c.args.files.now in
     let before = g.F.Files.faults c.args.files.now in
     let after = g.F.Files.faults c.read_all.new.self in
@@ -26,8 +26,8 @@ returns-in-Ok g c =
     (λ said is. read_goes_on told before after script (λ text. edits_of text grammar input) said bytes whole.contents whole.within is)
     (rw c.deref.ensures.value at h told before after)) c.edits_of.ensures
 
-pub returns-in_ok-unread-in-Err : goal.returns-in_ok-unread-in-Err
-returns-in_ok-unread-in-Err g c =
+pub returns-in_ok-unread-in-Err-clause-settled : goal.returns-in_ok-unread-in-Err-clause-settled
+returns-in_ok-unread-in-Err-clause-settled g c =
     let told = g.F.Files.told c.args.files.now in
     let before = g.F.Files.faults c.args.files.now in
     let after = g.F.Files.faults c.read_all.new.self in

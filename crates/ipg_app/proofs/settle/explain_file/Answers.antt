@@ -9,8 +9,8 @@ use Rattle.ipg_app.specs.Lines.{said_of}
 use Rattle.ipg_app.proofs.Settling.{goes_on}
 use Rattle.ipg_app.proofs.settle.explain_file.Goals as goal
 
-pub returns-in-Ok : goal.returns-in-Ok
-returns-in-Ok g c =
+pub returns-in-Ok-clause-settled : goal.returns-in-Ok-clause-settled
+returns-in-Ok-clause-settled g c =
     let told = g.F.Files.told c.args.files.now in
     let before = g.F.Files.faults c.args.files.now in
     let after = g.F.Files.faults c.read_all.new.self in
@@ -22,8 +22,8 @@ returns-in-Ok g c =
     (λ s h. goes_on told before after name next (said_of s) bytes whole.contents (inl (rw c.deref.ensures.value at h)))
     c.explain_text.ensures
 
-pub returns-in-Err-TooLarge : goal.returns-in-Err-TooLarge
-returns-in-Err-TooLarge g c =
+pub returns-in-Err-TooLarge-clause-settled : goal.returns-in-Err-TooLarge-clause-settled
+returns-in-Err-TooLarge-clause-settled g c =
     let told = g.F.Files.told c.args.files.now in
     let before = g.F.Files.faults c.args.files.now in
     let after = g.F.Files.faults c.read_all.new.self in

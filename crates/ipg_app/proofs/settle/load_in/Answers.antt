@@ -9,8 +9,8 @@ use Rattle.ipg_app.proofs.Settling.{held_goes_on, none_held}
 use Rattle.ipg_app.proofs.Replying.{settled_on}
 use Rattle.ipg_app.proofs.settle.load_in.Goals as goal
 
-pub returns-in-Ok : goal.returns-in-Ok
-returns-in-Ok g c =
+pub returns-in-Ok-clause-settled : goal.returns-in-Ok-clause-settled
+returns-in-Ok-clause-settled g c =
     let told = g.F.Files.told c.args.files.now in
     let before = g.F.Files.faults c.args.files.now in
     let after = g.F.Files.faults c.parse_input.new.files in
@@ -21,10 +21,10 @@ returns-in-Ok g c =
     let next = parse_input Lines input in
     IfOk-weaker c.parse_input.result (IsSettled told before after (next grammar)) (IsSettled told before after (load_in input file))
     (λ reply h. settled_on told before after (load_in input file) told before after (next grammar) reply
-    (λ said. held_goes_on told before after file next said grammar loads) h) c.parse_input.ensures
+    (λ said. held_goes_on told before after file next said grammar loads) h) c.parse_input.ensures.settled
 
-pub returns-in-Err : goal.returns-in-Err
-returns-in-Err g c =
+pub returns-in-Err-clause-settled : goal.returns-in-Err-clause-settled
+returns-in-Err-clause-settled g c =
     let told = g.F.Files.told c.args.files.now in
     let counts = g.F.Files.faults c.args.files.now in
     let file = c.args.file.now in

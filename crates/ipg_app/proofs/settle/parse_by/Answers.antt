@@ -8,8 +8,8 @@ use Rattle.ipg_app.proofs.Settling.{accepted_on, not_accepted}
 use Rattle.ipg_app.proofs.Replying.{settled_on}
 use Rattle.ipg_app.proofs.settle.parse_by.Goals as goal
 
-pub returns-in-Ok : goal.returns-in-Ok
-returns-in-Ok g c =
+pub returns-in-Ok-clause-settled : goal.returns-in-Ok-clause-settled
+returns-in-Ok-clause-settled g c =
     let told = g.F.Files.told c.args.files.now in
     let before = g.F.Files.faults c.args.files.now in
     let after = g.F.Files.faults c.parse_input.new.files in
@@ -20,10 +20,10 @@ returns-in-Ok g c =
     let checks : Checks core (Ok same) = rw c.in-Ok.is at c.in_ok-checked.ensures.checks in
     IfOk-weaker c.parse_input.result (IsSettled told before after (parse_input show input same)) (IsSettled told before after (parse show input core))
     (λ reply h. settled_on told before after (parse show input core) told before after (parse_input show input same) reply
-    (λ said. accepted_on told before after core same (parse_input show input) said checks) h) c.parse_input.ensures
+    (λ said. accepted_on told before after core same (parse_input show input) said checks) h) c.parse_input.ensures.settled
 
-pub returns-in-Err : goal.returns-in-Err
-returns-in-Err g c =
+pub returns-in-Err-clause-settled : goal.returns-in-Err-clause-settled
+returns-in-Err-clause-settled g c =
     let told = g.F.Files.told c.args.files.now in
     let counts = g.F.Files.faults c.args.files.now in
     let said = said_of c.in-Err.settled in

@@ -7,8 +7,8 @@ use Rattle.ipg_app.proofs.Settling.{read_on}
 use Rattle.ipg_app.proofs.Replying.{unread_on}
 use Rattle.ipg_app.proofs.settle.parse_input.Goals as goal
 
-pub returns-in-Ok : goal.returns-in-Ok
-returns-in-Ok g c =
+pub returns-in-Ok-clause-settled : goal.returns-in-Ok-clause-settled
+returns-in-Ok-clause-settled g c =
     let told = g.F.Files.told c.args.files.now in
     let before = g.F.Files.faults c.args.files.now in
     let after = g.F.Files.faults c.read_all.new.self in
@@ -18,8 +18,8 @@ returns-in-Ok g c =
     let whole : ReadWhole (told name) (2 ^ 30) bytes = c.in-Ok.ensures.whole in
     (whole.within, λ said h. read_on told before after name (λ input. says (parses input)) said bytes whole.contents whole.within h)
 
-pub returns-in_ok-unread-in-Err : goal.returns-in_ok-unread-in-Err
-returns-in_ok-unread-in-Err g c =
+pub returns-in_ok-unread-in-Err-clause-settled : goal.returns-in_ok-unread-in-Err-clause-settled
+returns-in_ok-unread-in-Err-clause-settled g c =
     let told = g.F.Files.told c.args.files.now in
     let before = g.F.Files.faults c.args.files.now in
     let after = g.F.Files.faults c.read_all.new.self in

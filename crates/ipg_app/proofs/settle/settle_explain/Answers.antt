@@ -10,8 +10,8 @@ use Rattle.ipg_app.specs.Lines.{said_of}
 use Rattle.ipg_app.proofs.Settling.{named_text_on, file_text_on}
 use Rattle.ipg_app.proofs.settle.settle_explain.Goals as goal
 
-pub returns-in-Some : goal.returns-in-Some
-returns-in-Some g c =
+pub returns-in-Some-clause-settled : goal.returns-in-Some-clause-settled
+returns-in-Some-clause-settled g c =
     let told = g.F.Files.told c.args.files.now in
     let counts = g.F.Files.faults c.args.files.now in
     let name = c.args.grammar.now in
@@ -22,8 +22,8 @@ returns-in-Some g c =
     (λ s h. named_text_on told counts counts kind name next (said_of s) named (inl (subst (λ text. Explains name text (said_of s)) c.text.ensures.value h)))
     c.explain_text.ensures
 
-pub returns-in-None : goal.returns-in-None
-returns-in-None g c =
+pub returns-in-None-clause-settled : goal.returns-in-None-clause-settled
+returns-in-None-clause-settled g c =
     let told = g.F.Files.told c.args.files.now in
     let before = g.F.Files.faults c.args.files.now in
     let after = g.F.Files.faults c.explain_file.new.files in
@@ -33,4 +33,4 @@ returns-in-None g c =
     IfOk-weaker c.explain_file.result (λ s. Settles told before after (explain_in_file name) (said_of s))
     (λ s. Settles told before after (explain name) (said_of s))
     (λ s h. file_text_on told before after name next (said_of s) none h)
-    c.explain_file.ensures
+    c.explain_file.ensures.settled

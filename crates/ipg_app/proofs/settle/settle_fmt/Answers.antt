@@ -9,8 +9,8 @@ use Rattle.ipg_app.specs.Lines.{said_of}
 use Rattle.ipg_app.proofs.Settling.{named_grammar_on}
 use Rattle.ipg_app.proofs.settle.settle_fmt.Goals as goal
 
-pub returns-in-Some : goal.returns-in-Some
-returns-in-Some g c =
+pub returns-in-Some-clause-settled : goal.returns-in-Some-clause-settled
+returns-in-Some-clause-settled g c =
     let told = g.F.Files.told c.args.files.now in
     let counts = g.F.Files.faults c.args.files.now in
     let name = c.args.grammar.now in

@@ -8,8 +8,8 @@ use Rattle.ipg_app.proofs.Settling.{read_goes_on, settles_then}
 use Rattle.ipg_app.proofs.Replying.{settled_on, unread_on}
 use Rattle.ipg_app.proofs.settle.settle_load.Goals as goal
 
-pub returns-in-Ok : goal.returns-in-Ok
-returns-in-Ok g c =
+pub returns-in-Ok-clause-settled : goal.returns-in-Ok-clause-settled
+returns-in-Ok-clause-settled g c =
     let told = g.F.Files.told c.args.files.now in
     let before = g.F.Files.faults c.args.files.now in
     let then = g.F.Files.told c.read_all.new.self in
@@ -23,10 +23,10 @@ returns-in-Ok g c =
     (λ reply h. settled_on told before after (load table input) then between after (load_in input bytes) reply
     (λ said h. read_goes_on told before after table (load_in input) said bytes whole.contents whole.within
     (settles_then told then c.read_all.ensures.told before between after (load_in input bytes) said c.read_all.ensures.counts h))
-    (rw c.deref.ensures.value at h)) c.load_in.ensures
+    (rw c.deref.ensures.value at h)) c.load_in.ensures.settled
 
-pub returns-in_ok-unread-in-Err : goal.returns-in_ok-unread-in-Err
-returns-in_ok-unread-in-Err g c =
+pub returns-in_ok-unread-in-Err-clause-settled : goal.returns-in_ok-unread-in-Err-clause-settled
+returns-in_ok-unread-in-Err-clause-settled g c =
     let told = g.F.Files.told c.args.files.now in
     let before = g.F.Files.faults c.args.files.now in
     let after = g.F.Files.faults c.read_all.new.self in

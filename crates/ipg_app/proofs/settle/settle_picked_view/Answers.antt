@@ -9,8 +9,8 @@ use Rattle.ipg_app.proofs.Settling.{path_goes_on, no_path}
 use Rattle.ipg_app.proofs.Replying.{settled_on}
 use Rattle.ipg_app.proofs.settle.settle_picked_view.Goals as goal
 
-pub returns-in-Ok : goal.returns-in-Ok
-returns-in-Ok g c =
+pub returns-in-Ok-clause-settled : goal.returns-in-Ok-clause-settled
+returns-in-Ok-clause-settled g c =
     let told = g.F.Files.told c.args.files.now in
     let before = g.F.Files.faults c.args.files.now in
     let after = g.F.Files.faults c.settle_use.new.files in
@@ -22,10 +22,10 @@ returns-in-Ok g c =
     let order = use_order grammar (Parse (PickedView path) input) in
     IfOk-weaker c.settle_use.result (IsSettled told before after order) (IsSettled told before after (picked_view grammar input text))
     (λ reply h. settled_on told before after (picked_view grammar input text) told before after order reply
-    (λ said. path_goes_on told before after text (λ p. use_order grammar (Parse (PickedView p) input)) said path is) h) c.settle_use.ensures
+    (λ said. path_goes_on told before after text (λ p. use_order grammar (Parse (PickedView p) input)) said path is) h) c.settle_use.ensures.settled
 
-pub returns-in-Err : goal.returns-in-Err
-returns-in-Err g c =
+pub returns-in-Err-clause-settled : goal.returns-in-Err-clause-settled
+returns-in-Err-clause-settled g c =
     let told = g.F.Files.told c.args.files.now in
     let counts = g.F.Files.faults c.args.files.now in
     let text = c.args.path.now in

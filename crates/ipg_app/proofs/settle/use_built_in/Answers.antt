@@ -14,8 +14,8 @@ settle_task-requires g c =
     let is : CoreOf (text_of c.args.kind) (Ok c.in-Ok.core) = rw c.text.ensures.value at (rw c.in-Ok.is at c.in_ok-core.ensures) in
     core_nests c.text_is_shallow.ensures.nests (text_of c.args.kind) c.in-Ok.core is
 
-pub returns-in-Ok : goal.returns-in-Ok
-returns-in-Ok g c =
+pub returns-in-Ok-clause-settled : goal.returns-in-Ok-clause-settled
+returns-in-Ok-clause-settled g c =
     let told = g.F.Files.told c.args.files.now in
     let before = g.F.Files.faults c.args.files.now in
     let after = g.F.Files.faults c.settle_task.new.files in
@@ -25,4 +25,4 @@ returns-in-Ok g c =
     let is : CoreOf text (Ok core) = rw c.text.ensures.value at (rw c.in-Ok.is at c.in_ok-core.ensures) in
     IfOk-weaker c.settle_task.result (IsSettled told before after (order core)) (IsSettled told before after (core_of text order))
     (λ reply h. settled_on told before after (core_of text order) told before after (order core) reply
-    (λ said. core_goes_on told before after text order said core is) h) c.settle_task.ensures
+    (λ said. core_goes_on told before after text order said core is) h) c.settle_task.ensures.settled

@@ -14,8 +14,8 @@ settle_task-requires g c =
     let found : FoundCore (g.F.Files.told c.args.files.now c.args.name.now) c.in-Ok.core = rw c.in-Ok.is at c.in_ok-core.ensures.found in
     core_nests c.text_is_shallow.ensures.nests found.text c.in-Ok.core found.core
 
-pub returns-in-Ok : goal.returns-in-Ok
-returns-in-Ok g c =
+pub returns-in-Ok-clause-settled : goal.returns-in-Ok-clause-settled
+returns-in-Ok-clause-settled g c =
     let told = g.F.Files.told c.args.files.now in
     let before = g.F.Files.faults c.args.files.now in
     let after = g.F.Files.faults c.settle_task.new.files in
@@ -29,10 +29,10 @@ returns-in-Ok g c =
     (λ reply h. settled_on told before after (core_in_file name (order_by task)) then between after (order_by task core) reply
     (λ said h. core_on told before after name (order_by task) said core found
     (settles_then told then c.core_in_file.ensures.told before between after (order_by task core) said c.core_in_file.ensures.counts h)) h)
-    c.settle_task.ensures
+    c.settle_task.ensures.settled
 
-pub returns-in-Err : goal.returns-in-Err
-returns-in-Err g c =
+pub returns-in-Err-clause-settled : goal.returns-in-Err-clause-settled
+returns-in-Err-clause-settled g c =
     let told = g.F.Files.told c.args.files.now in
     let before = g.F.Files.faults c.args.files.now in
     let after = g.F.Files.faults c.core_in_file.new.files in

@@ -10,8 +10,8 @@ use Rattle.ipg_app.proofs.Settling.{read_on}
 use Rattle.ipg_app.proofs.Replying.{unread_on}
 use Rattle.ipg_app.proofs.settle.verify_by.Goals as goal
 
-pub returns-in-Ok : goal.returns-in-Ok
-returns-in-Ok g c =
+pub returns-in-Ok-clause-settled : goal.returns-in-Ok-clause-settled
+returns-in-Ok-clause-settled g c =
     let told = g.F.Files.told c.args.files.now in
     let before = g.F.Files.faults c.args.files.now in
     let after = g.F.Files.faults c.read_all.new.self in
@@ -23,8 +23,8 @@ returns-in-Ok g c =
     (λ s h. read_on told before after name (λ text. judge text core) (said_of s) bytes whole.contents whole.within (rw c.deref.ensures.value at h told))
     c.judge.ensures
 
-pub returns-in-Err : goal.returns-in-Err
-returns-in-Err g c =
+pub returns-in-Err-clause-settled : goal.returns-in-Err-clause-settled
+returns-in-Err-clause-settled g c =
     let told = g.F.Files.told c.args.files.now in
     let before = g.F.Files.faults c.args.files.now in
     let after = g.F.Files.faults c.read_all.new.self in
