@@ -3,7 +3,7 @@ use Rattle.std.specs.Prelude.{◌≡◌, ◌≢◌, ◌≤◌, ℕ, List, ◌++�
 use Rattle.ipg_outside.specs.Files.{Told, untold, holds}
 use Rattle.ipg_core.specs.Grammar.{Grammar}
 use Rattle.ipg_app_words.specs.Request as words
-use Rattle.ipg_app_words.specs.Request.{Request, Use, Fmt, Trial, Query, Load, Explain, Help, Version, request_of}
+use Rattle.ipg_app_words.specs.Request.{Request, Use, Fmt, Trial, Query, View, Load, Explain, Help, Version, request_of}
 use Rattle.ipg_core.specs.Good.{Good}
 use Rattle.ipg_core.specs.Grown.{IsInput}
 use Rattle.ipg_core.specs.Meaning.{Means}

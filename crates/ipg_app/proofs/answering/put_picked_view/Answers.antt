@@ -6,7 +6,7 @@ returns-in-Ok g c src grammar one h =
     let put = rw c.in-Ok.is at (c.in_ok-put.ensures.picked src grammar one h) in
     (refl, put)
 
-pub returns : goal.returns
-returns g c src grammar one h =
+pub returns-in-Err : goal.returns-in-Err
+returns-in-Err g c src grammar one h =
     let put = rw c.in-Err.is at (c.in_ok-put.ensures.picked src grammar one h) in
     put

@@ -8,7 +8,7 @@ pub returns : goal.returns
 returns c = record {
   text = c.reply_to-answer.result.text.items;
   replies = subst (Replies (λ name. told_of name c.args.files.now) (read_words (words_of c.args.words.now)) c.reply_to-answer.result.text.items)
-  (sym c.code.ensures) c.reply_to-answer.ensures;
+      (sym c.code.ensures) c.reply_to-answer.ensures;
   whole = ap length c.as_slice-text.ensures.value;
   room = c.show.ensures ∙ ap (λ t. shown t c.args.room.now) c.as_slice-text.ensures.value;
 }
