@@ -1,0 +1,5 @@
+pub mod Texts
+pub mod Words
+pub mod Leaves
+pub mod Heads
+pub mod Trees

@@ -1,0 +1,2 @@
+-- laws: one JSON text is of one printed tree
+pub mod Laws
