@@ -1,5 +1,6 @@
 -- The calls of an evaluation that has met no failure.
-use Rattle.std.proofs.Common.{◌≡◌, ℕ, zero, suc, ◌<◌, refl, sym, ap, ◌∙◌, subst, arith, List, [], ◌∷◌, drop, Option, Some, None, Result, Ok, Err, false, length}
+use Rattle.std.proofs.Common.{◌≡◌, ℕ, zero, suc, ◌<◌, refl, sym, ap, ◌∙◌, subst, arith, List, [], ◌∷◌, drop, Option, Some, None, Result, Ok, Err, false}
+use Rattle.std.proofs.Common.{length}
 use Rattle.std.specs.Prelude.{slice_get}
 use Rattle.ipg_core.specs.declared.grammar.Sym.TheVariants.{Prim}
 use Rattle.ipg_core.specs.declared.grammar.CoreTerm.{CoreTerm}
@@ -10,7 +11,8 @@ use Rattle.ipg_core.specs.Good.{Good, AltAt}
 use Rattle.ipg_core.specs.Order.{InOrder}
 use Rattle.ipg_core.specs.Run.{Stop, NoTree, OutOfRange, Deep}
 use Rattle.ipg_core.specs.Meaning.{Call, Frame, State, start}
-use Rattle.ipg_mach_moves.specs.Moves.{Entry, Outside, OpenCall, Highest, Works, Holds, Advance, Inside, Past, advance, at_hand, first_left, runs_on, begins, turned}
+use Rattle.ipg_mach_moves.specs.Moves.{Entry, Outside, OpenCall, Highest, Works, Holds, Advance, Inside, Past, advance, at_hand, first_left, runs_on}
+use Rattle.ipg_mach_moves.specs.Moves.{begins, turned}
 use Rattle.ipg_mach_failures.specs.Failing.{term_fails, given_fails, failure_at, first_fails, call_fails}
 use Rattle.ipg_mach_failures.specs.Laws.{MayEnter, NeverNone, is_no_tree}
 use Rattle.ipg_mach_failures.proofs.Sound.{Goes, goes}

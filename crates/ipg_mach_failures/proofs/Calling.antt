@@ -22,7 +22,8 @@ use Rattle.ipg_core.specs.Touch.{width}
 use Rattle.ipg_core.specs.Environment.{Values}
 use Rattle.ipg_core.specs.Eval.{eval, is_zero}
 use Rattle.ipg_core.specs.Run.{Asked, Run, finish, stop, after, go_on, value_of, some_of, ◌>>=◌}
-use Rattle.ipg_core.specs.Meaning.{Frame, State, Place, environment, with_kid, value_in, ask, slot_on, pick_on, item_on, item_end, symbol_on, token_on, number_on, primitive_on}
+use Rattle.ipg_core.specs.Meaning.{Frame, State, Place, environment, with_kid, value_in, ask, slot_on, pick_on, item_on, item_end, symbol_on, token_on}
+use Rattle.ipg_core.specs.Meaning.{number_on, primitive_on}
 use Rattle.ipg_mach_moves.specs.Moves.{Entry, Outside, Items, Turns, OpenCall, silent, advance, at_hand, first_left}
 use Rattle.ipg_mach_failures.specs.Laws.{MayEnter}
 use Rattle.ipg_mach_failures.proofs.Alive.{Alive, Runs}

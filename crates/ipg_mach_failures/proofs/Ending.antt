@@ -1,5 +1,6 @@
 -- An evaluation that ends with no tree has met a failure; one that has ended meets none.
-use Rattle.std.proofs.Common.{◌≡◌, ◌≢◌, ℕ, zero, suc, ◌+◌, refl, sym, ap, ◌∙◌, subst, arith, List, [], ◌∷◌, Option, Some, None, Result, Ok, Err, Bool, true, false}
+use Rattle.std.proofs.Common.{◌≡◌, ◌≢◌, ℕ, zero, suc, ◌+◌, refl, sym, ap, ◌∙◌, subst, arith, List, [], ◌∷◌, Option, Some, None, Result, Ok, Err, Bool}
+use Rattle.std.proofs.Common.{true, false}
 use Rattle.std.specs.Prelude.{if◌then◌else◌}
 use Rattle.std.specs.List.{AllByRecursion}
 use Rattle.ipg_core.specs.Grammar.{Grammar, rule_at, holder_of}
@@ -7,7 +8,9 @@ use Rattle.ipg_core.specs.Good.{Good}
 use Rattle.ipg_core.specs.Tree.{Tree}
 use Rattle.ipg_core.specs.Run.{Stop, NoTree, OutOfRange, Deep, Asked}
 use Rattle.ipg_core.specs.Meaning.{Frame}
-use Rattle.ipg_mach_moves.specs.Moves.{Key, Known, OpenCall, Highest, Works, Holds, Evaluation, same_key, find, known_of, learned, learn, silent, always, at_hand, begins, alts_of, asked_part, asked_key, asks, works, returns, move_by, move, moves, opening, ended_by, ended}
+use Rattle.ipg_mach_moves.specs.Moves.{Key, Known, OpenCall, Highest, Works, Holds, Evaluation, same_key, find, known_of, learned, learn, silent, always}
+use Rattle.ipg_mach_moves.specs.Moves.{at_hand, begins, alts_of, asked_part, asked_key, asks, works, returns, move_by, move, moves, opening, ended_by}
+use Rattle.ipg_mach_moves.specs.Moves.{ended}
 use Rattle.ipg_mach_failures.specs.declared.failure.Failure.{Failure}
 use Rattle.ipg_mach_failures.specs.Failing.{call_fails}
 use Rattle.ipg_mach_failures.specs.Furthest.{highest_fails, failure_of, in_front, failures}

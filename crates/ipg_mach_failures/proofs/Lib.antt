@@ -3,3 +3,4 @@ pub mod Sound
 pub mod Alive
 pub mod Calling
 pub mod Ending
+pub mod Telling

@@ -18,10 +18,12 @@ use Rattle.ipg_core.specs.Touch.{width}
 use Rattle.ipg_core.specs.Eval.{eval, is_zero}
 use Rattle.ipg_core.specs.Environment.{Values}
 use Rattle.ipg_core.specs.Run.{Stop, NoTree, OutOfRange, Deep, Run, finish, stop, after, go_on, value_of, some_of, ◌>>=◌}
-use Rattle.ipg_core.specs.Meaning.{Call, Frame, State, Place, environment, with_kid, value_in, ask, slot_on, pick_on, item_on, item_end, symbol_on, token_on, number_on, primitive_on}
+use Rattle.ipg_core.specs.Meaning.{Call, Frame, State, Place, environment, with_kid, value_in, ask, slot_on, pick_on, item_on, item_end, symbol_on}
+use Rattle.ipg_core.specs.Meaning.{token_on, number_on, primitive_on}
 use Rattle.ipg_mach_moves.specs.Moves.{Entry, Outside, Items, Turns, lifted, advance}
 use Rattle.ipg_mach_failures.specs.declared.failure.Miss.{Miss}
-use Rattle.ipg_mach_failures.specs.Failing.{token_fails, number_fails, symbol_fails, on_value, on_interval, slot_fails, pick_fails, test_fails, bounds_fail, ends_fail, item_fails, term_fails}
+use Rattle.ipg_mach_failures.specs.Failing.{token_fails, number_fails, symbol_fails, on_value, on_interval, slot_fails, pick_fails, test_fails}
+use Rattle.ipg_mach_failures.specs.Failing.{bounds_fail, ends_fail, item_fails, term_fails}
 use Rattle.ipg_mach_failures.specs.Laws.{MayEnter, NeverNone, is_no_tree, has_none, FailsWhereNone}
 
 -- ---- one step of a run

@@ -94,7 +94,8 @@ module _ (call : Call) (f : Frame) (state : State) (u : ℕ) where
   goes_by (Items (suc n) i items) (Set attr e) may h = absurd may
   goes_by (Items (suc n) i items) (Test e) may h = absurd may
   goes_by (Items (suc n) i items) (Many one from to) may h = absurd may
-  goes_by (Turns p r items) (Many one from to) may h = repeated_goes one from to state u r items (parsed call f state u (Turns p r items) (Many one from to)).answer
+  goes_by (Turns p r items) (Many one from to) may h =
+      repeated_goes one from to state u r items (parsed call f state u (Turns p r items) (Many one from to)).answer
   goes_by (Turns p r items) (Slot slot) may h = absurd may
   goes_by (Turns p r items) (Pick cases other) may h = absurd may
   goes_by (Turns p r items) (Set attr e) may h = absurd may
