@@ -94,5 +94,5 @@ library_sources() {
 }
 
 build_library() {
-  (cd "$top/crates/ipg_c" && rt lib) </dev/null >&2 && make -s -B -C "$top/lib" >&2
+  (cd "$top/crates/ipg_c" && rt lib) </dev/null >&2 && rm -rf "$top/lib/out" && make -s -C "$top/lib" >&2
 }

@@ -13,7 +13,7 @@ command -v cc >/dev/null && command -v c++ >/dev/null && command -v python3 >/de
   skip library "a C compiler and python3"
   exit 0
 }
-make -s -B -C lib || exit 1
+rm -rf lib/out && make -s -C lib || exit 1
 out=$top/lib/out
 . dist/sources.sh
 folder=$(mktemp -d) || exit 1
@@ -59,7 +59,8 @@ else
 fi
 
 export IPG_LIBRARY=$out/libipg.so PYTHONPATH=$top/lib/python
-says "rows through python3 -m ipg" python3 .ci/rows.py python3 -m ipg
+printf '#!/bin/sh\nexec python3 -m ipg "$@"\n' >"$folder/ipg" && chmod +x "$folder/ipg"
+says "rows through python3 -m ipg" python3 .ci/rows.py "$folder/ipg"
 says "the package for Python" python3 .ci/library.py
 if command -v valgrind >/dev/null; then
   says "valgrind finds nothing in the edges" valgrind -q --error-exitcode=9 --leak-check=full "$folder/edges"
