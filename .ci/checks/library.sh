@@ -35,7 +35,6 @@ cc $flags -std=c99 lib/examples/elf_sections.c "$out/libipg.a" -o "$folder/elf_s
 c++ $flags -std=c++11 lib/examples/gif_list.cpp "$out/libipg.a" -o "$folder/gif_list" || exit 1
 cc $flags -std=c99 .ci/library_edges.c "$out/libipg.a" -o "$folder/edges" || exit 1
 cc $flags -std=c99 .ci/library_threads.c "$out/libipg.a" -lpthread -o "$folder/threads" || exit 1
-python3 formats/samples.py "$folder/samples" >/dev/null 2>&1 || mkdir -p "$folder/samples"
 printf 'GIF89a\1\0\1\0\0\0\0\x2c\3\0\4\0\1\0\1\0\0\2\2\x4c\1\0\x3b' >"$folder/one.gif"
 
 says "no name of the archive but its own is seen in libipg.so" test "$(nm -D --defined-only "$out/libipg.so" | awk '$2 == "T"' | wc -l)" -eq 1
