@@ -55,7 +55,7 @@ enum ipg_status {
 /* Runs ipg with `word_count` words (the program's name is not one of them) over `file_count` files.
  *
  * The text goes to `room` as far as that goes, and `*size` tells its length in bytes. Where it is more than `room_size`, call again with a
- * room of that size: the same words and files have the same text.
+ * room of that size.
  * Returns the status. It takes time and memory as the command does (a heap of 512 MiB at most for a tree), by `malloc`, `realloc` and
  * `free` alone, and gives all of it back before it returns.
  * Calls may run on several threads at once. No pointer may be null; `words` and `files` may have no elements. */
