@@ -68,7 +68,7 @@ fn main() {
         let numbers: Vec<u32> = line.split(' ').map(|word| word.parse().unwrap()).collect();
         let key = (numbers[0], numbers[1], numbers[2]);
         if rows.len() >= index.heads as usize {
-            index = Index::over(&rows, index.heads * 2);
+            index = Index::over(&rows, index.heads * 4);
         }
         if index.passed(&rows, key).1.is_err() {
             rows.push(key);

@@ -1,5 +1,6 @@
 -- Which chunk holds an item, and how the items of all chunks change with one of them.
-use Rattle.std.proofs.Common.{◌≡◌, ℕ, zero, suc, ◌+◌, ◌-◌, ◌*◌, ◌/◌, ◌%◌, ◌<◌, ◌≤◌, List, [], ◌∷◌, ◌++◌, inl, inr, length, get_or, refl, sym, ◌∙◌, ap, subst, arith, length-append}
+use Rattle.std.proofs.Common.{◌≡◌, ℕ, zero, suc, ◌+◌, ◌*◌, ◌/◌, ◌%◌, ◌<◌, ◌≤◌, List, [], ◌∷◌, ◌++◌, inl}
+use Rattle.std.proofs.Common.{inr, length, get_or, refl, sym, ◌∙◌, ap, subst, arith, length-append}
 use Rattle.std.specs.Prelude.{None, slice_get, slice_set}
 use Rattle.std.proofs.lemmas.List.{append-nil, append_assoc}
 use Rattle.std.proofs.lemmas.Option.{slice_get_past, slice_get_within, slice_get_cases}
@@ -28,105 +29,104 @@ module _ {X : Type 0} where
   set_right (y ∷ xs) ys (suc i) j x e = ap (λ l. y ∷ l) (set_right xs ys i j x (omega (arith, e)))
 
 module _ {T : Type 0} where
-  pub bounded : (xs : List (Filled T)) → ArePacked xs → length (joined xs) ≤ length xs * 1024
+  pub bounded : (xs : List (Filled T)) → ArePacked xs → length (joined xs) ≤ length xs * 8192
   bounded [] h = omega arith
-  bounded (x ∷ []) h = omega (arith, length-append x.items [], h.0)
+  bounded (x ∷ []) h = omega (arith, length-append x.items [], h)
   bounded (x ∷ y ∷ xs) h = omega (arith, length-append x.items (joined (y ∷ xs)), h.0, bounded (y ∷ xs) h.1)
 
-  found_in : (xs : List (Filled T)) (d : Filled T) (k i : ℕ) → ArePacked xs → k < length xs → i < 1024
-      → slice_get (joined xs) (k * 1024 + i) ≡ slice_get (get_or xs k d).items i
+  found_in : (xs : List (Filled T)) (d : Filled T) (k i : ℕ) → ArePacked xs → k < length xs → i < 8192
+      → slice_get (joined xs) (k * 8192 + i) ≡ slice_get (get_or xs k d).items i
   found_in [] d k i h lt w = absurd (omega arith)
   found_in (x ∷ []) d zero i h lt w =
-      let at : 0 * 1024 + i ≡ i = omega arith in ap (slice_get (x.items ++ [])) at ∙ ap (λ l. slice_get l i) (append-nil x.items)
+      let at : 0 * 8192 + i ≡ i = omega arith in ap (slice_get (x.items ++ [])) at ∙ ap (λ l. slice_get l i) (append-nil x.items)
   found_in (x ∷ []) d (suc k) i h lt w = absurd (omega arith)
   found_in (x ∷ y ∷ xs) d zero i h lt w =
-      let at : 0 * 1024 + i ≡ i = omega arith in
+      let at : 0 * 8192 + i ≡ i = omega arith in
       ap (slice_get (x.items ++ joined (y ∷ xs))) at ∙ get_left x.items (joined (y ∷ xs)) i (omega (arith, h.0))
   found_in (x ∷ y ∷ xs) d (suc k) i h lt w =
-      get_right x.items (joined (y ∷ xs)) (suc k * 1024 + i) (k * 1024 + i) (omega (arith, h.0)) ∙ found_in (y ∷ xs) d k i h.1 (omega arith) w
+      get_right x.items (joined (y ∷ xs)) (suc k * 8192 + i) (k * 8192 + i) (omega (arith, h.0)) ∙ found_in (y ∷ xs) d k i h.1 (omega arith) w
 
   -- the item of a place
-  pub found : (xs : List (Filled T)) (chunk : Filled T) (p : ℕ) → ArePacked xs → p / 1024 < length xs → chunk ≡ get_or xs (p / 1024) chunk
-      → slice_get chunk.items (p % 1024) ≡ slice_get (joined xs) p
+  pub found : (xs : List (Filled T)) (chunk : Filled T) (p : ℕ) → ArePacked xs → p / 8192 < length xs → chunk ≡ get_or xs (p / 8192) chunk
+      → slice_get chunk.items (p % 8192) ≡ slice_get (joined xs) p
   found xs chunk p h within here =
-      let place : p / 1024 * 1024 + p % 1024 ≡ p = omega arith in
-      let small : p % 1024 < 1024 = omega arith in
-      ap (λ (c : Filled T). slice_get c.items (p % 1024)) here ∙ sym (found_in xs chunk (p / 1024) (p % 1024) h within small) ∙ ap (slice_get (joined xs)) place
+      let place : p / 8192 * 8192 + p % 8192 ≡ p = omega arith in
+      let small : p % 8192 < 8192 = omega arith in
+      ap (λ (c : Filled T). slice_get c.items (p % 8192)) here ∙ sym (found_in xs chunk (p / 8192) (p % 8192) h within small) ∙ ap (slice_get (joined xs)) place
 
-  pub beyond : (xs : List (Filled T)) (p : ℕ) → ArePacked xs → length xs ≤ p / 1024 → None ≡ slice_get (joined xs) p
+  pub beyond : (xs : List (Filled T)) (p : ℕ) → ArePacked xs → length xs ≤ p / 8192 → None ≡ slice_get (joined xs) p
   beyond xs p h le = sym (slice_get_past (joined xs) p (omega (arith, bounded xs h, le)))
 
-  pub lies : (xs : List (Filled T)) (p : ℕ) → ArePacked xs → p < length (joined xs) → p / 1024 < length xs
+  pub lies : (xs : List (Filled T)) (p : ℕ) → ArePacked xs → p < length (joined xs) → p / 8192 < length xs
   lies xs p h lt = omega (arith, bounded xs h, lt)
 
-  pub lies_in : (xs : List (Filled T)) (chunk : Filled T) (p : ℕ) → ArePacked xs → p < length (joined xs) → chunk ≡ get_or xs (p / 1024) chunk
-      → p % 1024 < length chunk.items
+  pub lies_in : (xs : List (Filled T)) (chunk : Filled T) (p : ℕ) → ArePacked xs → p < length (joined xs) → chunk ≡ get_or xs (p / 8192) chunk
+      → p % 8192 < length chunk.items
   lies_in xs chunk p h lt here = elim (slice_get_cases (joined xs) p).1 [
-    | inl some ↦ slice_get_within chunk.items (p % 1024) some.0 (found xs chunk p h (lies xs p h lt) here ∙ some.2)
+    | inl some ↦ slice_get_within chunk.items (p % 8192) some.0 (found xs chunk p h (lies xs p h lt) here ∙ some.2)
     | inr past ↦ let le = past.0 in absurd (omega (arith, le, lt))
   ]
 
   set_in : (xs : List (Filled T)) (d c : Filled T) (k i : ℕ) (item : T) → ArePacked xs → k < length xs → i < length (get_or xs k d).items
-      → c.items ≡ slice_set (get_or xs k d).items i item → joined (slice_set xs k c) ≡ slice_set (joined xs) (k * 1024 + i) item
+      → c.items ≡ slice_set (get_or xs k d).items i item → joined (slice_set xs k c) ≡ slice_set (joined xs) (k * 8192 + i) item
   set_in [] d c k i item h lt w e = absurd (omega arith)
   set_in (x ∷ []) d c zero i item h lt w e =
-      let at : i ≡ 0 * 1024 + i = omega arith in
+      let at : i ≡ 0 * 8192 + i = omega arith in
       append-nil c.items ∙ e ∙ ap (λ l. slice_set l i item) (sym (append-nil x.items)) ∙ ap (λ n. slice_set (x.items ++ []) n item) at
   set_in (x ∷ []) d c (suc k) i item h lt w e = absurd (omega arith)
   set_in (x ∷ y ∷ xs) d c zero i item h lt w e =
-      let at : i ≡ 0 * 1024 + i = omega arith in
+      let at : i ≡ 0 * 8192 + i = omega arith in
       ap (λ l. l ++ joined (y ∷ xs)) e ∙ sym (set_left x.items (joined (y ∷ xs)) i item w) ∙ ap (λ n. slice_set (x.items ++ joined (y ∷ xs)) n item) at
   set_in (x ∷ y ∷ xs) d c (suc k) i item h lt w e =
       ap (λ l. x.items ++ l) (set_in (y ∷ xs) d c k i item h.1 (omega arith) w e)
-      ∙ sym (set_right x.items (joined (y ∷ xs)) (suc k * 1024 + i) (k * 1024 + i) item (omega (arith, h.0)))
+      ∙ sym (set_right x.items (joined (y ∷ xs)) (suc k * 8192 + i) (k * 8192 + i) item (omega (arith, h.0)))
 
   -- one item is another
-  pub set_as : (xs : List (Filled T)) (old new : Filled T) (p : ℕ) (item : T) → ArePacked xs → p < length (joined xs) → old ≡ get_or xs (p / 1024) old
-      → new.items ≡ slice_set old.items (p % 1024) item → joined (slice_set xs (p / 1024) new) ≡ slice_set (joined xs) p item
+  pub set_as : (xs : List (Filled T)) (old new : Filled T) (p : ℕ) (item : T) → ArePacked xs → p < length (joined xs) → old ≡ get_or xs (p / 8192) old
+      → new.items ≡ slice_set old.items (p % 8192) item → joined (slice_set xs (p / 8192) new) ≡ slice_set (joined xs) p item
   set_as xs old new p item h lt here e =
-      let place : p / 1024 * 1024 + p % 1024 ≡ p = omega arith in
+      let place : p / 8192 * 8192 + p % 8192 ≡ p = omega arith in
       let within = lies_in xs old p h lt here in
       let long = ap (λ (c : Filled T). length c.items) here in
-      set_in xs old new (p / 1024) (p % 1024) item h (lies xs p h lt) (omega (arith, within, long))
-      (e ∙ ap (λ (c : Filled T). slice_set c.items (p % 1024) item) here)
+      set_in xs old new (p / 8192) (p % 8192) item h (lies xs p h lt) (omega (arith, within, long))
+      (e ∙ ap (λ (c : Filled T). slice_set c.items (p % 8192) item) here)
       ∙ ap (λ n. slice_set (joined xs) n item) place
 
   packed_in : (xs : List (Filled T)) (d c : Filled T) (k : ℕ) → ArePacked xs → k < length xs → length c.items ≡ length (get_or xs k d).items
-      → c.spare ≡ (get_or xs k d).spare → ArePacked (slice_set xs k c)
-  packed_in [] d c k h lt e f = absurd (omega arith)
-  packed_in (x ∷ []) d c zero h lt e f = (omega (arith, h.0, e), omega (arith, h.1, e, f))
-  packed_in (x ∷ []) d c (suc k) h lt e f = absurd (omega arith)
-  packed_in (x ∷ y ∷ xs) d c zero h lt e f = (e ∙ h.0, h.1)
-  packed_in (x ∷ y ∷ xs) d c (suc zero) h lt e f = (h.0, packed_in (y ∷ xs) d c zero h.1 (omega arith) e f)
-  packed_in (x ∷ y ∷ xs) d c (suc (suc k)) h lt e f = (h.0, packed_in (y ∷ xs) d c (suc k) h.1 (omega arith) e f)
+      → ArePacked (slice_set xs k c)
+  packed_in [] d c k h lt e = absurd (omega arith)
+  packed_in (x ∷ []) d c zero h lt e = omega (arith, h, e)
+  packed_in (x ∷ []) d c (suc k) h lt e = absurd (omega arith)
+  packed_in (x ∷ y ∷ xs) d c zero h lt e = (e ∙ h.0, h.1)
+  packed_in (x ∷ y ∷ xs) d c (suc zero) h lt e = (h.0, packed_in (y ∷ xs) d c zero h.1 (omega arith) e)
+  packed_in (x ∷ y ∷ xs) d c (suc (suc k)) h lt e = (h.0, packed_in (y ∷ xs) d c (suc k) h.1 (omega arith) e)
 
   pub packed_as : (xs : List (Filled T)) (old new : Filled T) (k : ℕ) → ArePacked xs → k < length xs → old ≡ get_or xs k old
-      → length new.items ≡ length old.items → new.spare ≡ old.spare → ArePacked (slice_set xs k new)
-  packed_as xs old new k h lt here e f =
-      packed_in xs old new k h lt (e ∙ ap (λ (c : Filled T). length c.items) here) (f ∙ ap (λ (c : Filled T). c.spare) here)
+      → length new.items ≡ length old.items → ArePacked (slice_set xs k new)
+  packed_as xs old new k h lt here e = packed_in xs old new k h lt (e ∙ ap (λ (c : Filled T). length c.items) here)
 
-  pushed_in : (xs : List (Filled T)) (d c : Filled T) (k : ℕ) (item : T) → suc k ≡ length xs → c.items ≡ (get_or xs k d).items ++ item ∷ []
-      → joined (slice_set xs k c) ≡ joined xs ++ item ∷ []
-  pushed_in [] d c k item last e = absurd (omega (arith, last))
-  pushed_in (x ∷ []) d c zero item last e = append-nil c.items ∙ e ∙ ap (λ l. l ++ item ∷ []) (sym (append-nil x.items))
-  pushed_in (x ∷ []) d c (suc k) item last e = absurd (omega (arith, last))
-  pushed_in (x ∷ y ∷ xs) d c zero item last e = absurd (omega (arith, last))
-  pushed_in (x ∷ y ∷ xs) d c (suc k) item last e =
-      ap (λ l. x.items ++ l) (pushed_in (y ∷ xs) d c k item (omega (arith, last)) e) ∙ sym (append_assoc x.items (joined (y ∷ xs)) (item ∷ []))
+  pushed_in : (xs : List (Filled T)) (d c : Filled T) (k : ℕ) (more : List T) → suc k ≡ length xs → c.items ≡ (get_or xs k d).items ++ more
+      → joined (slice_set xs k c) ≡ joined xs ++ more
+  pushed_in [] d c k more last e = absurd (omega (arith, last))
+  pushed_in (x ∷ []) d c zero more last e = append-nil c.items ∙ e ∙ ap (λ l. l ++ more) (sym (append-nil x.items))
+  pushed_in (x ∷ []) d c (suc k) more last e = absurd (omega (arith, last))
+  pushed_in (x ∷ y ∷ xs) d c zero more last e = absurd (omega (arith, last))
+  pushed_in (x ∷ y ∷ xs) d c (suc k) more last e =
+      ap (λ l. x.items ++ l) (pushed_in (y ∷ xs) d c k more (omega (arith, last)) e) ∙ sym (append_assoc x.items (joined (y ∷ xs)) more)
 
-  -- an item more in the last chunk
-  pub pushed_as : (xs : List (Filled T)) (old new : Filled T) (k : ℕ) (item : T) → suc k ≡ length xs → old ≡ get_or xs k old
-      → new.items ≡ old.items ++ item ∷ [] → joined (slice_set xs k new) ≡ joined xs ++ item ∷ []
-  pushed_as xs old new k item last here e = pushed_in xs old new k item last (e ∙ ap (λ (c : Filled T). c.items ++ item ∷ []) here)
+  -- items more in the last chunk
+  pub pushed_as : (xs : List (Filled T)) (old new : Filled T) (k : ℕ) (more : List T) → suc k ≡ length xs → old ≡ get_or xs k old
+      → new.items ≡ old.items ++ more → joined (slice_set xs k new) ≡ joined xs ++ more
+  pushed_as xs old new k more last here e = pushed_in xs old new k more last (e ∙ ap (λ (c : Filled T). c.items ++ more) here)
 
-  pub packed_pushed : (xs : List (Filled T)) (c : Filled T) (k : ℕ) → suc k ≡ length xs → ArePacked xs → length c.items ≤ 1024
-      → c.spare ≡ 1024 - length c.items → ArePacked (slice_set xs k c)
-  packed_pushed [] c k last h le e = absurd (omega (arith, last))
-  packed_pushed (x ∷ []) c zero last h le e = (le, e)
-  packed_pushed (x ∷ []) c (suc k) last h le e = absurd (omega (arith, last))
-  packed_pushed (x ∷ y ∷ xs) c zero last h le e = absurd (omega (arith, last))
-  packed_pushed (x ∷ y ∷ xs) c (suc zero) last h le e = (h.0, packed_pushed (y ∷ xs) c zero (omega (arith, last)) h.1 le e)
-  packed_pushed (x ∷ y ∷ xs) c (suc (suc k)) last h le e = (h.0, packed_pushed (y ∷ xs) c (suc k) (omega (arith, last)) h.1 le e)
+  pub packed_pushed : (xs : List (Filled T)) (c : Filled T) (k : ℕ) → suc k ≡ length xs → ArePacked xs → length c.items ≤ 8192
+      → ArePacked (slice_set xs k c)
+  packed_pushed [] c k last h le = absurd (omega (arith, last))
+  packed_pushed (x ∷ []) c zero last h le = le
+  packed_pushed (x ∷ []) c (suc k) last h le = absurd (omega (arith, last))
+  packed_pushed (x ∷ y ∷ xs) c zero last h le = absurd (omega (arith, last))
+  packed_pushed (x ∷ y ∷ xs) c (suc zero) last h le = (h.0, packed_pushed (y ∷ xs) c zero (omega (arith, last)) h.1 le)
+  packed_pushed (x ∷ y ∷ xs) c (suc (suc k)) last h le = (h.0, packed_pushed (y ∷ xs) c (suc k) (omega (arith, last)) h.1 le)
 
   last_in : (xs : List (Filled T)) (d : Filled T) (k : ℕ) → suc k ≡ length xs → spare_in xs ≡ (get_or xs k d).spare
   last_in [] d k last = absurd (omega (arith, last))
@@ -147,28 +147,59 @@ module _ {T : Type 0} where
   some_chunk [] h = absurd (omega (arith, h))
   some_chunk (x ∷ xs) h = omega arith
 
+  pub spare_set : (xs : List (Filled T)) (c : Filled T) (k : ℕ) → suc k ≡ length xs → spare_in (slice_set xs k c) ≡ c.spare
+  spare_set [] c k last = absurd (omega (arith, last))
+  spare_set (x ∷ []) c zero last = refl
+  spare_set (x ∷ []) c (suc k) last = absurd (omega (arith, last))
+  spare_set (x ∷ y ∷ xs) c zero last = absurd (omega (arith, last))
+  spare_set (x ∷ y ∷ xs) c (suc zero) last = spare_set (y ∷ xs) c zero (omega (arith, last))
+  spare_set (x ∷ y ∷ xs) c (suc (suc k)) last = spare_set (y ∷ xs) c (suc k) (omega (arith, last))
+
+  -- the last chunk may get more room
+  pub grown_joined : (xs : List (Filled T)) (old new : Filled T) (k : ℕ) → suc k ≡ length xs → old ≡ get_or xs k old → new.items ≡ old.items
+      → joined (slice_set xs k new) ≡ joined xs
+  grown_joined xs old new k last here e = pushed_as xs old new k [] last here (e ∙ sym (append-nil old.items)) ∙ append-nil (joined xs)
+
+  -- the last chunk is full, if there is one
+  abbrev pub IsShut : List (Filled T) → Type 0
+  IsShut [] = Unit {0}
+  IsShut (x ∷ []) = 8192 ≤ length x.items
+  IsShut (x ∷ y ∷ xs) = IsShut (y ∷ xs)
+
+  pub shut_none : (xs : List (Filled T)) → length xs ≡ 0 → IsShut xs
+  shut_none [] e = tt
+  shut_none (x ∷ xs) e = absurd (omega (arith, e))
+
+  shut_in : (xs : List (Filled T)) (d : Filled T) (k : ℕ) → suc k ≡ length xs → 8192 ≤ length (get_or xs k d).items → IsShut xs
+  shut_in [] d k last h = absurd (omega (arith, last))
+  shut_in (x ∷ []) d zero last h = h
+  shut_in (x ∷ []) d (suc k) last h = absurd (omega (arith, last))
+  shut_in (x ∷ y ∷ xs) d zero last h = absurd (omega (arith, last))
+  shut_in (x ∷ y ∷ xs) d (suc k) last h = shut_in (y ∷ xs) d k (omega (arith, last)) h
+
+  pub shut_last : (xs : List (Filled T)) (chunk : Filled T) (k : ℕ) → suc k ≡ length xs → chunk ≡ get_or xs k chunk → 8192 ≤ length chunk.items → IsShut xs
+  shut_last xs chunk k last here h = let long = ap (λ (c : Filled T). length c.items) here in shut_in xs chunk k last (omega (arith, h, long))
+
   -- a chunk more, without items
   opened_in : (xs : List (Filled T)) (c : Filled T) → c.items ≡ [] → joined (xs ++ c ∷ []) ≡ joined xs
   opened_in [] c e = append-nil c.items ∙ e
   opened_in (x ∷ xs) c e = ap (λ l. x.items ++ l) (opened_in xs c e)
 
-  packed_more : (xs : List (Filled T)) (c : Filled T) → ArePacked xs → spare_in xs ≡ 0 → length c.items ≡ 0 → c.spare ≡ 1024 → ArePacked (xs ++ c ∷ [])
-  packed_more [] c h full e f = (omega (arith, e), omega (arith, e, f))
-  packed_more (x ∷ []) c h full e f = (omega (arith, h.0, h.1, full), (omega (arith, e), omega (arith, e, f)))
-  packed_more (x ∷ y ∷ xs) c h full e f = (h.0, packed_more (y ∷ xs) c h.1 full e f)
+  packed_more : (xs : List (Filled T)) (c : Filled T) → ArePacked xs → IsShut xs → length c.items ≡ 0 → ArePacked (xs ++ c ∷ [])
+  packed_more [] c h full e = omega (arith, e)
+  packed_more (x ∷ []) c h full e = (omega (arith, h, full), omega (arith, e))
+  packed_more (x ∷ y ∷ xs) c h full e = (h.0, packed_more (y ∷ xs) c h.1 full e)
 
   spare_more : (xs : List (Filled T)) (c : Filled T) → spare_in (xs ++ c ∷ []) ≡ c.spare
   spare_more [] c = refl
   spare_more (x ∷ []) c = refl
   spare_more (x ∷ y ∷ xs) c = spare_more (y ∷ xs) c
 
-  pub opened_as : (xs all : List (Filled T)) (c : Filled T) → all ≡ xs ++ c ∷ [] → c ≡ record { items = []; spare = 1024 } → joined all ≡ joined xs
-  opened_as xs all c e f = ap joined e ∙ opened_in xs c (ap (λ (c : Filled T). c.items) f)
+  pub opened_as : (xs all : List (Filled T)) (c : Filled T) → all ≡ xs ++ c ∷ [] → c.items ≡ [] → joined all ≡ joined xs
+  opened_as xs all c e f = ap joined e ∙ opened_in xs c f
 
-  pub packed_opened : (xs all : List (Filled T)) (c : Filled T) → all ≡ xs ++ c ∷ [] → c ≡ record { items = []; spare = 1024 } → ArePacked xs → spare_in xs ≡ 0
-      → ArePacked all
-  packed_opened xs all c e f h full =
-      subst ArePacked (sym e) (packed_more xs c h full (ap (λ (c : Filled T). length c.items) f) (ap (λ (c : Filled T). c.spare) f))
+  pub packed_opened : (xs all : List (Filled T)) (c : Filled T) → all ≡ xs ++ c ∷ [] → c.items ≡ [] → ArePacked xs → IsShut xs → ArePacked all
+  packed_opened xs all c e f h full = subst ArePacked (sym e) (packed_more xs c h full (ap length f))
 
-  pub spare_opened : (xs all : List (Filled T)) (c : Filled T) → all ≡ xs ++ c ∷ [] → c ≡ record { items = []; spare = 1024 } → 1 ≤ spare_in all
-  spare_opened xs all c e f = let more = ap spare_in e ∙ spare_more xs c ∙ ap (λ (c : Filled T). c.spare) f in omega (arith, more)
+  pub spare_opened : (xs all : List (Filled T)) (c : Filled T) → all ≡ xs ++ c ∷ [] → 1 ≤ c.spare → 1 ≤ spare_in all
+  spare_opened xs all c e some = let more = ap spare_in e ∙ spare_more xs c in omega (arith, more, some)

@@ -123,7 +123,8 @@ module _ (from to with : ℕ) (old new : Entries) (key : Key) (entry : Entry) (f
     at = raised from to with key
 
   -- the new map stays: the entry lies across the edit, or its key has one at its new place
-  pub leaves_one : from < key.to → (IsBehind from to with key → IsThere from (raised from to with key) old new) → IsMoved from to with (insert old key entry) new
+  pub leaves_one : from < key.to → (IsBehind from to with key → IsThere from (raised from to with key) old new)
+      → IsMoved from to with (insert old key entry) new
   leaves_one past there = record {
     kept = λ q x h le. elim (inserted old key entry q x h) [
       | inl s ↦ let e : q.to ≡ key.to = ap (λ (k : Key). k.to) s.0 in absurd (omega (arith, e, past, le))
@@ -151,7 +152,8 @@ module _ (from to with : ℕ) (old new : Entries) (key : Key) (entry : Entry) (f
     }
 
   -- where the new map has an entry of the raised key, it is one that was kept
-  pub there_by : from ≤ to → IsBehind from to with key → (x : Entry) → get new (raised from to with key) ≡ Some x → IsThere from (raised from to with key) old new
+  pub there_by : from ≤ to → IsBehind from to with key → (x : Entry) → get new (raised from to with key) ≡ Some x
+      → IsThere from (raised from to with key) old new
   there_by ordered behind x has = elim (is.only (raised from to with key) x has) [
     | inl k ↦ record { ends = k.0; entry = x; had = k.1; has = has }
     | inr c ↦ absurd (has_differs old key c.was x fresh c.had

@@ -61,7 +61,8 @@ module _ (rows : Rows) (n : ℕ) (none : Key × Entry) (lt : n < length rows) wh
   pub own_entry : (o : Option Table) → IsIndexed rows o → get (of_rows rows) (get_or rows n none).0 ≡ Some (get_or rows n none).1
   own_entry None e = let short = ap length e in absurd (omega (arith, lt, short))
   own_entry (Some table) whole =
-      got rows table (get_or rows n none).0 whole.finds ∙ ap (entry_at rows) (whole.finds n (get_or rows n none).0 lt here_key) ∙ ap (option_map (λ (k : Key × Entry). k.1)) here
+      got rows table (get_or rows n none).0 whole.finds ∙ ap (entry_at rows) (whole.finds n (get_or rows n none).0 lt here_key)
+      ∙ ap (option_map (λ (k : Key × Entry). k.1)) here
 
   pub one_more : (o : Option Table) → IsIndexed rows o
       → of_rows (take (n + 1) rows) ≡ insert (of_rows (take n rows)) (get_or rows n none).0 (get_or rows n none).1

@@ -1,5 +1,6 @@
 -- The entries in rows, each of which is found by its key.
-use Rattle.std.proofs.Common.{◌≡◌, ℕ, zero, suc, ◌+◌, ◌<◌, Bool, true, false, cond, [], ◌∷◌, ◌++◌, length, refl, sym, ap, subst, ◌∙◌, arith, below_more, length-append}
+use Rattle.std.proofs.Common.{◌≡◌, ℕ, zero, suc, ◌+◌, ◌<◌, Bool, true, false, cond, [], ◌∷◌, ◌++◌}
+use Rattle.std.proofs.Common.{length, refl, sym, ap, subst, ◌∙◌, arith, below_more, length-append}
 use Rattle.std.proofs.lemmas.Option.{slice_get_within}
 use Rattle.std.proofs.lemmas.List.{length-set}
 use Rattle.std.proofs.lemmas.Map.Entries.{place_from_lookup}
@@ -37,7 +38,8 @@ unfolding row_of
 same_row i j e = ap row_of e
 
 -- no row has a key that is not looked up
-none_at : (rows : Rows) (q : Key) (i : ℕ) (known : Key × Entry) → lookup (same_key q) rows ≡ None → slice_get rows i ≡ Some known → same_key q known.0 ≡ true → ⊥
+none_at : (rows : Rows) (q : Key) (i : ℕ) (known : Key × Entry) → lookup (same_key q) rows ≡ None → slice_get rows i ≡ Some known
+    → same_key q known.0 ≡ true → ⊥
 none_at [] q i known none at same = absurd (cc)
 none_at (x ∷ rows) q zero known none at same =
     none_first (same_key q x.0) x.1 (lookup (same_key q) rows) none (ap (λ (k : Key × Entry). same_key q k.0) (same_some x known at) ∙ same) where
@@ -59,7 +61,8 @@ got_some rows table q v finds e =
     let found = finds at.0 q (slice_get_within rows at.0 (at.1, v) at.2) (ap (option_map (λ (k : Key × Entry). k.0)) at.2 ∙ ap Some (sym own)) in
     sym (ap (entry_at rows) found ∙ ap (option_map (λ (k : Key × Entry). k.1)) at.2)
 
-got_none : (rows : Rows) (table : Table) (q : Key) (end : Reached) → lookup (same_key q) rows ≡ None → reached (key_at rows) table q ≡ end → None ≡ entry_at rows end
+got_none : (rows : Rows) (table : Table) (q : Key) (end : Reached) → lookup (same_key q) rows ≡ None → reached (key_at rows) table q ≡ end
+    → None ≡ entry_at rows end
 got_none rows table q (Row row) none ends = none_row (slice_get rows row) refl where
   none_row : (o : Option (Key × Entry)) → slice_get rows row ≡ o → None ≡ option_map (λ (k : Key × Entry). k.1) o
   none_row None e = refl
@@ -120,7 +123,8 @@ finds_pushed rows old new key entry end finds ends leads =
     r (omega (arith, lt, long)) k h
 
 -- the same rows, but one with another entry of its key
-pub keys_set : (rows : Rows) (row : ℕ) (key : Key) (entry : Entry) → key_at rows row ≡ Some key → (r : ℕ) → key_at (slice_set rows row (key, entry)) r ≡ key_at rows r
+pub keys_set : (rows : Rows) (row : ℕ) (key : Key) (entry : Entry) → key_at rows row ≡ Some key → (r : ℕ)
+    → key_at (slice_set rows row (key, entry)) r ≡ key_at rows r
 keys_set [] row key entry e r = refl
 keys_set (x ∷ rows) zero key entry e zero = sym e
 keys_set (x ∷ rows) zero key entry e (suc r) = refl
@@ -140,7 +144,8 @@ pub finds_set_as : (rows wide : Rows) (table : Table) (row : ℕ) (key : Key) (e
 finds_set_as rows wide table row key entry e finds ends =
     subst (λ (rs : Rows). Finds rs table (length rs)) (sym e) (finds_set rows table row key entry finds ends)
 
-entry_set : (rows : Rows) (row : ℕ) (key : Key) (entry : Entry) → key_at rows row ≡ Some key → slice_get (slice_set rows row (key, entry)) row ≡ Some (key, entry)
+entry_set : (rows : Rows) (row : ℕ) (key : Key) (entry : Entry) → key_at rows row ≡ Some key
+    → slice_get (slice_set rows row (key, entry)) row ≡ Some (key, entry)
 entry_set [] row key entry e = absurd (cc)
 entry_set (x ∷ rows) zero key entry e = refl
 entry_set (x ∷ rows) (suc row) key entry e = entry_set rows row key entry e

@@ -305,7 +305,8 @@ bare_way : (keys : ℕ → Option Key) (table : Table) (key : Key) (r d left cel
     → (slice_get table.below r ≡ Some None) × (d < 8)
 unfolding way
 bare_way keys table key r d zero cell e =
-    bare_end (step keys table key zero cell) (λ _. Lost) r d (λ h. (bare_at keys table key zero cell (slice_get table.cells cell) r d h).1) (λ c h. absurd (cc)) e
+    bare_end (step keys table key zero cell) (λ _. Lost) r d (λ h. (bare_at keys table key zero cell (slice_get table.cells cell) r d h).1)
+    (λ c h. absurd (cc)) e
 bare_way keys table key r d (suc left) cell e =
     bare_end (step keys table key (suc left) cell) (way keys table key left) r d
     (λ h. (bare_at keys table key (suc left) cell (slice_get table.cells cell) r d h).1) (λ c h. bare_way keys table key r d left c h) e
@@ -414,7 +415,8 @@ has_row : (keys : ℕ → Option Key) (table : Table) (key : Key) (left row : �
 unfolding HasKey
 has_row keys table key left row None e = tt
 has_row keys table key left row (Some k) e =
-    has_test keys key (same_key key k) (Stops (Row row)) (past table key left row) (λ h. e ∙ ap Some (sym (same_means key k h))) (has_past keys table key left row)
+    has_test keys key (same_key key k) (Stops (Row row)) (past table key left row) (λ h. e
+    ∙ ap Some (sym (same_means key k h))) (has_past keys table key left row)
 
 has_cell : (keys : ℕ → Option Key) (table : Table) (key : Key) (left cell : ℕ) (o : Option (Option ℕ)) → HasKey keys key (at_cell keys table key left cell o)
 unfolding HasKey

@@ -1,13 +1,17 @@
-ghost use Rattle.std.specs.Prelude.{◌≡◌, ◌-◌, ◌++◌, ◌∷◌, [], ◌<◌, ◌≤◌, length, slice_get, slice_set, option_copied, Some, IfOk};
+ghost use Rattle.std.specs.Prelude.{◌≡◌, ◌+◌, ◌++◌, ◌∷◌, [], ◌<◌, ◌≤◌, length, slice_get, slice_set, option_copied};
+ghost use Rattle.std.specs.Prelude.{replicate, Some, IfOk, OnOk, OnErr, vec_len, vec_capacity};
 ghost use Rattle.ipg_memo.specs.Chunks.{size};
 
 use std::alloc::{AllocError, Allocator};
 use std::marker::Model;
 
-/// How many items a chunk has room for.
-pub(crate) const SIZE: usize = 1024;
+/// How many items a chunk has room for at most.
+pub(crate) const SIZE: usize = 8192;
 
-/// Items in room for so many, which they never leave.
+/// So many items a small chunk has room for.
+const LEAST: usize = 64;
+
+/// Items in room for so many.
 #[derive(Drop)]
 pub(crate) struct Chunk<T, A: Allocator> {
     items: Vec<T, A>,
@@ -25,14 +29,40 @@ impl<T, A: Allocator> Model for Chunk<T, A> {
     ghost invariant = { λ a. IsSized a };
 }
 
+/// Puts an item at the end so many times, where there is room for them.
+#[inline(always)]
+fn fill<T: Copy, A: Allocator>(items: &mut Vec<T, A>, item: T, count: usize)
+    requires { vec_len items.old + count ≤ vec_capacity items.old }
+    ensures items { items.new.items ≡ items.old.items ++ replicate count item }
+    ensures capacity { vec_capacity items.new ≡ vec_capacity items.old }
+{
+    let mut done = 0;
+    while done < count {
+        items.push_reserved(item);
+        done += 1;
+    }
+}
+
 impl<T: Copy, A: Allocator + Clone + Drop> Chunk<T, A> {
-    /// A chunk without items.
-    pub(crate) fn new(alloc: A) -> Result<Chunk<T, A>, AllocError>
-        ensures { IfOk result (λ chunk. chunk ≡ record { items = []; spare = size }) }
+    /// A small chunk without items.
+    pub(crate) fn small(alloc: A) -> Result<Chunk<T, A>, AllocError>
+        ensures items { IfOk result (λ chunk. chunk.items ≡ []) }
+        ensures room { IfOk result (λ chunk. 1 ≤ chunk.spare) }
     {
         Ok(Chunk {
-            items: Vec::with_capacity(alloc, SIZE)?,
+            items: Vec::with_capacity(alloc, LEAST)?,
         })
+    }
+
+    /// A chunk without items: of full size where there is memory for that, else a small one.
+    pub(crate) fn large(alloc: &A) -> Result<Chunk<T, A>, AllocError>
+        ensures items { IfOk result (λ chunk. chunk.items ≡ []) }
+        ensures room { IfOk result (λ chunk. 1 ≤ chunk.spare) }
+    {
+        match Vec::with_capacity(alloc.clone()?, SIZE) {
+            Ok(items) => Ok(Chunk { items }),
+            Err(_) => Chunk::small(alloc.clone()?),
+        }
     }
 
     /// How many items it holds.
@@ -40,9 +70,27 @@ impl<T: Copy, A: Allocator + Clone + Drop> Chunk<T, A> {
     pub(crate) fn len(&self) -> usize
         ensures value { result ≡ length self.now.items }
         ensures within { result ≤ size }
-        ensures room { self.now.spare ≡ size - result }
     {
         self.items.len()
+    }
+
+    /// How many more items find room.
+    #[inline(always)]
+    pub(crate) fn room(&self) -> usize
+        ensures { result ≡ self.now.spare }
+    {
+        self.items.capacity() - self.items.len()
+    }
+
+    /// Makes room for twice as many items, up to the full size.
+    pub(crate) fn grow(&mut self) -> Result<(), AllocError>
+        requires { length self.old.items < size }
+        ensures kept { self.new.items ≡ self.old.items }
+        ensures ok { OnOk result (1 ≤ self.new.spare) }
+        ensures err { OnErr result (self.new ≡ self.old) }
+    {
+        let len = self.items.len();
+        self.items.reserve_exact(len.max(LEAST).min(SIZE - len))
     }
 
     /// The item at a place; None where there is none.
@@ -78,8 +126,17 @@ impl<T: Copy, A: Allocator + Clone + Drop> Chunk<T, A> {
         requires { 1 ≤ self.old.spare }
         ensures items { self.new.items ≡ self.old.items ++ item ∷ [] }
         ensures within { length self.new.items ≤ size }
-        ensures spare { self.new.spare ≡ size - length self.new.items }
     {
         self.items.push_reserved(item);
+    }
+
+    /// Puts an item at the end so many times, where there is room for them.
+    #[inline(always)]
+    pub(crate) fn fill(&mut self, item: T, count: usize)
+        requires { count ≤ self.old.spare }
+        ensures items { self.new.items ≡ self.old.items ++ replicate count item }
+        ensures within { length self.new.items ≤ size }
+    {
+        fill(&mut self.items, item, count);
     }
 }

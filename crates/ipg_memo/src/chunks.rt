@@ -1,13 +1,13 @@
-ghost use Rattle.std.specs.Prelude.{◌≡◌, ◌^◌, ◌++◌, ◌∷◌, [], ◌<◌, ◌≤◌, length, slice_get, slice_set, option_copied, Some, OnOk, OnErr};
+ghost use Rattle.std.specs.Prelude.{◌≡◌, ◌^◌, ◌++◌, ◌∷◌, [], ◌<◌, ◌≤◌, length, slice_get, slice_set, option_copied, replicate, Some, IfOk, OnOk, OnErr};
 
 use crate::chunk::{Chunk, SIZE};
 use std::alloc::{AllocError, Allocator};
 use std::marker::Model;
 
 /// So many chunks there are at most: places of items are numbers of 32 bits.
-const MOST_CHUNKS: usize = 1 << 22;
+const MOST_CHUNKS: usize = 1 << 19;
 
-/// Items in chunks that are never copied.
+/// Items in chunks. One is copied only while it grows to its full size, as the first does.
 #[derive(Drop)]
 pub(crate) struct Chunks<T, A: Allocator> {
     chunks: Vec<Chunk<T, A>, A>,
@@ -91,21 +91,50 @@ impl<T: Copy, A: Allocator + Clone + Drop> Chunks<T, A> {
         self.count = 0;
     }
 
-    /// Opens a chunk behind the full ones.
+    /// A chunk without items: small where it is the first.
+    fn another(&self) -> Result<Chunk<T, A>, AllocError>
+        ensures items { IfOk result (λ chunk. chunk.items ≡ []) }
+        ensures room { IfOk result (λ chunk. 1 ≤ chunk.spare) }
+    {
+        let alloc = self.chunks.allocator();
+        if self.chunks.is_empty() {
+            Chunk::small(alloc.clone()?)
+        } else {
+            Chunk::large(alloc)
+        }
+    }
+
+    /// Makes room in the last chunk, or opens one behind it where it is full.
     #[cold]
     #[inline(never)]
     fn open(&mut self) -> Result<(), AllocError>
-        requires { self.old.spare ≡ 0 }
         ensures kept { self.new.items ≡ self.old.items }
         ensures ok { OnOk result (1 ≤ self.new.spare) }
         ensures err { OnErr result (self.new ≡ self.old) }
     {
-        if self.chunks.len() >= MOST_CHUNKS {
+        let chunks = self.chunks.len();
+        if chunks > 0 && self.chunks[chunks - 1].len() < SIZE {
+            return self.chunks[chunks - 1].grow();
+        }
+        if chunks >= MOST_CHUNKS {
             return Err(AllocError);
         }
-        let chunk = Chunk::new(self.chunks.allocator().clone()?)?;
+        let chunk = self.another()?;
         self.chunks.push(chunk)?;
         Ok(())
+    }
+
+    /// For how many items more there is room at once.
+    #[inline(always)]
+    pub(crate) fn room(&self) -> usize
+        ensures { result ≡ self.now.spare }
+    {
+        let chunks = self.chunks.len();
+        if chunks > 0 {
+            self.chunks[chunks - 1].room()
+        } else {
+            0
+        }
     }
 
     /// Sets room aside for one item more.
@@ -115,11 +144,7 @@ impl<T: Copy, A: Allocator + Clone + Drop> Chunks<T, A> {
         ensures ok { OnOk result (1 ≤ self.new.spare) }
         ensures err { OnErr result (self.new ≡ self.old) }
     {
-        let chunks = self.chunks.len();
-        if chunks > 0 && self.chunks[chunks - 1].len() < SIZE {
-            return Ok(());
-        }
-        self.open()
+        if self.room() > 0 { Ok(()) } else { self.open() }
     }
 
     /// Puts an item at the end, which `spare` covers.
@@ -131,5 +156,17 @@ impl<T: Copy, A: Allocator + Clone + Drop> Chunks<T, A> {
         let last = self.chunks.len() - 1;
         self.chunks[last].push(item);
         self.count += 1;
+    }
+
+    /// Puts an item at the end so many times, which `spare` covers.
+    #[inline(always)]
+    pub(crate) fn fill_spare(&mut self, item: T, count: usize)
+        requires some { 1 ≤ count }
+        requires room { count ≤ self.old.spare }
+        ensures { self.new.items ≡ self.old.items ++ replicate count item }
+    {
+        let last = self.chunks.len() - 1;
+        self.chunks[last].fill(item, count);
+        self.count += count;
     }
 }

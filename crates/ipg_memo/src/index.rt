@@ -28,7 +28,7 @@ pub(crate) struct Index<A: Allocator> {
     /// The cells under rows.
     under: Chunks<Link, A>,
     /// Where the cells under each row begin.
-    below: Vec<Link, A>,
+    below: Chunks<Link, A>,
 }
 
 impl<A: Allocator> Model for Index<A> {
@@ -60,6 +60,11 @@ fn widen<A: Allocator + Clone + Drop>(cells: &mut Chunks<Link, A>) -> Result<(),
     ensures ok { OnOk result (cells.new.items ≡ cells.old.items ++ replicate 8 None) }
     ensures err { OnErr result ((count : ℕ) × (cells.new.items ≡ cells.old.items ++ replicate count None)) }
 {
+    cells.reserve()?;
+    if cells.room() >= SIDES {
+        cells.fill_spare(Link::none(), SIDES);
+        return Ok(());
+    }
     let mut count = 0;
     while count < SIDES {
         cells.reserve()?;
@@ -79,7 +84,7 @@ impl<A: Allocator + Clone + Drop> Index<A> {
         if left == 0 {
             return Step::Stops(Reached::Lost);
         }
-        match link_at(&self.below, row) {
+        match self.below.get(row).copied() {
             None => Step::Stops(Reached::Lost),
             Some(link) => match link.place() {
                 None => Step::Stops(Reached::Bare(row, side(key, left))),
@@ -119,6 +124,7 @@ impl<A: Allocator + Clone + Drop> Index<A> {
     }
 
     /// Lets a cell name another row, or none.
+    #[inline(always)]
     fn set_cell(&mut self, cell: usize, link: Link)
         requires { cell < length self.old.cells }
         ensures heads { self.new.heads ≡ self.old.heads }
@@ -172,6 +178,7 @@ impl<A: Allocator + Clone + Drop> Index<A> {
 
     /// Opens the cells under a row, and gives the place of the first.
     #[cold]
+    #[inline(never)]
     fn open(&mut self, row: usize) -> Result<usize, AllocError>
         requires { row < length self.old.below }
         ensures ok { OnOk result (self.new ≡ ways.opened self.old row) }
@@ -184,23 +191,26 @@ impl<A: Allocator + Clone + Drop> Index<A> {
             return Err(AllocError);
         }
         widen(&mut self.under)?;
-        self.below[row] = Link::to(begin);
+        self.below.set(row, Link::to(begin));
         Ok(begin)
     }
 
     /// A row more, which this cell names from now on.
+    #[inline(always)]
     fn link(&mut self, cell: usize, row: usize) -> Result<(), AllocError>
         requires cell { cell < length self.old.cells }
         requires row { row < 2 ^ 32 - 1 }
         ensures ok { OnOk result (self.new ≡ ways.linked self.old cell row) }
         ensures err { OnErr result (self.new ≡ self.old) }
     {
-        self.below.push(Link::none())?;
+        self.below.reserve()?;
+        self.below.push_spare(Link::none());
         self.set_cell(cell, Link::to(row));
         Ok(())
     }
 
     /// Lets the keys whose way ends so lead to this row.
+    #[inline(always)]
     pub(crate) fn add(&mut self, end: Reached, row: usize) -> Result<(), AllocError>
         requires ends { ways.IsEnd self.old end }
         requires free { ways.IsFree end }
@@ -233,6 +243,8 @@ impl<A: Allocator + Clone + Drop> Index<A> {
     }
 
     /// An index of these rows with so many heads.
+    #[cold]
+    #[inline(never)]
     pub(crate) fn over(rows: &Rows<A>, heads: u32, alloc: &A) -> Result<Index<A>, AllocError>
         requires enough { 16 ≤ heads }
         requires distinct { ways.AreDistinct rows.now.items }
@@ -242,7 +254,7 @@ impl<A: Allocator + Clone + Drop> Index<A> {
             heads,
             top: no_links(alloc.clone()?, heads as usize)?,
             under: Chunks::new(alloc.clone()?),
-            below: Vec::with_capacity(alloc.clone()?, heads as usize)?,
+            below: Chunks::new(alloc.clone()?),
         };
         for row in 0..rows.len() {
             index.enter_row(rows, row)?;
@@ -260,6 +272,6 @@ impl<A: Allocator + Clone + Drop> Index<A> {
         requires { 16 ≤ self.now.heads }
         ensures { 16 ≤ result }
     {
-        self.heads.saturating_mul(2)
+        self.heads.saturating_mul(4)
     }
 }

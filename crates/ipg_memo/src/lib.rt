@@ -8,7 +8,5 @@ mod link;
 mod memo;
 mod places;
 mod reached;
-#[cfg(test)]
-mod tests;
 
 pub use memo::{Entry, Key, Memo};

@@ -1,4 +1,4 @@
-ghost use Rattle.std.specs.Prelude.{◌≡◌, ◌<◌, ◌≤◌, Option, None, OnOk, OnErr, IfOk, IfSome, IfNone, length};
+ghost use Rattle.std.specs.Prelude.{◌≡◌, [], ◌<◌, ◌≤◌, Option, None, OnOk, OnErr, IfOk, IfSome, IfNone, length};
 ghost use Rattle.std.specs.FinMap as map;
 ghost use Rattle.ipg_memo.specs.Keyed.{Entries, of_rows};
 ghost use Rattle.ipg_memo.specs.Moved as edits;
@@ -72,6 +72,7 @@ fn entry_of<A: Allocator + Clone + Drop>(rows: &Rows<A>, end: Reached) -> Option
 }
 
 /// A row more, of the key whose way ended so.
+#[inline(always)]
 fn append<A: Allocator + Clone + Drop>(
     rows: &mut Rows<A>,
     index: &mut Index<A>,
@@ -94,6 +95,7 @@ fn append<A: Allocator + Clone + Drop>(
 }
 
 /// Gives a key this entry.
+#[inline(always)]
 fn enter<A: Allocator + Clone + Drop>(
     rows: &mut Rows<A>,
     index: &mut Index<A>,
@@ -111,6 +113,24 @@ fn enter<A: Allocator + Clone + Drop>(
         return Ok(());
     }
     append(rows, index, end, key, entry)
+}
+
+/// The first index, of the first key with its entry.
+#[cold]
+#[inline(never)]
+fn first<A: Allocator + Clone + Drop>(
+    rows: &mut Rows<A>,
+    key: Key,
+    entry: Entry,
+) -> Result<Index<A>, AllocError>
+    requires { rows.old.items ≡ [] }
+    ensures whole { IfOk result (λ index. IsWhole rows.new.items index (length rows.new.items)) }
+    ensures ok { OnOk result (of_rows rows.new.items ≡ map.insert (of_rows rows.old.items) key entry) }
+    ensures err { OnErr result (rows.new.items ≡ rows.old.items) }
+{
+    let mut index = Index::over(rows, LEAST_HEADS, rows.allocator())?;
+    enter(rows, &mut index, key, entry)?;
+    Ok(index)
 }
 
 /// A key behind an edit, at its new place; None for each other.
@@ -219,9 +239,7 @@ impl<A: Allocator + Clone + Drop> Memo<A> {
                 enter(&mut self.rows, index, key, entry)
             }
             None => {
-                let mut index = Index::over(&self.rows, LEAST_HEADS, self.rows.allocator())?;
-                enter(&mut self.rows, &mut index, key, entry)?;
-                self.index = Some(index);
+                self.index = Some(first(&mut self.rows, key, entry)?);
                 Ok(())
             }
         }

@@ -8,7 +8,10 @@ use std::alloc::Global;
 use std::fs::{self, OpenFile};
 use std::io::{self, ErrorKind, Read};
 
-const CHUNK: usize = 1 << 16;
+/// So many bytes are read at once at most, and at least.
+const MOST_AT_ONCE: usize = 1 << 16;
+
+const LEAST_AT_ONCE: usize = 1 << 12;
 
 /// Files of the system, of which nothing is told. One count serves all names.
 #[derive(Drop)]
@@ -63,6 +66,17 @@ fn read_file<R: std::rt::Files>(
     read_up_to(&mut file, alloc, limit, expected)
 }
 
+/// How many bytes to read at once where so many are expected. Of a pipe that is one at most, and tells nothing.
+fn at_once(expected: usize) -> usize
+    ensures { 1 ≤ result }
+{
+    if expected <= 1 {
+        MOST_AT_ONCE
+    } else {
+        expected.clamp(LEAST_AT_ONCE, MOST_AT_ONCE)
+    }
+}
+
 /// Reads all that is left, but stops after `limit + 1` bytes. Each turn takes a byte.
 fn read_up_to<F: Read>(
     file: &mut F,
@@ -78,9 +92,9 @@ fn read_up_to<F: Read>(
 {
     let wanted = limit as usize + 1;
     let mut bytes = Vec::with_capacity(alloc, expected)?;
-    let mut chunk = vec![in alloc; 0u8; CHUNK]?;
+    let mut chunk = vec![in alloc; 0u8; at_once(expected)]?;
     while bytes.len() < wanted {
-        let room = CHUNK.min(wanted - bytes.len());
+        let room = chunk.len().min(wanted - bytes.len());
         if read_more(file, &mut chunk[..room], &mut bytes)? == 0 {
             are_bytes(&bytes);
             return Ok(bytes);

@@ -11,8 +11,6 @@ mod std_sink;
 mod stored;
 mod sure_files;
 mod sure_sink;
-#[cfg(test)]
-mod tests;
 
 pub use disk::DiskFiles;
 pub use files::{FileFault, Files};

@@ -9,7 +9,7 @@ use std::marker::Model;
 use std::mem::replace;
 
 /// So many chunks may be full: a place is a number of 32 bits.
-const MOST_FULL: usize = (1 << 24) - 2;
+const MOST_FULL: usize = (1 << 19) - 2;
 
 /// Items that stay where they were put, each read by its place in the time of one step.
 #[derive(Drop)]
@@ -37,10 +37,10 @@ fn cut_in<T: Copy, A: Allocator + Clone + Drop>(
     to: usize,
 )
     requires full { AllByRecursion IsFull full.old.items }
-    requires few { length full.old.items < 2 ^ 24 - 1 }
+    requires few { length full.old.items < 2 ^ 19 - 1 }
     ensures kept { joined full.new.items ++ last.new.items ≡ take to (joined full.old.items ++ last.old.items) }
     ensures full { AllByRecursion IsFull full.new.items }
-    ensures few { length full.new.items < 2 ^ 24 - 1 }
+    ensures few { length full.new.items < 2 ^ 19 - 1 }
 {
     while to < full.len() * SIZE {
         match full.pop() {
@@ -52,7 +52,7 @@ fn cut_in<T: Copy, A: Allocator + Clone + Drop>(
 }
 
 impl<T: Copy, A: Allocator + Clone + Drop> Cells<T, A> {
-    /// No items, and room for those of a chunk.
+    /// No items, and room for those of a small chunk.
     pub fn new(alloc: A) -> Result<Cells<T, A>, AllocError>
         ensures { IfOk result (λ cells. cells.items ≡ []) }
     {
@@ -72,15 +72,17 @@ impl<T: Copy, A: Allocator + Clone + Drop> Cells<T, A> {
         }
     }
 
-    /// Opens a chunk behind a full one.
+    /// Makes room in the last chunk, or opens one behind it where it is full.
     #[cold]
     #[inline(never)]
     fn open(&mut self) -> Result<(), AllocError>
-        requires { self.old.spare ≡ 0 }
         ensures kept { self.new.items ≡ self.old.items }
         ensures ok { OnOk result (1 ≤ self.new.spare) }
         ensures err { OnErr result (self.new ≡ self.old) }
     {
+        if self.last.len() < SIZE {
+            return self.last.grow();
+        }
         if self.full.len() >= MOST_FULL {
             return Err(AllocError);
         }
@@ -98,7 +100,7 @@ impl<T: Copy, A: Allocator + Clone + Drop> Cells<T, A> {
         ensures ok { OnOk result (1 ≤ self.new.spare) }
         ensures err { OnErr result (self.new ≡ self.old) }
     {
-        if self.last.len() < SIZE {
+        if self.last.room() > 0 {
             Ok(())
         } else {
             self.open()

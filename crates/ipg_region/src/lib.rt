@@ -7,8 +7,6 @@ mod cells;
 mod chunk;
 mod region;
 mod stack;
-#[cfg(test)]
-mod tests;
 
 pub use cells::Cells;
 pub use region::{Region, RunId};

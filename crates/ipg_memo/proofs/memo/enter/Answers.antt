@@ -14,7 +14,8 @@ set-requires g c =
 
 pub returns-in-Row-clause-whole : goal.returns-in-Row-clause-whole
 returns-in-Row-clause-whole g c =
-    whole_set_as c.args.rows.now.items c.set.new.self.items c.args.index.now c.in-Row.row c.args.key c.args.entry c.set.ensures c.requires.whole (sym c.in-Row.ensures.value)
+    whole_set_as c.args.rows.now.items c.set.new.self.items c.args.index.now c.in-Row.row c.args.key c.args.entry c.set.ensures c.requires.whole
+    (sym c.in-Row.ensures.value)
 
 pub returns-in-Row-clause-ok : goal.returns-in-Row-clause-ok
 returns-in-Row-clause-ok g c =

@@ -16,6 +16,6 @@ loop-full-preserved g c =
 
 pub returns-clause-kept : goal.returns-clause-kept
 returns-clause-kept g c =
-    cut_last c.loop-full.full.items c.loop-full.last.items c.cut.new.self.items (c.len-2.result * 256) c.args.to c.loop-full.invariant.0
-    (ap (λ n. n * 256) (c.len-2.ensures ∙ c.loop-full.full.ok.0)) (omega (arith, c.loop-full-test.false, c.len.ensures, c.len-2.ensures)) c.cut.ensures
+    cut_last c.loop-full.full.items c.loop-full.last.items c.cut.new.self.items (c.len-2.result * 8192) c.args.to c.loop-full.invariant.0
+    (ap (λ n. n * 8192) (c.len-2.ensures ∙ c.loop-full.full.ok.0)) (omega (arith, c.loop-full-test.false, c.len.ensures, c.len-2.ensures)) c.cut.ensures
     ∙ c.loop-full.invariant.2

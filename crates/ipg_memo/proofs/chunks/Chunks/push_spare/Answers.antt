@@ -22,9 +22,9 @@ invariant_of-self g c =
     let seen = ap (λ held. held.spare) c.self.view_is in
     let room : 1 ≤ spare_in xs = omega (arith, seen, c.requires) in
     let last : suc (c.len-last.result - 1) ≡ length xs = omega (arith, c.len-last.ensures, c.self.inside.chunks.ok.0, some_chunk xs room) in
-    let more = ap length (pushed_as xs c.index_mut.result.now c.push.new.self k c.args.item last c.index_mut.ensures.value c.push.ensures.items) in
+    let more = ap length (pushed_as xs c.index_mut.result.now c.push.new.self k (c.args.item ∷ []) last c.index_mut.ensures.value c.push.ensures.items) in
     record {
-      packed = packed_pushed xs c.push.new.self k last c.self.invariant.packed c.push.ensures.within c.push.ensures.spare;
+      packed = packed_pushed xs c.push.new.self k last c.self.invariant.packed c.push.ensures.within;
       count = omega (arith, more, length-append (joined xs) (c.args.item ∷ []), c.self.invariant.count);
       few = omega (arith, c.self.invariant.few, length-set xs k c.push.new.self);
     }
@@ -35,5 +35,5 @@ returns g c =
     let seen = ap (λ held. held.spare) c.self.view_is in
     let room : 1 ≤ spare_in xs = omega (arith, seen, c.requires) in
     let last : suc (c.len-last.result - 1) ≡ length xs = omega (arith, c.len-last.ensures, c.self.inside.chunks.ok.0, some_chunk xs room) in
-    pushed_as xs c.index_mut.result.now c.push.new.self (c.len-last.result - 1) c.args.item last c.index_mut.ensures.value c.push.ensures.items
+    pushed_as xs c.index_mut.result.now c.push.new.self (c.len-last.result - 1) (c.args.item ∷ []) last c.index_mut.ensures.value c.push.ensures.items
     ∙ ap (λ held. held.items ++ c.args.item ∷ []) c.self.view_is

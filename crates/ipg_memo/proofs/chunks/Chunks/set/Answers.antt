@@ -24,11 +24,11 @@ invariant_of-self g c =
     let lt : c.args.at < length (joined c.self.inside.chunks.items) = omega (arith, c.requires, long) in
     record {
       packed = packed_as xs c.index_mut.result.now c.set.new.self _ c.self.invariant.packed (lies xs c.args.at c.self.invariant.packed lt)
-          c.index_mut.ensures.value (ap length c.set.ensures.items ∙ length-set c.index_mut.result.now.items _ c.args.item) c.set.ensures.spare;
+          c.index_mut.ensures.value (ap length c.set.ensures.items ∙ length-set c.index_mut.result.now.items _ c.args.item);
       count = c.self.invariant.count
           ∙ sym (ap length (set_as xs c.index_mut.result.now c.set.new.self c.args.at c.args.item c.self.invariant.packed lt c.index_mut.ensures.value
           c.set.ensures.items) ∙ length-set (joined xs) c.args.at c.args.item);
-      few = omega (arith, c.self.invariant.few, length-set xs (c.args.at / 1024) c.set.new.self);
+      few = omega (arith, c.self.invariant.few, length-set xs (c.args.at / 8192) c.set.new.self);
     }
 
 pub returns : goal.returns

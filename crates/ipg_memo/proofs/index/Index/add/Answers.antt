@@ -12,7 +12,8 @@ link-requires-clause-cell g c =
 
 pub open-requires : goal.open-requires
 open-requires g c =
-    slice_get_within c.args.self.now.below c.in-Bare.above None (bare_of c.args.self.now c.args.end c.in-Bare.above c.in-Bare.side c.requires.ends c.in-Bare.is).0
+    slice_get_within c.args.self.now.below c.in-Bare.above None (bare_of c.args.self.now c.args.end c.in-Bare.above c.in-Bare.side c.requires.ends
+    c.in-Bare.is).0
 
 pub overflow_add-begin : goal.overflow_add-begin
 overflow_add-begin g c =

@@ -8,4 +8,4 @@ pub loop-row-init : goal.loop-row-init
 loop-row-init g c =
     whole_none c.args.rows.now.items _ c.requires.enough
     ((λ i. c.in_ok-no_links.ensures i ++ (c.new.ensures i).items) ∙ append-nil (replicate c.args.heads None))
-    c.in_ok-with_capacity.ensures.items
+    (λ i. (c.new-2.ensures i).items)

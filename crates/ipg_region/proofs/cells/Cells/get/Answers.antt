@@ -13,7 +13,7 @@ returns-then-block-len g c =
 pub returns-else-block-len : goal.returns-else-block-len
 returns-else-block-len g c =
     let len = c.len-else-block-len.ensures ∙ c.self.inside.full.ok.0 in
-    found_last c.self.inside.full.items c.self.inside.last.items c.args.id.place (c.len-else-block-len.result * 256) _ c.self.invariant.full
-    (ap (λ n. n * 256) len)
+    found_last c.self.inside.full.items c.self.inside.last.items c.args.id.place (c.len-else-block-len.result * 8192) _ c.self.invariant.full
+    (ap (λ n. n * 8192) len)
     (omega (arith, c.if-block-len.false, c.len.ensures, c.len-else-block-len.ensures)) c.get-else-block-len.ensures
     ∙ ap (λ held. slice_get held.items c.args.id.place) c.self.view_is
