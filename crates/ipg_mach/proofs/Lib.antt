@@ -10,3 +10,4 @@ pub mod Remembering
 pub mod Ending
 -- what is known of the first rule on the whole input
 pub mod Verdicts
+pub mod Endings

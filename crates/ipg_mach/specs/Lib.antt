@@ -20,3 +20,5 @@ pub mod Outcome
 pub mod Verdict
 -- the term at hand as it is lent
 pub mod Scene
+-- what an evaluation has ended with
+pub mod Ended

@@ -3,6 +3,7 @@
 
 mod calls;
 mod counted;
+mod ended;
 mod frame;
 mod kept;
 mod known;
@@ -17,6 +18,7 @@ mod top;
 mod verdict;
 mod work;
 
+pub use ended::Ended;
 pub use ipg_tree_walk::{Counts, Parsed};
 pub use kept::Kept;
 pub use machine::{Machine, Remember, Turn};

@@ -180,6 +180,7 @@ impl<'m, A: Allocator + Clone + Drop> Machine<'m, A> {
     }
 
     /// One move. Where memory runs out, every later step answers so.
+    #[inline(always)]
     pub fn step(&mut self) -> Result<Turn, AllocError>
         ensures moved { (src : Source) (e : Evaluation) → IsAt src (staged self.old.work) e
             → IfOk result (λ turn. IsAt src (staged self.new.work) (move e) × (turn ≡ turn_of (ended (move e)))) }

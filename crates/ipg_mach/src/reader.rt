@@ -84,7 +84,7 @@ pub(crate) struct View<'v, 'm, A: Allocator> {
 
 impl<'v, 'm, A: Allocator + Clone + Drop> View<'v, 'm, A> {
     /// All that expressions may ask for.
-    #[inline]
+    #[inline(always)]
     pub fn now(&self) -> Now<'v, A>
         ensures { Lends self.now (lent result) }
     {

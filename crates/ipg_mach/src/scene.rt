@@ -1,6 +1,6 @@
 //! The term at hand of the highest call, with what its expressions read.
 
-ghost use Rattle.std.specs.Prelude.{◌≡◌, ◌∷◌, ℕ, List, Option, Some};
+ghost use Rattle.std.specs.Prelude.{◌≡◌, ◌∷◌, ℕ, List, length, Option, Some, IfSome};
 ghost use Rattle.ipg_mach_moves.specs.Moves.{OpenCall, Evaluation};
 ghost use Rattle.ipg_mach_nodes.specs.Stored.{Source};
 ghost use Rattle.ipg_table.specs.Rows.{HoldsInstr};
@@ -37,9 +37,10 @@ pub struct Scene<'s, A: Allocator> {
 impl<'m, A: Allocator + Clone + Drop> Reader<'m, A> {
     /// The highest call at an instruction.
     fn scene_at<'s>(&'s self, top: &'s Top<'m, A>, instr: &'s Instr) -> Scene<'s, A>
-        ensures { (src : Source) (frames : List Frame) (lower : List OpenCall) (c : OpenCall) (u : ℕ) (rest : List ℕ)
+        ensures scene { (src : Source) (frames : List Frame) (lower : List OpenCall) (c : OpenCall) (u : ℕ) (rest : List ℕ)
             → src.input ≡ self.now.input.now → IsWorking self.now.tables.now src (shown top.now) frames lower c → c.left ≡ u ∷ rest
             → HoldsInstr self.now.tables.now c.terms instr.now u → IsScene src result c }
+        ensures sized { length result.site.bytes.now ≡ result.site.size }
     {
         let frame = top.frame;
         let bytes = part(self.input, frame.from, frame.to);
@@ -69,8 +70,9 @@ impl<'m, A: Allocator + Clone + Drop> Reader<'m, A> {
 
     /// The term at hand of the highest call.
     fn scene<'s>(&'s self, top: &'s Top<'m, A>) -> Option<Scene<'s, A>>
-        ensures { (src : Source) (frames : List Frame) (lower : List OpenCall) (c : OpenCall) → src.input ≡ self.now.input.now
+        ensures scene { (src : Source) (frames : List Frame) (lower : List OpenCall) (c : OpenCall) → src.input ≡ self.now.input.now
             → IsWorking self.now.tables.now src (shown top.now) frames lower c → ShowsAtHand src result c }
+        ensures sized { IfSome result (λ s. length s.site.bytes.now ≡ s.site.size) }
     {
         match item_at(top.frame.left, 0) {
             Some(instr) => Some(self.scene_at(top, instr)),
@@ -82,7 +84,8 @@ impl<'m, A: Allocator + Clone + Drop> Reader<'m, A> {
 impl<'m, A: Allocator + Clone + Drop> Machine<'m, A> {
     /// The term at hand of the highest call; None where that holds its answer. Takes no memory.
     pub fn scene(&self) -> Option<Scene<'_, A>>
-        ensures { (src : Source) (e : Evaluation) → IsAt src (staged self.now.work) e → IsSceneOf src result e.highest }
+        ensures scene { (src : Source) (e : Evaluation) → IsAt src (staged self.now.work) e → IsSceneOf src result e.highest }
+        ensures sized { IfSome result (λ s. length s.site.bytes.now ≡ s.site.size) }
     {
         match self.work.top.answer {
             Some(_) => None,

@@ -181,6 +181,7 @@ impl<'m, A: Allocator + Clone + Drop> Work<'m, A> {
     }
 
     /// One move of the open evaluation; none where it has ended.
+    #[inline(always)]
     pub fn step(&mut self) -> Result<(), AllocError>
         ensures { (src : Source) (e : Evaluation) → IsAt src (staged self.old) e → OnOk result (IsAt src (staged self.new) (move e)) }
     {

@@ -47,7 +47,8 @@ module _ (s : List ℕ) (high : ℕ) (kept : List Key) where
     pub grown : Grown g s high kept own tally keys counted more
     pub back : Back g answer low lower key at known keys later more
 
-  pub back_here : (g : Grammar) (answer : Result Tree Stop) (lower : List OpenCall) (at : Key) (known : Known) (keys : List Key) → Right g s high kept known keys
+  pub back_here : (g : Grammar) (answer : Result Tree Stop) (lower : List OpenCall) (at : Key) (known : Known) (keys : List Key)
+      → Right g s high kept known keys
       → Back g answer lower lower at at known keys known keys
   back_here g (Ok tree) lower at known keys right = record { place = refl; same = refl; learnt = learnt_none g s high kept known keys right }
   back_here g (Err NoTree) lower at known keys right = record { place = refl; same = refl; learnt = learnt_none g s high kept known keys right }

@@ -1,7 +1,8 @@
 //! Laws of what an evaluation counts, each the contract of a function that calls at most the laws it stands on.
 
 ghost use Rattle.ipg_mach_count_laws.specs.Laws.{AllWhereNoneKept, CountsOver, CountsWithMemo, CountsWithoutMemo, DeepestOver};
-ghost use Rattle.ipg_mach_count_laws.specs.Laws.{FewerWhereMoreKept, FreshAtAnyHeight, FreshLieInside, KeysAreKnown, KnownAtEnd, NoneWhereFirstKept, OneFresh, OneReach};
+ghost use Rattle.ipg_mach_count_laws.specs.Laws.{FewerWhereMoreKept, FreshAtAnyHeight, FreshLieInside, KeysAreKnown};
+ghost use Rattle.ipg_mach_count_laws.specs.Laws.{KnownAtEnd, NoneWhereFirstKept, OneFresh, OneReach};
 
 use ipg_core::laws::{asks_what_fits, heights_agree, turns_suffice};
 use ipg_mach_moves::laws::parses_by_one_call;

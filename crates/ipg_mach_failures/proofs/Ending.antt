@@ -12,8 +12,11 @@ use Rattle.ipg_mach_moves.specs.Moves.{Key, Known, OpenCall, Highest, Works, Hol
 use Rattle.ipg_mach_moves.specs.Moves.{at_hand, begins, alts_of, asked_part, asked_key, asks, works, returns, move_by, move, moves, opening, ended_by}
 use Rattle.ipg_mach_moves.specs.Moves.{ended}
 use Rattle.ipg_mach_failures.specs.declared.failure.Failure.{Failure}
+use Rattle.ipg_mach_failures.specs.declared.story.Call.{Call}
+use Rattle.ipg_mach_failures.specs.declared.story.Story.{Story}
 use Rattle.ipg_mach_failures.specs.Failing.{call_fails}
-use Rattle.ipg_mach_failures.specs.Furthest.{highest_fails, failure_of, in_front, failures}
+use Rattle.ipg_mach_failures.specs.Chain.{calls_of}
+use Rattle.ipg_mach_failures.specs.Furthest.{highest_fails, failure_of, story_with, story_of, in_front, stories}
 use Rattle.ipg_mach_failures.specs.Laws.{is_no_tree, SomeWhereNone, NoneBehindEnd}
 use Rattle.ipg_mach_failures.proofs.Alive.{Alive, HasSome, onward, begins_alive}
 use Rattle.ipg_mach_failures.proofs.Calling.{callee_there}
@@ -105,15 +108,16 @@ module _ (g : Grammar) (good : Good g) where
   unfolding move
   move_sound e sound none = move_sound_by e e.highest sound sound.highest none
 
-  none_first : (failure : Option Failure) (met : List Failure) → in_front failure met ≡ [] → (failure ≡ None) × (met ≡ [])
-  none_first None met e = (refl, e)
-  none_first (Some failure) met e = absurd (cc)
+  none_first : (calls : List Call) (failure : Option Failure) (met : List Story) → in_front (story_with calls failure) met ≡ []
+      → (failure ≡ None) × (met ≡ [])
+  none_first calls None met e = (refl, e)
+  none_first calls (Some failure) met e = absurd (cc)
 
-  moves_sound : (n : ℕ) (e : Evaluation) → Sound g e → failures n e ≡ [] → Sound g (moves n e)
-  unfolding moves failures
+  moves_sound : (n : ℕ) (e : Evaluation) → Sound g e → stories n e ≡ [] → Sound g (moves n e)
+  unfolding moves stories
   moves_sound zero e sound none = sound
   moves_sound (suc n) e sound none =
-      let parts = none_first (failure_of e) (failures n (move e)) none in moves_sound n (move e) (move_sound e sound parts.0) parts.1
+      let parts = none_first (calls_of e) (failure_of e) (stories n (move e)) none in moves_sound n (move e) (move_sound e sound parts.0) parts.1
 
   opens : (s : List ℕ) (known : Option Known) → NoneKnown known → Sound g (opening g s known)
   unfolding opening
@@ -157,17 +161,17 @@ stays_by e (Holds key (Err NoTree)) (c ∷ lower) answer is ends = absurd (cc)
 stays_by e (Holds key (Err Deep)) [] answer is ends = rw is refl
 stays_by e (Holds key (Err Deep)) (c ∷ lower) answer is ends = absurd (cc)
 
-none_behind : (k : ℕ) (e : Evaluation) (answer : Result Tree Stop) → ended e ≡ Some answer → failures k e ≡ []
-unfolding failures move
+none_behind : (k : ℕ) (e : Evaluation) (answer : Result Tree Stop) → ended e ≡ Some answer → stories k e ≡ []
+unfolding stories move
 none_behind zero e answer ends = refl
 none_behind (suc k) e answer ends =
     let stays : move e ≡ e = stays_by e e.highest e.lower answer refl ends in
-    ap (λ f. in_front f (failures k (move e))) (quiet_by e.lower e.highest answer ends)
-    ∙ ap (failures k) stays ∙ none_behind k e answer ends
+    ap (λ f. in_front (story_with (calls_of e) f) (stories k (move e))) (quiet_by e.lower e.highest answer ends)
+    ∙ ap (stories k) stays ∙ none_behind k e answer ends
 
 pub none_behind_end : NoneBehindEnd
-unfolding failures moves
-none_behind_end e answer zero k ends = let is : zero + k ≡ k = omega arith in ap (λ m. failures m e) is ∙ none_behind k e answer ends
+unfolding stories moves
+none_behind_end e answer zero k ends = let is : zero + k ≡ k = omega arith in ap (λ m. stories m e) is ∙ none_behind k e answer ends
 none_behind_end e answer (suc n) k ends =
     let is : suc n + k ≡ suc (n + k) = omega arith in
-    ap (λ m. failures m e) is ∙ ap (in_front (failure_of e)) (none_behind_end (move e) answer n k ends)
+    ap (λ m. stories m e) is ∙ ap (in_front (story_of e)) (none_behind_end (move e) answer n k ends)

@@ -1,8 +1,11 @@
--- The failures that an evaluation meets, and the furthest of them.
+-- The failures that an evaluation meets, each with the calls that are open then, and the furthest of them.
 use Rattle.std.specs.Prelude.{ℕ, zero, suc, ◌+◌, List, [], ◌∷◌, ◌++◌, length, Option, Some, None, Bool, false, nat_eq, nat_lt, if◌then◌else◌, ◌&&◌, ◌||◌}
 use Rattle.ipg_mach_moves.specs.Moves.{Evaluation, Highest, Works, Holds, move}
 use Rattle.ipg_mach_failures.specs.declared.failure.Failure.{Failure}
+use Rattle.ipg_mach_failures.specs.declared.story.Call.{Call}
+use Rattle.ipg_mach_failures.specs.declared.story.Story.{Story}
 use Rattle.ipg_mach_failures.specs.Failing.{call_fails}
+use Rattle.ipg_mach_failures.specs.Chain.{calls_of, story}
 
 abbrev pub highest_fails : Highest → Option Failure
 highest_fails (Works c) = call_fails c
@@ -12,14 +15,22 @@ highest_fails (Holds key answer) = None
 abbrev pub failure_of : Evaluation → Option Failure
 failure_of e = highest_fails e.highest
 
-abbrev pub in_front : Option Failure → List Failure → List Failure
+abbrev pub story_with : List Call → Option Failure → Option Story
+story_with calls None = None
+story_with calls (Some failure) = Some (story calls failure)
+
+-- with the calls that are open below the highest one
+abbrev pub story_of : Evaluation → Option Story
+story_of e = story_with (calls_of e) (failure_of e)
+
+abbrev pub in_front : Option Story → List Story → List Story
 in_front None met = met
-in_front (Some failure) met = failure ∷ met
+in_front (Some story) met = story ∷ met
 
 -- those that n moves meet, in order
-unfoldable pub failures : ℕ → Evaluation → List Failure
-failures zero e = []
-failures (suc n) e = in_front (failure_of e) (failures n (move e))
+unfoldable pub stories : ℕ → Evaluation → List Story
+stories zero e = []
+stories (suc n) e = in_front (story_of e) (stories n (move e))
 
 -- ---- the furthest
 
@@ -27,49 +38,49 @@ failures (suc n) e = in_front (failure_of e) (failures n (move e))
 abbrev pub alike : Failure → Failure → Bool
 alike a b = nat_eq a.rule b.rule && nat_eq a.alt b.alt && nat_eq a.term b.term && nat_eq a.branch b.branch
 
-abbrev pub is_told : List Failure → Failure → Bool
+abbrev pub is_told : List Story → Failure → Bool
 is_told [] failure = false
-is_told (one ∷ told) failure = alike one failure || is_told told failure
+is_told (one ∷ told) failure = alike one.failure failure || is_told told failure
 
 -- those at the greatest place, in the order in which they were met, each once, the first eight; and how often others were
 -- met there
 pub record Furthest : Type 0 where
-  pub told : List Failure
+  pub told : List Story
   pub more : ℕ
 
 abbrev pub none_met : Furthest
 none_met = record { told = []; more = 0 }
 
-abbrev pub only : Failure → Furthest
-only failure = record { told = failure ∷ []; more = 0 }
+abbrev pub only : Story → Furthest
+only story = record { told = story ∷ []; more = 0 }
 
 -- one more at the same place
-abbrev pub with_one : Furthest → Failure → Furthest
-with_one f failure =
-    if is_told f.told failure then f
-    else if nat_lt (length f.told) 8 then record { told = f.told ++ failure ∷ []; more = f.more }
+abbrev pub with_one : Furthest → Story → Furthest
+with_one f story =
+    if is_told f.told story.failure then f
+    else if nat_lt (length f.told) 8 then record { told = f.told ++ story ∷ []; more = f.more }
     else record { told = f.told; more = f.more + 1 }
 
 -- one more, where those so far are at this place
-abbrev pub further : Furthest → ℕ → Failure → Furthest
-further f place failure =
-    if nat_lt failure.place place then f
-    else if nat_lt place failure.place then only failure
-    else with_one f failure
+abbrev pub further : Furthest → ℕ → Story → Furthest
+further f place story =
+    if nat_lt story.failure.place place then f
+    else if nat_lt place story.failure.place then only story
+    else with_one f story
 
 -- the place is that of the first
-abbrev pub after : Furthest → List Failure → Failure → Furthest
-after f [] failure = only failure
-after f (one ∷ told) failure = further f one.place failure
+abbrev pub after : Furthest → List Story → Story → Furthest
+after f [] story = only story
+after f (one ∷ told) story = further f one.failure.place story
 
-abbrev pub furthest_with : Furthest → Option Failure → Furthest
+abbrev pub furthest_with : Furthest → Option Story → Furthest
 furthest_with f None = f
-furthest_with f (Some failure) = after f f.told failure
+furthest_with f (Some story) = after f f.told story
 
-abbrev pub furthest_from : Furthest → List Failure → Furthest
+abbrev pub furthest_from : Furthest → List Story → Furthest
 furthest_from f [] = f
-furthest_from f (failure ∷ met) = furthest_from (furthest_with f (Some failure)) met
+furthest_from f (story ∷ met) = furthest_from (furthest_with f (Some story)) met
 
 -- of failures in the order in which they were met
-abbrev pub furthest : List Failure → Furthest
+abbrev pub furthest : List Story → Furthest
 furthest met = furthest_from none_met met

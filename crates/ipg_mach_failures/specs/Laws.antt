@@ -10,8 +10,8 @@ use Rattle.ipg_core.specs.Run.{Stop, NoTree, OutOfRange, Deep}
 use Rattle.ipg_core.specs.Meaning.{Call, Frame, State}
 use Rattle.ipg_mach_moves.specs.Moves.{Entry, Outside, Items, Turns, Key, Known, Evaluation, parsed, advance, known_of, moves, opening, ended}
 use Rattle.ipg_mach_failures.specs.Failing.{term_fails}
-use Rattle.ipg_mach_failures.specs.declared.failure.Failure.{Failure}
-use Rattle.ipg_mach_failures.specs.Furthest.{failures, alike, is_told, Furthest, furthest}
+use Rattle.ipg_mach_failures.specs.declared.story.Story.{Story}
+use Rattle.ipg_mach_failures.specs.Furthest.{stories, alike, is_told, Furthest, furthest}
 
 -- a term may be entered so
 abbrev pub MayEnter : Entry → CoreTerm → Type 0
@@ -44,32 +44,32 @@ FailsWhereNone = (call : Call) (f : Frame) (state : State) (u : ℕ) (entry : En
 -- without answers of calls that have no tree, an evaluation that ends with no tree has met a failure
 abbrev pub SomeWhereNone : Type 0
 SomeWhereNone = (g : Grammar) (s : List ℕ) (known : Option Known) (n : ℕ) → Good g → ((key : Key) → known_of known key ≢ Some (Err NoTree))
-    → ended (moves n (opening g s known)) ≡ Some (Err NoTree) → failures n (opening g s known) ≢ []
+    → ended (moves n (opening g s known)) ≡ Some (Err NoTree) → stories n (opening g s known) ≢ []
 
 -- it meets none once it has ended
 abbrev pub NoneBehindEnd : Type 0
-NoneBehindEnd = (e : Evaluation) (answer : Result Tree Stop) (n k : ℕ) → ended (moves n e) ≡ Some answer → failures (n + k) e ≡ failures n e
+NoneBehindEnd = (e : Evaluation) (answer : Result Tree Stop) (n k : ℕ) → ended (moves n e) ≡ Some answer → stories (n + k) e ≡ stories n e
 
 -- ---- the furthest
 
-abbrev pub Has : List Failure → Failure → Type 0
+abbrev pub Has : List Story → Story → Type 0
 Has [] one = ⊥
 Has (first ∷ met) one = (first ≡ one) ⊎ Has met one
 
-abbrev pub AreUnlike : List Failure → Type 0
+abbrev pub AreUnlike : List Story → Type 0
 AreUnlike [] = Unit {0}
-AreUnlike (one ∷ told) = ((other : Failure) → Has told other → alike one other ≡ false) × AreUnlike told
+AreUnlike (one ∷ told) = ((other : Story) → Has told other → alike one.failure other.failure ≡ false) × AreUnlike told
 
 -- what is told of failures that were met is met at this place, none was met further, and no two that are told are alike; eight
 -- are told at most, and where there are no more, each that was met there is told, or one alike
-pub record AreFurthest (met : List Failure) (f : Furthest) (place : ℕ) : Type 0 where
-  pub told : (one : Failure) → Has f.told one → Has met one × (one.place ≡ place)
-  pub greatest : (one : Failure) → Has met one → one.place ≤ place
-  pub all : (one : Failure) → Has met one → one.place ≡ place → f.more ≡ 0 → is_told f.told one ≡ true
+pub record AreFurthest (met : List Story) (f : Furthest) (place : ℕ) : Type 0 where
+  pub told : (one : Story) → Has f.told one → Has met one × (one.failure.place ≡ place)
+  pub greatest : (one : Story) → Has met one → one.failure.place ≤ place
+  pub all : (one : Story) → Has met one → one.failure.place ≡ place → f.more ≡ 0 → is_told f.told one.failure ≡ true
   pub unlike : AreUnlike f.told
   pub few : length f.told ≤ 8
   pub some : f.told ≢ []
 
 -- so are the furthest of failures, where one was met
 abbrev pub FurthestAreFurthest : Type 0
-FurthestAreFurthest = (first : Failure) (met : List Failure) → (place : ℕ) × AreFurthest (first ∷ met) (furthest (first ∷ met)) place
+FurthestAreFurthest = (first : Story) (met : List Story) → (place : ℕ) × AreFurthest (first ∷ met) (furthest (first ∷ met)) place

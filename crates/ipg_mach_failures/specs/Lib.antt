@@ -1,5 +1,7 @@
 -- when a term fails by itself, why, and where
 pub mod Failing
+-- the calls that are open, and which of them are shown
+pub mod Chain
 -- the failures that an evaluation meets, and the furthest of them
 pub mod Furthest
 -- what holds of them

@@ -1,7 +1,9 @@
-//! The furthest failures of an evaluation: where the input stopped being what the grammar wants.
+//! The furthest failures of an evaluation: where the input stopped being what the grammar wants, and the calls that were open.
 #![tactic(auto)]
 
 mod failure;
 pub mod laws;
+mod story;
 
 pub use failure::{Cause, Failure, Miss};
+pub use story::{Call, Calls, Story};

@@ -4,8 +4,6 @@
 mod kid;
 pub mod laws;
 mod store;
-#[cfg(test)]
-mod tests;
 
 pub use ipg_region::RunId;
 pub use kid::{Head, Kid, Node};

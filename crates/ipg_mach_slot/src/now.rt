@@ -95,6 +95,7 @@ impl<'m, A: Allocator + Clone + Drop> Now<'m, A> {
     }
 
     /// A field of the result of a term that has run, read by a symbol.
+    #[inline(always)]
     fn seen_done(&self, term: u32, sym: &Sym, field: CoreField) -> Option<i64>
         ensures { (src : Source) (at : ℕ) (results : List (Option core.Done)) (g : Grammar) → StandFor self.now.tables.now g
             → HasRun (lent self.now) src at results → result ≡ core.seen g.names sym.now field (core.done_at results term) }
@@ -137,6 +138,7 @@ impl<'m, A: Allocator + Clone + Drop> Results for Now<'m, A> {
         }
     }
 
+    #[inline(always)]
     fn seen(&self, term: u32, sym: &Sym, field: CoreField) -> Option<i64> {
         match self.running_at(term) {
             Some(_) => None,

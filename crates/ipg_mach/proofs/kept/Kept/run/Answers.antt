@@ -16,7 +16,8 @@ returns-in-Some g c grammar known answer stand right knows means =
     let there = verdicts.at_first src st input c.first_key-key.result c.in-Some.entry known c.first_key-key.ensures here in
     let had = verdicts.had src st (record { rule = 0; from = 0; to = length input }) c.in-Some.entry _ there in
     let same = verdicts.known_means grammar input c.heights_agree.ensures known answer had.0 right means had.1 in
-    let entry = subst (λ found. IsEntryOf src st (record { rule = 0; from = 0; to = length input }) (Some c.in-Some.entry) found) (had.1 ∙ ap Some same) there in (
+    let entry = subst (λ found. IsEntryOf src st (record { rule = 0; from = 0; to = length input }) (Some c.in-Some.entry) found) (had.1
+    ∙ ap Some same) there in (
       record { bodies = 0; hits = 1; deepest = 0 },
       known,
       inl (record { kept = had.1 ∙ ap Some same; counts = refl; same = refl }),

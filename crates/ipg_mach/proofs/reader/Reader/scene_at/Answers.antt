@@ -9,8 +9,8 @@ use Rattle.ipg_mach.proofs.Reading as reading
 use Rattle.ipg_mach.proofs.Working as working
 use Rattle.ipg_mach.proofs.reader.Reader.scene_at.Goals as goal
 
-pub returns : goal.returns
-returns g c src frames lower call u rest input work is_left holds =
+pub returns-clause-scene : goal.returns-clause-scene
+returns-clause-scene g c src frames lower call u rest input work is_left holds =
     let t = c.args.self.now.tables.now in
     let top = c.args.top.now in
     let frame = top.frame in

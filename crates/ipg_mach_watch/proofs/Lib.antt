@@ -1,0 +1,11 @@
+pub mod Agreeing
+pub mod Items
+pub mod Values
+pub mod Extents
+pub mod Steps
+pub mod Telling
+pub mod Behind
+pub mod Following
+pub mod Moving
+pub mod Showing
+pub mod Present
