@@ -1,0 +1,11 @@
+pub mod Parts
+pub mod Plain
+pub mod Settled
+pub mod Stays
+pub mod Leads
+pub mod Known
+pub mod Range
+pub mod Open
+pub mod Step
+pub mod Beside
+pub mod Leaving

@@ -1,0 +1,2 @@
+-- what is told with a memo and without
+pub mod Laws
