@@ -14,7 +14,7 @@ use Rattle.ipg_tree_walk.specs.Visits.{Seen, kid_visits, kids_visits, visits, fr
 use Rattle.ipg_tree_walk.specs.Left.{NodeOf, StandsNode, Shows}
 use Rattle.ipg_tree_walk.specs.Parse.{Walked, Left}
 use Rattle.ipg_outside.specs.Sink.{Output}
-use Rattle.ipg_tree.proofs.Putting.{Progress, begun}
+use Rattle.ipg_tree.specs.Putting.{Progress, begun}
 use Rattle.ipg_tree.specs.Line.{line_of, lines_of, head_line, child_line}
 
 module _ (g : Grammar) where

@@ -1,5 +1,7 @@
 -- a text that was put into a sink
 pub mod Puts
+-- texts that were put one behind another: for proofs here and above
+pub mod Putting
 -- the words of a line
 pub mod Words
 -- what a printed tree is printed by and from

@@ -4,7 +4,7 @@
 mod json;
 mod leaf;
 mod line;
-mod names;
+pub mod names;
 mod parts;
 mod printing;
 mod tail;
@@ -15,3 +15,4 @@ mod words;
 pub use json::print_json;
 pub use parts::{print_part, print_value};
 pub use printing::{lines, print};
+pub use tail::Tail;

@@ -11,7 +11,7 @@ use ipg_core::grammar::{Primitive, Sym};
 use ipg_table::tables::Tables;
 
 /// The name of a rule; empty where there is no such rule.
-pub(crate) fn rule_name(tables: &Tables, rule: u32) -> &[u8]
+pub fn rule_name(tables: &Tables, rule: u32) -> &[u8]
     ensures { (g : Grammar) → StandFor tables.now g → result.now ≡ spec.rule_name g rule }
 {
     if (rule as usize) < tables.rules().len() {
@@ -22,7 +22,7 @@ pub(crate) fn rule_name(tables: &Tables, rule: u32) -> &[u8]
 }
 
 /// The name of a primitive, of at most five letters.
-pub(crate) fn primitive_name(prim: Primitive) -> &'static [u8]
+pub fn primitive_name(prim: Primitive) -> &'static [u8]
     ensures name { result.now ≡ spec.primitive_name prim }
     ensures long { length result.now ≤ 5 }
 {
@@ -50,7 +50,7 @@ fn name_of<'m>(tables: &'m Tables, sym: &Sym) -> &'m [u8]
 }
 
 /// The name of a symbol by its number; empty where there is none.
-pub(crate) fn sym_name(tables: &Tables, sym: u32) -> &[u8]
+pub fn sym_name(tables: &Tables, sym: u32) -> &[u8]
     ensures { (g : Grammar) (one : AnySym) → StandFor tables.now g → slice_get tables.now.syms sym ≡ Some one → result.now ≡ spec.sym_name g one }
 {
     match tables.symbol_at(sym) {

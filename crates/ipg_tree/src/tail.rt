@@ -10,7 +10,7 @@ const ROOM: usize = 160;
 
 /// The end of a piece of a line, of at most 160 bytes. It grows at its start, so a number needs no second place.
 #[derive(Drop)]
-pub(crate) struct Tail {
+pub struct Tail {
     bytes: [u8; ROOM],
     start: usize,
 }
@@ -27,7 +27,7 @@ impl Model for Tail {
 
 impl Tail {
     /// No bytes yet.
-    pub(crate) fn new() -> Tail
+    pub fn new() -> Tail
         ensures { result ≡ [] }
     {
         Tail {
@@ -37,13 +37,14 @@ impl Tail {
     }
 
     /// Takes all bytes away, so that another line can be made in the same place.
-    pub(crate) fn clear(&mut self)
+    pub fn clear(&mut self)
         ensures { self.new ≡ [] }
     {
         self.start = ROOM;
     }
 
-    pub(crate) fn as_slice(&self) -> &[u8]
+    /// The text.
+    pub fn as_slice(&self) -> &[u8]
         ensures { result.now ≡ self.now }
     {
         &self.bytes[self.start..]
@@ -51,7 +52,7 @@ impl Tail {
 
     /// Puts a text before what there is.
     #[inline]
-    pub(crate) fn prepend(&mut self, text: &[u8])
+    pub fn prepend(&mut self, text: &[u8])
         requires { length text.now + length self.old ≤ 160 }
         ensures text { self.new ≡ text.now ++ self.old }
         ensures long { length self.new ≡ length text.now + length self.old }
@@ -63,7 +64,7 @@ impl Tail {
 
     /// Puts a number before what there is.
     #[inline]
-    pub(crate) fn prepend_number(&mut self, n: u64)
+    pub fn prepend_number(&mut self, n: u64)
         requires { 20 + length self.old ≤ 160 }
         ensures text { self.new ≡ decimal n ++ self.old }
         ensures long { length self.new ≤ 20 + length self.old }
@@ -72,7 +73,7 @@ impl Tail {
     }
 
     /// Puts a number with its sign before what there is.
-    pub(crate) fn prepend_signed(&mut self, n: i64)
+    pub fn prepend_signed(&mut self, n: i64)
         requires { 21 + length self.old ≤ 160 }
         ensures text { self.new ≡ signed_decimal n ++ self.old }
         ensures long { length self.new ≤ 21 + length self.old }

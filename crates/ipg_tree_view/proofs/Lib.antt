@@ -1,5 +1,3 @@
--- texts that were put, one behind another
-pub mod Putting
 -- what is kept of a text that is put together
 pub mod Cuts
 -- what comes next of digits

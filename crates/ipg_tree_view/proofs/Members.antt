@@ -20,7 +20,7 @@ use Rattle.ipg_query.specs.Picked.{Found}
 use Rattle.ipg_query.specs.Spots.{IsSpot, AreSpots}
 use Rattle.ipg_tree_view.specs.View.{line, node_text, tree_head, kid_view}
 use Rattle.ipg_outside.specs.Sink.{Output}
-use Rattle.ipg_tree_view.proofs.Putting.{Progress, as_left}
+use Rattle.ipg_tree.specs.Putting.{Progress, as_left}
 use Rattle.ipg_tree.specs.Puts.{Whole}
 use Rattle.std.specs.Prelude.{ℤ}
 

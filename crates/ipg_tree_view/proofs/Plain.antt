@@ -175,7 +175,8 @@ module _ (g : Grammar) (input : List ℕ) (h : AreBytes input) where
   part_plain depth from to text = piece_plain depth from (part input from to) text (first_bytes (to - from) (drop from input) (last_bytes from input h))
 
   kid_plain : (depth at : ℕ) (k : Kid) → IsPlain (kid_view g input depth at k)
-  kid_plain depth at (tree.Sub from to (tree.Node rule size attrs start end kids)) = line_plain (at + from) [] (node_text g depth (at + from) rule size attrs) tt
+  kid_plain depth at (tree.Sub from to (tree.Node rule size attrs start end kids)) =
+      line_plain (at + from) [] (node_text g depth (at + from) rule size attrs) tt
   kid_plain depth at (tree.Token from to bytes) = part_plain depth (at + from) (at + to) (codes "tok")
   kid_plain depth at (tree.Number from to prim high low) =
       part_plain depth (at + from) (at + to) (primitive_name prim ++ 32 ∷ decimal (high * 2 ^ 32 + low))

@@ -42,14 +42,6 @@ says src st at named it (Node rule size attrs start end kids) is h =
       attrs = has.are_attrs;
     })
 
--- behind the last rule there is none
-pub no_rule : (t : Rows) (rows : List RuleRow) (rules : List CoreRule) (r : ℕ) → Each (HoldsRule t) rows rules → length rows ≤ r → slice_get rules r ≡ None
-no_rule t [] [] r each le = refl
-no_rule t [] (rule ∷ rules) r each le = absurd each
-no_rule t (row ∷ rows) [] r each le = refl
-no_rule t (row ∷ rows) (rule ∷ rules) zero each le = absurd (omega (arith, le))
-no_rule t (row ∷ rows) (rule ∷ rules) (suc r) each le = no_rule t rows rules r each.1 (omega (arith, le))
-
 -- what was left began with the visit
 pub record Began (src : Source) (p next : Walked) (visit : Visit) (left : List Seen) : Type 0 where
   pub first : Seen

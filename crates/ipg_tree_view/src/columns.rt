@@ -6,9 +6,9 @@ ghost use Rattle.ipg_tree_view.specs.Cutting.{begun};
 ghost use Rattle.ipg_tree.specs.Puts.{Puts};
 
 use crate::cut::{Cut, printable};
-use crate::tail::Tail;
 use crate::words::{digits, prepend_digits, put};
 use ipg_outside::{Sink, SinkFault};
+use ipg_tree::Tail;
 
 const BLANKS: &[u8; 78] =
     b"                                                                              ";

@@ -5,8 +5,8 @@ ghost use Rattle.std.specs.Fmt.{signed_decimal};
 ghost use Rattle.ipg_tree_view.specs.View as spec;
 ghost use Rattle.ipg_tree_view.specs.Cutting.{begun, Lacks};
 
-use crate::tail::Tail;
 use crate::words::first;
+use ipg_tree::Tail;
 use std::marker::Model;
 
 /// As many characters as fit beside 78 in a line of 132.

@@ -5,9 +5,7 @@ mod bare;
 mod columns;
 mod cut;
 pub mod laws;
-mod names;
 mod picked;
-mod tail;
 #[cfg(test)]
 mod tests;
 mod view;

@@ -21,7 +21,6 @@ ghost use Rattle.ipg_tree_view.specs.View as lines;
 
 use crate::columns::put_line;
 use crate::cut::Cut;
-use crate::tail::Tail;
 use crate::view::{Extent, node_text, put_visit};
 use crate::words::put;
 use ipg_mach_nodes::{Kid, RunId};
@@ -29,6 +28,7 @@ use ipg_outside::{Sink, SinkFault};
 use ipg_query::laws::members_are_shallow;
 use ipg_query::{Deep, Query, Spot, Walk, begin, field_named, levels_of, members, next};
 use ipg_query_path::Name;
+use ipg_tree::Tail;
 use ipg_tree_walk::{Parsed, Visit};
 use std::alloc::{AllocError, Allocator, Global};
 

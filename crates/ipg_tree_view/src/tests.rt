@@ -1,7 +1,7 @@
 use crate::columns::{put_bare_line, put_line, put_more_line};
 use crate::cut::Cut;
-use crate::tail::Tail;
 use ipg_outside::MemSink;
+use ipg_tree::Tail;
 use std::test::Fail;
 
 #[test]

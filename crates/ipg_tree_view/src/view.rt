@@ -22,13 +22,13 @@ ghost use Rattle.ipg_tree.specs.Words.{spaced};
 
 use crate::columns::{put_bare_line, put_line, put_more_line};
 use crate::cut::Cut;
-use crate::names::{primitive_name, rule_name, sym_name};
-use crate::tail::Tail;
 use crate::words::{behind, first, put};
 use ipg_core::grammar::Primitive;
 use ipg_mach_nodes::{Kid, Node, RunId};
 use ipg_outside::{Sink, SinkFault};
 use ipg_table::tables::Tables;
+use ipg_tree::Tail;
+use ipg_tree::names::{primitive_name, rule_name, sym_name};
 use ipg_tree_walk::{Parsed, Visit};
 use std::alloc::Allocator;
 

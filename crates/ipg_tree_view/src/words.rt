@@ -4,8 +4,8 @@ ghost use Rattle.std.specs.Prelude.{◌≡◌, ◌+◌, ◌*◌, ◌/◌, ◌%�
 ghost use Rattle.ipg_core.specs.Lines as spec;
 ghost use Rattle.ipg_tree.specs.Puts.{Puts};
 
-use crate::tail::Tail;
 use ipg_outside::{Sink, SinkFault};
+use ipg_tree::Tail;
 
 const DIGITS: &[u8; 16] = b"0123456789abcdef";
 

@@ -4,7 +4,7 @@ use Rattle.ipg_tree_walk.specs.Left.{Shows}
 use Rattle.ipg_tree_walk.specs.Visits.{visits}
 use Rattle.ipg_tree.specs.JsonWalk as walk
 use Rattle.ipg_tree.specs.Shares.{Shares}
-use Rattle.ipg_tree.proofs.Putting.{begun, as_left, next, exits, ended}
+use Rattle.ipg_tree.specs.Putting.{begun, as_left, next, exits, ended}
 use Rattle.ipg_tree.proofs.Nested.{all_said, texts_next}
 use Rattle.ipg_tree.proofs.Visited.{began, ended_at}
 use Rattle.ipg_tree.specs.Json.{json}

@@ -7,7 +7,7 @@ use Rattle.ipg_tree_walk.specs.Parse.{Left, steps_left}
 use Rattle.ipg_tree.specs.Json.{json}
 use Rattle.ipg_tree.specs.JsonWalk.{texts_of}
 use Rattle.ipg_tree.specs.Shares.{IsTree}
-use Rattle.ipg_tree.proofs.Putting.{Progress}
+use Rattle.ipg_tree.specs.Putting.{Progress}
 use Rattle.ipg_tree.proofs.json.print_json.Given as goal
 
 abbrev pub invariant-loop-visit : goal.invariant-loop-visit

@@ -1,4 +1,4 @@
-use Rattle.ipg_tree.proofs.Putting.{exits_first}
+use Rattle.ipg_tree.specs.Putting.{exits_first}
 use Rattle.ipg_tree.proofs.json.put_comma.Goals as goal
 
 pub returns-in_err-put_ends : goal.returns-in_err-put_ends

@@ -1,4 +1,4 @@
-use Rattle.ipg_tree.proofs.Putting.{next, exits}
+use Rattle.ipg_tree.specs.Putting.{next, exits}
 use Rattle.ipg_tree.proofs.Nested.{ends_step}
 use Rattle.ipg_tree.proofs.json.put_ends.Goals as goal
 

@@ -1,5 +1,5 @@
 use Rattle.ipg_tree.specs.JsonWalk as walk
-use Rattle.ipg_tree.proofs.Putting.{Progress}
+use Rattle.ipg_tree.specs.Putting.{Progress}
 use Rattle.ipg_tree.proofs.json.put_ends.Given as goal
 
 abbrev pub invariant-loop-left : goal.invariant-loop-left

@@ -1,6 +1,6 @@
 use Rattle.std.proofs.Common.{refl, ap, ◌++◌}
 use Rattle.std.specs.Prelude.{codes}
-use Rattle.ipg_tree.proofs.Putting.{begun, more, next, exits, exits_first, ended, as_text}
+use Rattle.ipg_tree.specs.Putting.{begun, more, next, exits, exits_first, ended, as_text}
 use Rattle.ipg_tree.proofs.json.put_items.Goals as goal
 
 pub returns-in_err-put : goal.returns-in_err-put

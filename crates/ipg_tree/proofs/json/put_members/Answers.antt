@@ -1,6 +1,6 @@
 use Rattle.std.proofs.Common.{ap, sym, map}
 use Rattle.ipg_tree.specs.Json.{joined, member}
-use Rattle.ipg_tree.proofs.Putting.{exits_first, as_text}
+use Rattle.ipg_tree.specs.Putting.{exits_first, as_text}
 use Rattle.ipg_tree.proofs.json.put_members.Goals as goal
 
 pub returns-in_err-put_member-in-Some : goal.returns-in_err-put_member-in-Some

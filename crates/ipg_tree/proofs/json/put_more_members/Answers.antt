@@ -1,5 +1,5 @@
 use Rattle.ipg_tree.specs.Json.{member}
-use Rattle.ipg_tree.proofs.Putting.{next, exits}
+use Rattle.ipg_tree.specs.Putting.{next, exits}
 use Rattle.ipg_tree.proofs.Objects.{next_led}
 use Rattle.ipg_tree.proofs.json.put_more_members.Goals as goal
 

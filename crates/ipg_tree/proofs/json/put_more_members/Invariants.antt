@@ -3,7 +3,7 @@ use Rattle.ipg_core.specs.Grammar.{Grammar}
 use Rattle.ipg_table.specs.Rows.{StandFor}
 use Rattle.ipg_tree.specs.Json as spec
 use Rattle.ipg_tree.specs.JsonWalk as walk
-use Rattle.ipg_tree.proofs.Putting.{Progress}
+use Rattle.ipg_tree.specs.Putting.{Progress}
 use Rattle.ipg_tree.proofs.json.put_more_members.Given as goal
 
 abbrev pub invariant-loop-attr : goal.invariant-loop-attr

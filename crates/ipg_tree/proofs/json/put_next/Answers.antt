@@ -1,6 +1,6 @@
 use Rattle.std.proofs.Common.{◌++◌, refl, ap, subst}
 use Rattle.ipg_tree.specs.JsonWalk as walk
-use Rattle.ipg_tree.proofs.Putting.{begun, more, next, exits_first, ended, as_text}
+use Rattle.ipg_tree.specs.Putting.{begun, more, next, exits_first, ended, as_text}
 use Rattle.ipg_tree.proofs.json.put_next.Goals as goal
 
 pub returns-in_err-put_between : goal.returns-in_err-put_between

@@ -1,5 +1,5 @@
 use Rattle.std.proofs.Common.{refl}
-use Rattle.ipg_tree.proofs.Putting.{begun, more, next, exits, ended}
+use Rattle.ipg_tree.specs.Putting.{begun, more, next, exits, ended}
 use Rattle.ipg_tree.proofs.json.put_rule.Goals as goal
 
 pub returns-in_err-put : goal.returns-in_err-put

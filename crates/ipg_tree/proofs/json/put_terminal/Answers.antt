@@ -1,7 +1,7 @@
 use Rattle.std.proofs.Common.{refl, sym, ◌++◌}
 use Rattle.std.specs.Prelude.{codes}
 use Rattle.ipg_core.specs.Lines.{hex_digits}
-use Rattle.ipg_tree.proofs.Putting.{begun, more, next, exits, ended}
+use Rattle.ipg_tree.specs.Putting.{begun, more, next, exits, ended}
 use Rattle.ipg_tree.proofs.Objects.{leaf_parts}
 use Rattle.ipg_tree.proofs.json.put_terminal.Goals as goal
 

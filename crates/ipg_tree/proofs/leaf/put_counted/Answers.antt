@@ -1,5 +1,5 @@
 use Rattle.std.proofs.Common.{◌∷◌, [], refl, sym, decimal}
-use Rattle.ipg_tree.proofs.Putting.{begun, next, exits}
+use Rattle.ipg_tree.specs.Putting.{begun, next, exits}
 use Rattle.ipg_tree.proofs.Pieces.{line_pieces}
 use Rattle.ipg_tree.proofs.leaf.put_counted.Goals as goal
 

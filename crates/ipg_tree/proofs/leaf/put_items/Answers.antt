@@ -2,7 +2,7 @@ use Rattle.std.proofs.Common.{◌≡◌, ◌∷◌, [], sym, ap, ◌∙◌, subs
 use Rattle.std.specs.Prelude.{decimal, slice_get, Some}
 use Rattle.ipg_core.specs.Lines.{line, sym_name}
 use Rattle.ipg_table.specs.Rows.{StandFor}
-use Rattle.ipg_tree.proofs.Putting.{as_text}
+use Rattle.ipg_tree.specs.Putting.{as_text}
 use Rattle.ipg_tree.proofs.Visited.{count_rows}
 use Rattle.ipg_tree.proofs.leaf.put_items.Goals as goal
 

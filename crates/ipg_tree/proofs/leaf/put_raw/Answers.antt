@@ -1,7 +1,7 @@
 use Rattle.std.proofs.Common.{[], refl, sym}
 use Rattle.std.specs.Prelude.{codes}
 use Rattle.ipg_core.specs.Lines.{short_hex}
-use Rattle.ipg_tree.proofs.Putting.{begun, more, next, exits, ended}
+use Rattle.ipg_tree.specs.Putting.{begun, more, next, exits, ended}
 use Rattle.ipg_tree.proofs.Pieces.{line_pieces, first_words}
 use Rattle.ipg_tree.proofs.leaf.put_raw.Goals as goal
 

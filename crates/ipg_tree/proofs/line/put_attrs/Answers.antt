@@ -1,5 +1,5 @@
 use Rattle.ipg_core.specs.Lines.{attr_word}
-use Rattle.ipg_tree.proofs.Putting.{next, exits}
+use Rattle.ipg_tree.specs.Putting.{next, exits}
 use Rattle.ipg_tree.proofs.Pieces.{next_spaced}
 use Rattle.ipg_tree.proofs.line.put_attrs.Goals as goal
 

@@ -3,7 +3,7 @@ use Rattle.ipg_core.specs.Grammar.{Grammar}
 use Rattle.ipg_core.specs.Lines as spec
 use Rattle.ipg_table.specs.Rows.{StandFor}
 use Rattle.ipg_tree.specs.Words.{spaced}
-use Rattle.ipg_tree.proofs.Putting.{Progress}
+use Rattle.ipg_tree.specs.Putting.{Progress}
 use Rattle.ipg_tree.proofs.line.put_attrs.Given as goal
 
 abbrev pub invariant-loop-attr : goal.invariant-loop-attr

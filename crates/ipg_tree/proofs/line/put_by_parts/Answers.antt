@@ -1,5 +1,5 @@
 use Rattle.std.proofs.Common.{refl, sym}
-use Rattle.ipg_tree.proofs.Putting.{begun, more, next, exits, ended}
+use Rattle.ipg_tree.specs.Putting.{begun, more, next, exits, ended}
 use Rattle.ipg_tree.proofs.Pieces.{head_parts, place_words}
 use Rattle.ipg_tree.proofs.line.put_by_parts.Goals as goal
 

@@ -1,4 +1,4 @@
-use Rattle.ipg_tree.proofs.Putting.{exits_first}
+use Rattle.ipg_tree.specs.Putting.{exits_first}
 use Rattle.ipg_tree.proofs.line.put_next_attr.Goals as goal
 
 pub returns-in_err-put : goal.returns-in_err-put

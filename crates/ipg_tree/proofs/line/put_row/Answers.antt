@@ -1,6 +1,6 @@
 use Rattle.std.proofs.Common.{refl, sym, subst}
 use Rattle.ipg_table.specs.Rows.{StandFor}
-use Rattle.ipg_tree.proofs.Putting.{begun, more, next, exits, ended}
+use Rattle.ipg_tree.specs.Putting.{begun, more, next, exits, ended}
 use Rattle.ipg_tree.proofs.Pieces.{row_pieces}
 use Rattle.ipg_tree.proofs.line.put_row.Goals as goal
 

@@ -7,7 +7,7 @@ use Rattle.ipg_tree_walk.specs.Visits.{Seen}
 use Rattle.ipg_tree_walk.specs.Parse.{Left, steps_left}
 use Rattle.ipg_tree.specs.Line.{lines_of}
 use Rattle.ipg_tree.specs.Shares.{IsTree}
-use Rattle.ipg_tree.proofs.Putting.{Progress}
+use Rattle.ipg_tree.specs.Putting.{Progress}
 use Rattle.ipg_tree.proofs.printing.print.Given as goal
 
 abbrev pub invariant-loop-visit : goal.invariant-loop-visit

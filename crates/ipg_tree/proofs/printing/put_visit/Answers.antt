@@ -1,5 +1,5 @@
 use Rattle.std.proofs.Common.{sym, subst}
-use Rattle.ipg_tree.proofs.Putting.{as_text}
+use Rattle.ipg_tree.specs.Putting.{as_text}
 use Rattle.ipg_tree.proofs.Visited.{IsNodeRow, node_seen}
 use Rattle.ipg_tree.proofs.printing.put_visit.Goals as goal
 

@@ -1,7 +1,7 @@
 use Rattle.std.proofs.Common.{append_assoc}
 use Rattle.std.specs.Prelude.{codes}
 use Rattle.std.specs.Fmt.{signed_decimal}
-use Rattle.ipg_tree.proofs.Putting.{begun, exits}
+use Rattle.ipg_tree.specs.Putting.{begun, exits}
 use Rattle.ipg_tree.proofs.words.put_attr.Goals as goal
 
 pub returns-in_err-put : goal.returns-in_err-put

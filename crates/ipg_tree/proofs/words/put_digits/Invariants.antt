@@ -1,6 +1,6 @@
 use Rattle.std.proofs.Common.{length}
 use Rattle.ipg_core.specs.Lines as spec
-use Rattle.ipg_tree.proofs.Putting.{Progress}
+use Rattle.ipg_tree.specs.Putting.{Progress}
 use Rattle.ipg_tree.proofs.words.put_digits.Given as goal
 
 abbrev pub invariant-loop-left : goal.invariant-loop-left

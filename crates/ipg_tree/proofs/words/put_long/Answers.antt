@@ -1,4 +1,4 @@
-use Rattle.ipg_tree.proofs.Putting.{exits_first}
+use Rattle.ipg_tree.specs.Putting.{exits_first}
 use Rattle.ipg_tree.proofs.words.put_long.Goals as goal
 
 pub returns-in_err-put_bytes : goal.returns-in_err-put_bytes

@@ -1,7 +1,7 @@
 use Rattle.std.proofs.Common.{◌≡◌, ◌++◌, ap, ◌∙◌, flat_map}
 use Rattle.ipg_tree_view.specs.Picked.{member_view}
 use Rattle.ipg_tree_view.specs.View.{seen_view}
-use Rattle.ipg_tree_view.proofs.Putting.{begun, next, exits, all_put}
+use Rattle.ipg_tree.specs.Putting.{begun, next, exits, all_put}
 use Rattle.ipg_tree_view.proofs.Members.{came, all_seen, first_visit, later_visits, visits_are}
 use Rattle.ipg_tree_view.proofs.picked.put_member.Goals as goal
 

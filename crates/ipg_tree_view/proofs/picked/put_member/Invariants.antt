@@ -8,7 +8,7 @@ use Rattle.ipg_query.specs.Picked.{Found}
 use Rattle.ipg_query.specs.Spots.{IsSpot}
 use Rattle.ipg_tree_view.specs.Picked.{member_view}
 use Rattle.ipg_tree_view.specs.View.{seen_view}
-use Rattle.ipg_tree_view.proofs.Putting.{Progress}
+use Rattle.ipg_tree.specs.Putting.{Progress}
 use Rattle.ipg_tree_view.proofs.picked.put_member.Given as goal
 
 abbrev pub invariant-loop-deep : goal.invariant-loop-deep

@@ -2,7 +2,7 @@ use Rattle.std.proofs.Common.{◌≡◌, sym, ap, ◌∙◌, subst}
 use Rattle.ipg_core.specs.Tree.{rule_of}
 use Rattle.ipg_table.specs.Rows.{StandFor}
 use Rattle.ipg_tree_view.proofs.Members.{tree_head_is}
-use Rattle.ipg_tree_view.proofs.Putting.{as_text}
+use Rattle.ipg_tree.specs.Putting.{as_text}
 use Rattle.ipg_tree_view.proofs.picked.put_node_at.Goals as goal
 
 pub returns-in-Some : goal.returns-in-Some

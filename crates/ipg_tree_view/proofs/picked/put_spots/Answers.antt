@@ -1,7 +1,7 @@
 use Rattle.std.proofs.Common.{◌≤◌, ap, sym, ◌∙◌, subst, refl, flat_map}
 use Rattle.ipg_mach_nodes.specs.Stored.{kid_levels}
 use Rattle.ipg_tree_view.specs.Picked.{shown_view}
-use Rattle.ipg_tree_view.proofs.Putting.{begun, next, exits, all_put}
+use Rattle.ipg_tree.specs.Putting.{begun, next, exits, all_put}
 use Rattle.ipg_tree_view.proofs.Members.{next_spot, no_spot}
 use Rattle.ipg_tree_view.proofs.picked.put_spots.Goals as goal
 

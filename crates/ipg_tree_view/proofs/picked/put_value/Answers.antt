@@ -8,7 +8,7 @@ use Rattle.ipg_query.specs.Picked.{found, field_named}
 use Rattle.ipg_tree_walk.specs.Visits.{from_of}
 use Rattle.ipg_tree_view.specs.Picked.{value_view}
 use Rattle.ipg_tree_view.specs.View.{line}
-use Rattle.ipg_tree_view.proofs.Putting.{as_text}
+use Rattle.ipg_tree.specs.Putting.{as_text}
 use Rattle.ipg_tree_view.proofs.picked.put_value.Goals as goal
 
 pub returns-in-Some : goal.returns-in-Some

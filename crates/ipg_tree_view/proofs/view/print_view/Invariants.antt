@@ -8,7 +8,7 @@ use Rattle.ipg_tree_walk.specs.Parse.{Left, steps_left}
 use Rattle.ipg_tree_view.specs.Bare.{runs}
 use Rattle.ipg_tree_view.specs.View.{view_by, seen_view, gap_view}
 use Rattle.ipg_tree.specs.Shares.{IsTree}
-use Rattle.ipg_tree_view.proofs.Putting.{Progress}
+use Rattle.ipg_tree.specs.Putting.{Progress}
 use Rattle.ipg_tree_view.proofs.view.print_view.Given as goal
 
 abbrev pub invariant-loop-visit : goal.invariant-loop-visit

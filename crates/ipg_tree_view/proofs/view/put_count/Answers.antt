@@ -2,7 +2,7 @@ use Rattle.std.proofs.Common.{◌≡◌, [], ◌++◌, ◌+◌, ◌-◌, arith, 
 use Rattle.std.specs.Prelude.{codes, decimal}
 use Rattle.ipg_tree_view.specs.View.{indented}
 use Rattle.ipg_tree_view.proofs.Cuts.{lacks_none, count_is}
-use Rattle.ipg_tree_view.proofs.Putting.{as_text}
+use Rattle.ipg_tree.specs.Putting.{as_text}
 use Rattle.ipg_tree_view.proofs.view.put_count.Goals as goal
 
 pub returns : goal.returns

@@ -2,7 +2,7 @@ use Rattle.std.proofs.Common.{◌++◌, sym, ap, ◌∙◌, append-nil, flat_map
 use Rattle.std.specs.Prelude.{codes}
 use Rattle.ipg_tree_view.specs.Bare.{ended}
 use Rattle.ipg_tree_view.specs.View.{gap_view, piece, interval}
-use Rattle.ipg_tree_view.proofs.Putting.{as_text}
+use Rattle.ipg_tree.specs.Putting.{as_text}
 use Rattle.ipg_tree_view.proofs.view.put_ended.Goals as goal
 
 pub returns-in-Some : goal.returns-in-Some

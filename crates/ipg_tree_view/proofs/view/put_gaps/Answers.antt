@@ -1,6 +1,6 @@
 use Rattle.std.proofs.Common.{◌≡◌, ◌+◌, ◌≤◌, ◌^◌, ℕ, ap, sym, ◌∙◌, subst, arith, drop, Some}
 use Rattle.ipg_tree_view.specs.View.{gap_view}
-use Rattle.ipg_tree_view.proofs.Putting.{next, exits, as_left}
+use Rattle.ipg_tree.specs.Putting.{next, exits, as_left}
 use Rattle.ipg_tree_view.proofs.Runs.{next_runs, same_runs, begun_before}
 use Rattle.ipg_tree_view.proofs.view.put_gaps.Goals as goal
 

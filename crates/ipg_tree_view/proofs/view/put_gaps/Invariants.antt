@@ -1,7 +1,7 @@
 use Rattle.std.proofs.Common.{◌≡◌, ◌≤◌, ℕ, drop, flat_map, Some, None}
 use Rattle.ipg_tree_view.specs.Bare.{runs}
 use Rattle.ipg_tree_view.specs.View.{gap_view}
-use Rattle.ipg_tree_view.proofs.Putting.{Progress}
+use Rattle.ipg_tree.specs.Putting.{Progress}
 use Rattle.ipg_tree_view.proofs.view.put_gaps.Given as goal
 
 abbrev pub invariant-loop-is_bare : goal.invariant-loop-is_bare

@@ -3,7 +3,7 @@ use Rattle.ipg_core.specs.Tree.{attrs_of}
 use Rattle.ipg_table.specs.Rows.{StandFor}
 use Rattle.ipg_tree_view.specs.View.{line, node_text}
 use Rattle.ipg_tree_view.proofs.Cuts.{head_is}
-use Rattle.ipg_tree_view.proofs.Putting.{as_text}
+use Rattle.ipg_tree.specs.Putting.{as_text}
 use Rattle.ipg_tree_view.proofs.view.put_node.Goals as goal
 
 pub returns : goal.returns

@@ -3,7 +3,7 @@ use Rattle.std.specs.Prelude.{decimal}
 use Rattle.ipg_core.specs.Lines.{primitive_name}
 use Rattle.ipg_tree_view.specs.View.{indented}
 use Rattle.ipg_tree_view.proofs.Cuts.{lacks_as, lacks_none, piece_is}
-use Rattle.ipg_tree_view.proofs.Putting.{as_text}
+use Rattle.ipg_tree.specs.Putting.{as_text}
 use Rattle.ipg_tree_view.proofs.view.put_number.Goals as goal
 
 pub returns : goal.returns

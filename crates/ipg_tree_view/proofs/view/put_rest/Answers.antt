@@ -1,6 +1,6 @@
 use Rattle.std.proofs.Common.{◌≡◌, ◌++◌, ◌+◌, arith, ap, sym, ◌∙◌, take, drop, length}
 use Rattle.ipg_tree_view.specs.View.{more_line, count_line}
-use Rattle.ipg_tree_view.proofs.Putting.{begun, next, exits, ended}
+use Rattle.ipg_tree.specs.Putting.{begun, next, exits, ended}
 use Rattle.ipg_tree_view.proofs.view.put_rest.Goals as goal
 
 pub returns-in_err-put_more_line : goal.returns-in_err-put_more_line

@@ -2,7 +2,7 @@ use Rattle.std.proofs.Common.{◌+◌, ◌^◌, ◌≤◌, [], sym, subst}
 use Rattle.std.specs.Prelude.{codes}
 use Rattle.ipg_tree_view.specs.View.{indented}
 use Rattle.ipg_tree_view.proofs.Cuts.{lacks_none, piece_is}
-use Rattle.ipg_tree_view.proofs.Putting.{as_text}
+use Rattle.ipg_tree.specs.Putting.{as_text}
 use Rattle.ipg_tree_view.proofs.view.put_terminal.Goals as goal
 
 pub returns : goal.returns

@@ -1,6 +1,6 @@
 -- Texts that were put into a sink, one behind another.
-use Rattle.std.proofs.Common.{◌≡◌, ℕ, ◌≤◌, inl, inr, List, [], ◌++◌, Option, None, Some, refl, sym, ap, ◌∙◌, append_assoc, append-nil, arith, Result}
-use Rattle.std.proofs.Common.{Ok, Err, subst}
+use Rattle.std.proofs.Common.{◌≡◌, ℕ, ◌≤◌, inl, inr, List, [], ◌++◌, Option, None, Some, refl, sym, ap, ◌∙◌, append_assoc, append-nil, Result}
+use Rattle.std.proofs.Common.{Ok, Err, subst, le_refl, le_trans, lt_of_le_of_lt}
 use Rattle.std.specs.Prelude.{IsErrAnd}
 use Rattle.std.proofs.lemmas.Result.{err_from_is_err_and}
 use Rattle.ipg_outside.specs.declared.sink.SinkFault.{SinkFault}
@@ -47,7 +47,7 @@ tells_broken (Some a) (Some b) None xs ys zs text e p q = absurd q
 tells_broken (Some a) (Some b) (Some c) xs ys zs text e p q = breaks_more xs ys zs text a b c e p q
 
 later : (m n k : ℕ) → m ≤ n → Rose n k → Rose m k
-later m n k h (inl r) = inl (omega arith)
+later m n k h (inl r) = inl (lt_of_le_of_lt h r)
 later m n k h (inr r) = inr r
 
 -- what was put of a text so far, and what is left of it
@@ -57,7 +57,7 @@ pub record Progress (text rest : List ℕ) (a : Option Output) (m : ℕ) (b : Op
   pub put : Whole done a m b n
 
 pub begun : (text : List ℕ) (a : Option Output) (m : ℕ) → Progress text text a m a m
-begun text a m = record { done = []; is = refl; put = record { told = tells_none a; counts = omega arith } }
+begun text a m = record { done = []; is = refl; put = record { told = tells_none a; counts = le_refl m } }
 
 module _ {text : List ℕ} {a : Option Output} {m : ℕ} where
   -- one piece more
@@ -66,7 +66,7 @@ module _ {text : List ℕ} {a : Option Output} {m : ℕ} where
   more {xs = xs} {rest = rest} {b = b} {c = c} p w = record {
     done = p.done ++ xs;
     is = append_assoc p.done xs rest ∙ p.is;
-    put = record { told = tells_more a b c p.done xs p.put.told w.told; counts = let x = p.put.counts in let y = w.counts in omega arith };
+    put = record { told = tells_more a b c p.done xs p.put.told w.told; counts = le_trans p.put.counts w.counts };
   }
 
   -- a fault at the next piece
@@ -75,7 +75,7 @@ module _ {text : List ℕ} {a : Option Output} {m : ℕ} where
   broken {xs = xs} left {b = b} {n = n} {c = c} {k = k} p w = record {
     told = tells_broken a b c p.done xs left text p.is p.put.told w.told;
     failed = later m n k p.put.counts w.failed;
-    counts = let x = p.put.counts in let y = w.counts in omega arith;
+    counts = le_trans p.put.counts w.counts;
   }
 
   -- the same is left

@@ -1,0 +1,2 @@
+-- rows as a walk sees them
+pub mod Seeing
