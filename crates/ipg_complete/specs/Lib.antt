@@ -4,3 +4,5 @@ pub mod Unordered
 pub mod Completion
 -- inside
 pub mod Lefts
+-- what holds of it
+pub mod Laws

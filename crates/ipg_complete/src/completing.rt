@@ -1,6 +1,6 @@
 //! Missing intervals, term by term.
 
-ghost use Rattle.std.specs.Prelude.{◌≡◌, ◌≤◌, ◌<◌, ◌^◌, map, length, pos, IfOk};
+ghost use Rattle.std.specs.Prelude.{◌≡◌, ◌≤◌, ◌<◌, ◌^◌, ◌∷◌, [], ◌++◌, map, length, pos, IfOk, OnOk};
 ghost use Rattle.std.specs.List.{AllByRecursion};
 ghost use Rattle.ipg_num.specs.declared.op.Op2.TheVariants as op;
 ghost use Rattle.ipg_core.specs.declared.grammar.CoreExpr.TheVariants as core;
@@ -134,6 +134,24 @@ fn term(alloc: Global, left: &Left, term: NamedTerm) -> Result<CoreTerm, AllocEr
     }
 }
 
+/// Puts a term behind those so far, and goes on behind it.
+fn add_term(
+    alloc: Global,
+    made: &mut Vec<CoreTerm>,
+    left: &mut Left,
+    written: NamedTerm,
+) -> Result<(), AllocError>
+    requires { length made.old.items < 2 ^ 32 }
+    ensures { OnOk result ((made.new.items ≡ made.old.items ++ spec.term_of left.old written ∷ [])
+        × (left.new ≡ spec.behind (length made.old.items) left.old (spec.term_of left.old written))) }
+{
+    let number = made.len() as u32;
+    let next = term(alloc, left, written)?;
+    left.pass(alloc, number, &next)?;
+    made.push(next)?;
+    Ok(())
+}
+
 /// The terms of an alternative, each with its intervals.
 pub(crate) fn terms(alloc: Global, terms: List<NamedTerm>) -> Result<List<CoreTerm>, AllocError>
     requires { length terms < 2 ^ 32 }
@@ -142,10 +160,7 @@ pub(crate) fn terms(alloc: Global, terms: List<NamedTerm>) -> Result<List<CoreTe
     let mut made = Vec::with_capacity(alloc, terms.len())?;
     let mut left = Left::first(alloc);
     for written in terms.into_vec() {
-        let number = made.len() as u32;
-        let next = term(alloc, &left, written)?;
-        left = left.behind(alloc, number, &next)?;
-        made.push(next)?;
+        add_term(alloc, &mut made, &mut left, written)?;
     }
     Ok(List::from_vec(made))
 }

@@ -1,6 +1,6 @@
 //! The left end that a slot without one gets.
 
-ghost use Rattle.std.specs.Prelude.{◌≡◌, IfOk};
+ghost use Rattle.std.specs.Prelude.{◌≡◌, IfOk, OnOk};
 ghost use Rattle.ipg_core.specs.declared.grammar.CoreExpr.TheVariants.{After};
 ghost use Rattle.ipg_complete.specs.Completion.{left_at_first, behind};
 ghost use Rattle.ipg_complete.specs.Lefts.{base_expr};
@@ -98,32 +98,39 @@ impl Left {
         Ok(e)
     }
 
-    /// The `left` behind a term of that number.
-    pub fn behind(self, alloc: Global, number: u32, term: &CoreTerm) -> Result<Left, AllocError>
-        ensures { IfOk result (λ left. left ≡ behind number self term.now) }
+    /// Goes on behind a term of that number.
+    pub fn pass(&mut self, alloc: Global, number: u32, term: &CoreTerm) -> Result<(), AllocError>
+        ensures { OnOk result (self.new ≡ behind number self.old term.now) }
     {
         match term {
-            CoreTerm::Slot(slot) => Ok(Left {
-                base: Base::Slot {
-                    term: number,
-                    sym: copied(alloc, &slot.sym)?,
-                },
-                since: Vec::new(alloc),
-            }),
-            CoreTerm::Pick { .. } => Ok(Left {
-                base: Base::Switch(number),
-                since: Vec::new(alloc),
-            }),
-            CoreTerm::Repeat { .. } | CoreTerm::Many { .. } => self.behind_items(number),
-            CoreTerm::Set { .. } | CoreTerm::Test(_) => Ok(self),
+            CoreTerm::Slot(slot) => {
+                let sym = copied(alloc, &slot.sym)?;
+                self.restart(alloc, Base::Slot { term: number, sym });
+                Ok(())
+            }
+            CoreTerm::Pick { .. } => {
+                self.restart(alloc, Base::Switch(number));
+                Ok(())
+            }
+            CoreTerm::Repeat { .. } | CoreTerm::Many { .. } => self.pass_items(number),
+            CoreTerm::Set { .. } | CoreTerm::Test(_) => Ok(()),
         }
     }
 
-    fn behind_items(self, number: u32) -> Result<Left, AllocError>
-        ensures { IfOk result (λ left. left ≡ After number self) }
+    /// From a slot or a switch, with nothing since.
+    fn restart(&mut self, alloc: Global, base: Base)
+        ensures { self.new ≡ base_expr base }
     {
-        let Left { base, mut since } = self;
-        since.push(number)?;
-        Ok(Left { base, since })
+        *self = Left {
+            base,
+            since: Vec::new(alloc),
+        };
+    }
+
+    fn pass_items(&mut self, number: u32) -> Result<(), AllocError>
+        ensures { OnOk result (self.new ≡ After number self.old) }
+    {
+        self.since.push(number)?;
+        Ok(())
     }
 }

@@ -3,6 +3,7 @@
 
 pub mod completed;
 mod completing;
+pub mod laws;
 mod left;
 mod whole;
 

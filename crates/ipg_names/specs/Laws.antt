@@ -1,11 +1,14 @@
 -- The laws of names: when the conditions hold, which fault is told, what the faults of a text are.
 use Rattle.std.specs.Prelude.{◌≡◌, ◌↔◌, ◌^◌, ◌≤◌, ℕ, List, [], Some, None, length}
 use Rattle.ipg_ast.specs.declared.grammar.Grammar.{Grammar}
+use Rattle.ipg_core.specs.Good.{WellFormed}
 use Rattle.ipg_ast.specs.Spelling.{grammar_tokens}
 use Rattle.ipg_ast.specs.Shape.{IsFormed}
 use Rattle.ipg_names.specs.declared.fault.NameFault.{NameFault}
 use Rattle.ipg_names.specs.declared.fault.NameFault.TheVariants.{DuplicateRule}
 use Rattle.ipg_names.specs.Readable.{IsReadable}
+use Rattle.ipg_names.specs.Resolved.{names_of}
+use Rattle.ipg_names.specs.Bare.{bare}
 use Rattle.ipg_names.specs.Fault.{first_of}
 use Rattle.ipg_names.specs.Faults.{faults_of}
 use Rattle.ipg_names.specs.Told.{Stands, IsFirst}
@@ -32,3 +35,7 @@ FaultsStand = (g : Grammar) → ((at : ℕ) → IsDuplicateRule g at → ⊥) �
 abbrev pub FirstIsRefused : Type 0
 FirstIsRefused = (g : Grammar) → ((first_of (faults_of g) ≡ None) ↔ ((fault : NameFault) → IsRefusal g fault → ⊥)) × ((fault : NameFault)
     → (first_of (faults_of g) ≡ Some fault) ↔ IsFirstRefusal g fault)
+
+-- what the names of a readable text without a fault stand for is well formed, the intervals that aren't written left aside
+abbrev pub FaultlessIsFormed : Type 0
+FaultlessIsFormed = (g : Grammar) → IsReadable g → first_of (faults_of g) ≡ None → WellFormed (bare (names_of g))

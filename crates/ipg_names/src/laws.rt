@@ -1,6 +1,6 @@
 //! Laws of names, each the contract of a function that does nothing.
 
-ghost use Rattle.ipg_names.specs.Laws.{FormedIsReadable, FirstIsTold, HeadsStand, FaultsStand, FirstIsRefused};
+ghost use Rattle.ipg_names.specs.Laws.{FormedIsReadable, FirstIsTold, HeadsStand, FaultsStand, FirstIsRefused, FaultlessIsFormed};
 
 /// A well formed grammar of at most 2^20 tokens, and so each that is read, meets the conditions of `resolve`.
 pub fn formed_is_readable()
@@ -25,4 +25,9 @@ pub fn faults_stand()
 /// The first fault that holds of a place is told, and none exactly where none holds anywhere.
 pub fn first_is_refused()
     ensures { FirstIsRefused }
+{}
+
+/// What the names of a readable text without a fault stand for is well formed.
+pub fn faultless_is_formed()
+    ensures { FaultlessIsFormed }
 {}

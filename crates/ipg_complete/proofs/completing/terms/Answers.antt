@@ -1,7 +1,7 @@
 use Rattle.std.proofs.Common.{◌≡◌, ◌+◌, ◌∷◌, [], ◌++◌, refl, sym, ap, subst, ◌∙◌, append_assoc, length, arith}
 use Rattle.std.proofs.lemmas.List.{length-append}
 use Rattle.std.specs.Vec.Iter.{into_iter_items}
-use Rattle.ipg_complete.specs.Completion.{left_at_first, terms_from}
+use Rattle.ipg_complete.specs.Completion.{left_at_first, terms_from, term_of}
 use Rattle.ipg_complete.proofs.Turns.{AreDone, so_many_done, none_done, one_done, all_came}
 use Rattle.ipg_complete.proofs.completing.terms.Goals as goal
 
@@ -13,14 +13,13 @@ loop-written-init c = (
   rw (c.first-left.ensures, c.in_ok-made.ensures.items) none_done,
 )
 
-pub overflow_cast-number : goal.overflow_cast-number
-overflow_cast-number c =
+pub add_term-requires : goal.add_term-requires
+add_term-requires c =
     let at = c.loop-written in
     let all = at.invariant.0 ∙ c.into_iter-written-iterator.ensures.into_iter_gives.0 ∙ c.into_vec-written-items.ensures in
     let parts = sym (length-append at.yielded (into_iter_items at.written-iterator)) ∙ ap length all in
     let many = so_many_done at.yielded at.left at.made.items at.invariant.2 in
     let few = c.requires in
-    let is : c.len-number.result ≡ length at.made.items = c.len-number.ensures ∙ at.made.ok.0 in
     omega arith
 
 pub loop-written-preserved : goal.loop-written-preserved
@@ -28,16 +27,15 @@ loop-written-preserved c =
     let at = c.loop-written in
     let steps : into_iter_items at.written-iterator ≡ c.in-Some.written ∷ into_iter_items c.next.new.self = c.in-Some.ensures.steps.0 in
     let many = so_many_done at.yielded at.left at.made.items at.invariant.2 in
-    let is : c.len-number.result ≡ length at.made.items = c.len-number.ensures ∙ at.made.ok.0 in
-    let number : c.len-number.result ≡ 0 + length at.yielded = let e = is ∙ many in omega arith in (
+    let number : length at.made.items ≡ 0 + length at.yielded = omega (arith, many) in (
       append_assoc at.yielded (c.in-Some.written ∷ []) _ ∙ rw (← steps) at.invariant.0,
       let was = at.invariant.1 in
           let gone = c.in-Some.ensures.steps.1 in
           let short = ap length steps in
           omega arith,
-      subst (AreDone (at.yielded ++ c.in-Some.written ∷ []) c.in_ok-left.left) (sym c.in_ok-push.ensures.items)
-          (one_done at.yielded at.left at.made.items c.in-Some.written c.len-number.result c.in_ok-next.next c.in_ok-left.left at.invariant.2 number
-          c.in_ok-next.ensures c.in_ok-left.ensures),
+      subst (AreDone (at.yielded ++ c.in-Some.written ∷ []) c.add_term.new.left) (sym c.in_ok-add_term.ensures.0)
+          (one_done at.yielded at.left at.made.items c.in-Some.written (length at.made.items) (term_of at.left c.in-Some.written) c.add_term.new.left
+          at.invariant.2 number refl c.in_ok-add_term.ensures.1),
     )
 
 pub returns : goal.returns

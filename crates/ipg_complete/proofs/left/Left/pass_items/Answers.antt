@@ -2,7 +2,7 @@ use Rattle.std.proofs.Common.{◌∙◌, ap}
 use Rattle.ipg_core.specs.declared.grammar.CoreExpr.TheVariants.{After}
 use Rattle.ipg_complete.specs.Lefts.{base_expr, behind_items}
 use Rattle.ipg_complete.proofs.Lists.{behind_one_more}
-use Rattle.ipg_complete.proofs.left.Left.behind_items.Goals as goal
+use Rattle.ipg_complete.proofs.left.Left.pass_items.Goals as goal
 
 pub returns : goal.returns
 returns c =
