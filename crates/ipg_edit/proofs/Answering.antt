@@ -22,7 +22,8 @@ use Rattle.ipg_mach.specs.Counted.{IsTally}
 use Rattle.ipg_mach.specs.Known.{IsEntryOf, IsKnown}
 use Rattle.ipg_mach.specs.Stage.{source}
 use Rattle.ipg_mach.specs.Verdict.{first_call, ComesTo, IsVerdict}
-use Rattle.ipg_edit.specs.Answered.{deepest, AreCounts, Answers, IsAnswer, answer_by, counts_in}
+use Rattle.ipg_edit.specs.Answered.{deepest, AreCounts, Answers, AreAnswers, IsAnswer, answer_by, counts_in}
+use Rattle.ipg_edit.specs.declared.session.Answer as code
 use Rattle.ipg_edit.specs.Session.{Holding, AreInside, Knows, held_by, nothing}
 use Rattle.ipg_memo.specs.Keyed.{key_cmp}
 use Rattle.ipg_mach_nodes.specs.Stored as stored
@@ -182,3 +183,10 @@ comes_to_answer over deep inside at_end none g t s kept h answer tally later v k
     let fresh = inside g s means.height kept ran.keys k.good input ran.fresh in
     answers g t s means.height kept answer tally later ran means.is k.stand k.good (both_inside (length s) ran.keys kept fresh k.inside) still
     (knows_nothing g t s k.stand k.good) v is
+
+-- what is answered over what is lent and taken is answered over where these came from
+pub answered_there : (t : Rows) (lent s : List ℕ) (taken h : Holding) (given : code.Answer) (made later : Holding) → lent ≡ s → taken ≡ h → later ≡ made
+    → AreAnswers t lent taken given made → AreAnswers t s h given later
+answered_there t lent s taken h given made later same was put are =
+    subst (λ x. AreAnswers t x h given later) same (subst (λ x. AreAnswers t lent x given later) was
+    (subst (λ x. AreAnswers t lent taken given x) (sym put) are))

@@ -1,5 +1,5 @@
 -- What a session knows through an edit.
-use Rattle.std.proofs.Common.{◌≡◌, ◌≢◌, ℕ, ◌+◌, ◌-◌, ◌≤◌, ◌^◌, refl, subst, arith, List, length, Option, Some, None, Result}
+use Rattle.std.proofs.Common.{◌≡◌, ◌≢◌, ℕ, ◌+◌, ◌-◌, ◌≤◌, ◌^◌, refl, sym, ap, ◌∙◌, subst, arith, List, length, Option, Some, None, Result}
 use Rattle.std.proofs.Common.{◌⊎◌, inl, inr}
 use Rattle.std.specs.FinMap as map
 use Rattle.ipg_core.specs.Grammar.{Grammar}
@@ -20,8 +20,8 @@ use Rattle.ipg_edit_laws.specs.Laws.{EarlierTreesStay, LaterTreesMove, EditedLen
 use Rattle.ipg_edit_laws.specs.Known as laws
 use Rattle.ipg_edit_laws.specs.Known.{moved_key, known_after, keys_after, KnownStays, KnownMoves, NothingElse, OneOrigin, KeysAfterAreKnown}
 use Rattle.ipg_edit_laws.specs.Known.{StaysRightToKnow}
-use Rattle.ipg_edit.specs.Session.{Holding, Knows}
-use Rattle.ipg_edit.specs.Edits.{IsAllowed, AreMoved}
+use Rattle.ipg_edit.specs.Session.{Seen, Holding, Knows}
+use Rattle.ipg_edit.specs.Edits.{IsAllowed, AreMoved, IsEdited, StaysKnown}
 use Rattle.ipg_edit.proofs.Keeping as keeping
 
 -- the laws that an edit stands on
@@ -58,6 +58,14 @@ pub is_allowed : EditedLength → (s with : List ℕ) (from to n : ℕ) → n �
 is_allowed long s with from to n size tests =
     let within : IsEditOf s from to = record { valid = tests.0; inside = let inside = tests.1 in omega (arith, size, inside) } in
     record { within = within; small = let room = tests.2 in let all = long s with from to within in omega (arith, size, room, all) }
+
+pub is_tested : EditedLength → (s with : List ℕ) (from to n : ℕ) → n ≡ length s → IsAllowed s from to with
+    → (from ≤ to) × (to ≤ n) × (n + length with - (to - from) ≤ 2 ^ 30)
+is_tested long s with from to n size allowed =
+    let valid = allowed.within.valid in
+    let inside = allowed.within.inside in
+    let small = allowed.small in
+    let all = long s with from to allowed.within in (valid, omega (arith, size, inside), omega (arith, size, all, small))
 
 module _ (l : Laws) (g : Grammar) (kept : List Key) (t : Rows) (s : List ℕ) (h : Holding) (k : Knows g kept (record { tables = t; input = s; holding = h }))
     (from to : ℕ) (with : List ℕ) (allowed : IsAllowed s from to with) where
@@ -121,3 +129,20 @@ module _ (l : Laws) (g : Grammar) (kept : List Key) (t : Rows) (s : List ℕ) (h
     right = l.right g s with from to k.known allowed.within k.right;
     holds = holds_by h.memo memo k.holds moved;
   }
+
+-- what is put in place of the input and of the entries is what an edit makes of a session
+pub is_edited : StaysKnown → (from to : ℕ) (with : List ℕ) (t : Rows) (s : List ℕ) (h : Holding) (lent made later : List ℕ) (memo : Option Entries)
+    (held : Holding) → IsAllowed s from to with → lent ≡ s → made ≡ edited lent from to with → later ≡ made
+    → AreMoved from to (length with) h.memo memo → held ≡ record { store = h.store; memo = memo; shown = None }
+    → IsEdited from to with (record { tables = t; input = s; holding = h }) (record { tables = t; input = later; holding = held })
+is_edited law from to with t s h lent made later memo held allowed same is put moved holds =
+    let old : Seen = record { tables = t; input = s; holding = h } in
+    let new : Seen = record { tables = t; input = edited s from to with; holding = record { store = h.store; memo = memo; shown = None } } in
+    let input : later ≡ edited s from to with = put ∙ is ∙ ap (λ x. edited x from to with) same in
+    let all : new ≡ record { tables = t; input = later; holding = held } = (λ i. record { tables = t; input = sym input i; holding = sym holds i }) in
+    subst (IsEdited from to with old) all (record {
+      tables = refl;
+      input = refl;
+      shown = refl;
+      knows = λ grammar kept k. law.knows grammar kept t s h from to with memo k allowed moved;
+    })

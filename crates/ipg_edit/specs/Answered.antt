@@ -3,17 +3,18 @@ use Rattle.std.specs.Prelude.{◌≡◌, ℕ, ◌+◌, ◌-◌, ◌^◌, min, Li
 use Rattle.ipg_core.specs.Grammar.{Grammar}
 use Rattle.ipg_core.specs.Tree.{Tree}
 use Rattle.ipg_core.specs.Run.{Stop, NoTree, OutOfRange}
-use Rattle.ipg_core.specs.Meaning.{den}
+use Rattle.ipg_core.specs.Meaning.{den, Means}
 use Rattle.ipg_mach_moves.specs.Moves.{Key}
 use Rattle.ipg_mach_count_laws.specs.Counts.{calls_by}
 use Rattle.ipg_mach_count_laws.specs.Depth.{nested}
 use Rattle.ipg_mach_count_laws.specs.Kept.{IsFresh}
+use Rattle.ipg_table.specs.Rows.{Rows}
 use Rattle.ipg_tree_walk.specs.declared.parsed.Counts.{Counts}
 use Rattle.ipg_mach.specs.declared.verdict.Verdict.{Verdict}
 use Rattle.ipg_mach.specs.declared.verdict.Verdict.TheVariants as verdict
 use Rattle.ipg_edit.specs.declared.session.Answer as code
 use Rattle.ipg_edit.specs.declared.session.Answer.TheVariants as answer
-use Rattle.ipg_edit.specs.Session.{Seen, Knows, Shows}
+use Rattle.ipg_edit.specs.Session.{Seen, Holding, Knows, Shows}
 
 -- so many calls were open at most where these keys had to run: none where none had to
 abbrev pub deepest : Grammar → List ℕ → ℕ → (kept keys : List Key) → ℕ
@@ -51,3 +52,8 @@ pub record Answers (g : Grammar) (input : List ℕ) (kept : List Key) (answer : 
   pub fresh : IsFresh g input height kept keys
   pub counts : AreCounts g input height kept keys (counts_in given)
   pub is : IsAnswer given g answer kept keys s
+
+-- over what is held this is answered, and this is held then, whatever the grammar is
+pub record AreAnswers (t : Rows) (s : List ℕ) (h : Holding) (given : code.Answer) (later : Holding) : Type 0 where
+  pub answers : (g : Grammar) (kept : List Key) (answer : Result Tree Stop) → Knows g kept (record { tables = t; input = s; holding = h })
+      → Means g s answer → Answers g s kept answer given (record { tables = t; input = s; holding = later })

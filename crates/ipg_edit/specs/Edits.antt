@@ -9,7 +9,8 @@ use Rattle.ipg_memo.specs.Keyed.{Entries}
 use Rattle.ipg_memo.specs.Moved.{IsMoved}
 use Rattle.ipg_edit.specs.declared.session.State.{State}
 use Rattle.ipg_edit.specs.declared.session.State.TheVariants as state
-use Rattle.ipg_edit.specs.Session.{Seen, Knows}
+use Rattle.ipg_table.specs.Rows.{Rows}
+use Rattle.ipg_edit.specs.Session.{Seen, Holding, Knows}
 
 -- the edit lies in the input, and leaves no more bytes than an input may have
 pub record IsAllowed (input : List ℕ) (from to : ℕ) (with : List ℕ) : Type 0 where
@@ -34,3 +35,10 @@ pub record IsEdited (from to : ℕ) (with : List ℕ) (old new : Seen) : Type 0 
   pub input : new.input ≡ edited old.input from to with
   pub shown : new.holding.shown ≡ None
   pub knows : (g : Grammar) (kept : List Key) → Knows g kept old → Knows g (keys_after from to (length with) kept) new
+
+-- what an edit makes of a memo's entries is what is known of the keys that are kept through it, over the same nodes
+pub record StaysKnown : Type 0 where
+  pub knows : (g : Grammar) (kept : List Key) (t : Rows) (s : List ℕ) (h : Holding) (from to : ℕ) (with : List ℕ) (memo : Option Entries)
+      → Knows g kept (record { tables = t; input = s; holding = h }) → IsAllowed s from to with → AreMoved from to (length with) h.memo memo
+      → Knows g (keys_after from to (length with) kept)
+      (record { tables = t; input = edited s from to with; holding = record { store = h.store; memo = memo; shown = None } })

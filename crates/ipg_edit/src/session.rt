@@ -11,9 +11,9 @@ ghost use Rattle.ipg_core.specs.Tree.{Tree as AnyTree};
 ghost use Rattle.ipg_mach_moves.specs.Moves.{Key};
 ghost use Rattle.ipg_table.specs.Rows.{StandFor};
 ghost use Rattle.ipg_tree.specs.Puts.{Puts};
-ghost use Rattle.ipg_edit.specs.Answered.{Answers, answer_by};
+ghost use Rattle.ipg_edit.specs.Answered.{Answers, AreAnswers, answer_by};
 ghost use Rattle.ipg_edit_laws.specs.Edited.{edited, IsEditOf};
-ghost use Rattle.ipg_edit.specs.Edits.{IsAllowed, IsEdited, AreMoved, memo_with};
+ghost use Rattle.ipg_edit.specs.Edits.{IsAllowed, IsEdited, AreMoved, StaysKnown, memo_with};
 ghost use Rattle.ipg_edit.specs.Session.{Knows, Shows, holding, held_by, nothing};
 
 use ipg_edit_laws::laws::{
@@ -61,6 +61,21 @@ impl From<AllocError> for EditFault {
     }
 }
 
+/// What a session knows through an edit.
+fn stays_known()
+    ensures { StaysKnown }
+{
+    earlier_trees_stay();
+    later_trees_move();
+    known_stays();
+    known_moves();
+    nothing_else();
+    one_origin();
+    keys_after_are_known();
+    stays_right_to_know();
+    edited_length();
+}
+
 /// How many bytes an input may have.
 const MAX_INPUT: usize = 1 << 30;
 
@@ -99,13 +114,22 @@ impl<'t, A: Allocator> Model for Session<'t, A> {
 }
 
 /// Whether an input of so many bytes has the places, in order, and so many bytes in their stead leave one that isn't too long.
-fn is_allowed(size: usize, from: u32, to: u32, new: usize) -> bool
+fn fits(size: usize, from: u32, to: u32, new: usize) -> bool
     requires { size ≤ 2 ^ 30 }
     ensures { IsTrue result ↔ ((from ≤ to) × (to ≤ size) × (size + new - (to - from) ≤ 2 ^ 30)) }
 {
     from <= to
         && to as usize <= size
         && (size - (to - from) as usize).saturating_add(new) <= MAX_INPUT
+}
+
+/// Whether an input has the places, in order, and other bytes between them leave one that isn't too long.
+fn is_allowed(input: &[u8], from: u32, to: u32, with: &[u8]) -> bool
+    requires { length input.now ≤ 2 ^ 30 }
+    ensures { IsTrue result ↔ IsAllowed input.now from to with.now }
+{
+    edited_length();
+    fits(input.len(), from, to, with.len())
 }
 
 /// What is lent of an input are bytes.
@@ -148,7 +172,33 @@ fn moved_memo<A: Allocator + Clone + Drop>(
     }
 }
 
+/// An input and a memo's entries, as an edit leaves them.
+#[derive(Drop)]
+struct Later<A: Allocator> {
+    input: Vec<u8, A>,
+    memo: Option<Memo<A>>,
+}
+
 impl<A: Allocator + Clone + Drop> State<A> {
+    /// What an edit leaves of an input, and of the entries of what is kept.
+    fn after(
+        &self,
+        alloc: &A,
+        input: &[u8],
+        from: u32,
+        to: u32,
+        with: &[u8],
+    ) -> Result<Later<A>, AllocError>
+        requires { IsAllowed input.now from to with.now }
+        ensures { IfOk result (λ later. (later.input.items ≡ edited input.now from to with.now)
+            × AreMoved from to (length with.now) (holding self.now).memo (memo_with self.now later.memo)) }
+    {
+        edited_length();
+        let input = replaced(alloc.clone()?, input, from as usize, to as usize, with)?;
+        let memo = self.moved(from, to, with.len() as u32)?;
+        Ok(Later { input, memo })
+    }
+
     /// The entries of what is kept, as an edit leaves them.
     fn moved(&self, from: u32, to: u32, new: u32) -> Result<Option<Memo<A>>, AllocError>
         requires { from ≤ to }
@@ -178,18 +228,77 @@ impl<A: Allocator + Clone + Drop> State<A> {
         }
     }
 
+    /// Puts other entries over the same nodes. No tree is shown any more.
+    fn put(&mut self, memo: Option<Memo<A>>)
+        ensures { holding self.new ≡ record { store = (holding self.old).store; memo = memo_with self.old memo; shown = None } }
+    {
+        let state = replace(self, State::Nothing).with_memo(memo);
+        // (as a call, what lay there meanwhile needn't be looked at here)
+        drop(replace(self, state));
+    }
+
     /// What is kept. The tree isn't shown any more.
-    fn into_kept(self, alloc: A) -> Result<Kept<A>, AllocError>
+    fn into_kept(self, alloc: &A) -> Result<Kept<A>, AllocError>
         ensures { IfOk result (λ kept. (kept.store ≡ (holding self).store) × (kept.memo ≡ (holding self).memo)) }
     {
         match self {
-            State::Nothing => Kept::new(alloc, Remember::Answers),
+            State::Nothing => Kept::new(alloc.clone()?, Remember::Answers),
             State::Known(kept) => Ok(kept),
             State::Shown(tree, memo) => Ok(Kept {
                 store: tree.into_store(),
                 memo,
             }),
         }
+    }
+
+    /// What an input comes to over what is kept.
+    fn run(self, alloc: &A, tables: &Tables, input: &[u8]) -> Result<Verdict<A>, AllocError>
+        requires { length input.now ≤ 2 ^ 30 }
+        ensures { IfOk result (λ verdict. AreAnswers tables.now input.now (holding self) (answer_by verdict) (held_by verdict)) }
+    {
+        counts_over();
+        deepest_over();
+        fresh_lie_inside();
+        known_at_end();
+        none_where_first_kept();
+        holds_bytes(input);
+        let kept = self.into_kept(alloc)?;
+        match alloc.clone() {
+            Ok(alloc) => kept.run(alloc, tables, input),
+            Err(fault) => {
+                drop(kept);
+                Err(fault)
+            }
+        }
+    }
+
+    /// What is known after a parse. Its tree is shown.
+    fn after_parse(verdict: Verdict<A>, alloc: &A) -> Result<(Answer, State<A>), AllocError>
+        ensures { IfOk result (λ known. (known.0 ≡ answer_by verdict) × (holding known.1 ≡ held_by verdict)) }
+    {
+        match verdict {
+            Verdict::Tree { root, counts, kept } => {
+                let Kept { store, memo } = kept;
+                let tree = Detached::new(alloc.clone()?, store, root, counts)?;
+                Ok((Answer::Tree(counts), State::Shown(tree, memo)))
+            }
+            Verdict::NoTree { counts, kept } => Ok((Answer::NoTree(counts), State::Known(kept))),
+            Verdict::Range { counts } => Ok((Answer::Range(counts), State::Nothing)),
+        }
+    }
+
+    /// What an input comes to, and what is known of it then.
+    fn answer(
+        self,
+        alloc: &A,
+        tables: &Tables,
+        input: &[u8],
+    ) -> Result<(Answer, State<A>), AllocError>
+        requires { length input.now ≤ 2 ^ 30 }
+        ensures { IfOk result (λ given. AreAnswers tables.now input.now (holding self) given.0 (holding given.1)) }
+    {
+        let verdict = self.run(alloc, tables, input)?;
+        State::after_parse(verdict, alloc)
     }
 
     /// Writes the lines of the tree that is shown, without taking memory, and gives all back as it was.
@@ -239,40 +348,11 @@ impl<'t, A: Allocator + Clone + Drop> Session<'t, A> {
         ensures input { self.new.input ≡ self.old.input }
         ensures tables { self.new.tables ≡ self.old.tables }
     {
-        counts_over();
-        deepest_over();
-        fresh_lie_inside();
-        known_at_end();
-        none_where_first_kept();
         let state = replace(&mut self.state, State::Nothing);
-        let kept = state.into_kept(self.alloc.clone()?)?;
-        let input = self.input.as_slice();
-        holds_bytes(input);
-        let verdict = kept.run(self.alloc.clone()?, self.tables, input)?;
-        self.take(verdict)
-    }
-
-    /// What a parse came to is known, and its tree shown.
-    fn take(&mut self, verdict: Verdict<A>) -> Result<Answer, AllocError>
-        requires { self.old.holding ≡ nothing }
-        ensures ok { IfOk result (λ given. (given ≡ answer_by verdict) × (self.new.holding ≡ held_by verdict)) }
-        ensures err { OnErr result (self.new.holding ≡ nothing) }
-        ensures input { self.new.input ≡ self.old.input }
-        ensures tables { self.new.tables ≡ self.old.tables }
-    {
-        match verdict {
-            Verdict::Tree { root, counts, kept } => {
-                let Kept { store, memo } = kept;
-                let tree = Detached::new(self.alloc.clone()?, store, root, counts)?;
-                self.state = State::Shown(tree, memo);
-                Ok(Answer::Tree(counts))
-            }
-            Verdict::NoTree { counts, kept } => {
-                self.state = State::Known(kept);
-                Ok(Answer::NoTree(counts))
-            }
-            Verdict::Range { counts } => Ok(Answer::Range(counts)),
-        }
+        let (given, state) = state.answer(&self.alloc, self.tables, self.input.as_slice())?;
+        // (as a call, what lay there meanwhile needn't be looked at here)
+        drop(replace(&mut self.state, state));
+        Ok(given)
     }
 
     /// Replaces the bytes from one place up to another. What is known of parts before them and behind them stays known. A
@@ -286,28 +366,16 @@ impl<'t, A: Allocator + Clone + Drop> Session<'t, A> {
         ensures ok { OnOk result (IsEdited from to with.now self.old self.new) }
         ensures err { OnErr result (self.new ≡ self.old) }
     {
-        earlier_trees_stay();
-        later_trees_move();
-        known_stays();
-        known_moves();
-        nothing_else();
-        one_origin();
-        keys_after_are_known();
-        stays_right_to_know();
-        edited_length();
-        if !is_allowed(self.input.len(), from, to, with.len()) {
+        stays_known();
+        if !is_allowed(self.input.as_slice(), from, to, with) {
             return Err(EditFault::OutOfInput);
         }
-        let input = replaced(
-            self.alloc.clone()?,
-            self.input.as_slice(),
-            from as usize,
-            to as usize,
-            with,
-        )?;
-        let memo = self.state.moved(from, to, with.len() as u32)?;
-        self.input = input;
-        self.state = replace(&mut self.state, State::Nothing).with_memo(memo);
+        let later = self
+            .state
+            .after(&self.alloc, self.input.as_slice(), from, to, with)?;
+        let Later { input, memo } = later;
+        drop(replace(&mut self.input, input));
+        self.state.put(memo);
         Ok(())
     }
 
