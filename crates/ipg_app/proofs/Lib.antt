@@ -8,6 +8,7 @@ pub mod OneReason
 pub mod Explained
 pub mod OneVerdict
 pub mod OneParse
+pub mod OneFollowed
 pub mod Meant
 pub mod Nesting
 pub mod Hits

@@ -28,7 +28,8 @@ use Rattle.ipg_app.specs.Refusal.{fault_said, name_said, circular, no_touch}
 use Rattle.ipg_app.specs.Checks.{may_loop}
 use Rattle.ipg_app.specs.CoreOf.{Answer, Circles, On, grammar_in, or_fault, resolved, unless_fault, unless_loose}
 use Rattle.ipg_app.specs.CoreOf.{name_of, Orders, OrdersAndTouches, CoreFrom, CoreOf}
-use Rattle.ipg_app.specs.Explained.{Explains, explained_said}
+use Rattle.ipg_app.specs.Explained.{Explains, Refuses, explained_said}
+use Rattle.ipg_app.specs.Followed.{Cleared, Clears}
 use Rattle.ipg_app.specs.Reasons.{Reason, listed, read_reason, name_reason, cycle_places, CoreOrReason, IsCycle, IsLoose, IsRefused}
 use Rattle.ipg_app.specs.Reasons.{IsStuck, IsUnnamed, IsUnordered, IsUnread, Judged}
 use Rattle.ipg_app.proofs.OneCore.{not_both, orders_same, from_once}
@@ -100,12 +101,16 @@ too_long text h =
     ap (tokens_answer text) (ap (λ b. cond b (Err read.TooLong) (lexed 0 0 text)) long)
 
 -- no place of such a text is shown
-pub explains_too_long : (name text : List ℕ) (said : Said) (r : Reason) → r ≡ read_reason read.TooLong → said ≡ explained_said name [] (Some r)
-    → 2 ^ 20 < length text → Explains name text said
-explains_too_long name text said r is told long =
+pub refuses_too_long : (name text : List ℕ) (said : Said) (r : Reason) → r ≡ read_reason read.TooLong → said ≡ explained_said name [] (Some r)
+    → 2 ^ 20 < length text → Refuses name text said
+refuses_too_long name text said r is told long =
     let reason = read_reason read.TooLong in
     let same : said ≡ explained_said name text (Some reason) = told ∙ ap (λ x. explained_said name [] (Some x)) is in
-    (Some reason, inl (record { fault = read.TooLong; reads = too_long text long; is = refl }), same)
+    (reason, inl (record { fault = read.TooLong; reads = too_long text long; is = refl }), same)
+
+-- what is refused is explained
+pub refuses_explains : (name text : List ℕ) (said : Said) → Refuses name text said → Explains name text said
+refuses_explains name text said (reason, judged, is) = (Some reason, judged, is)
 
 -- ---- a text has one reason
 
@@ -238,3 +243,15 @@ module _ (one_limit : OneLimit) (orders_once : OrdersOnce) (good_is_not_stuck : 
 
   pub explains_same : (name text : List ℕ) (one other : Said) → Explains name text one → Explains name text other → one ≡ other
   explains_same name text one other (r, h, is) (s, k, too) = is ∙ ap (explained_said name text) (judged_same text r s h k) ∙ sym too
+
+  core_same : (g : written.Grammar) (core other : Grammar) → CoreFrom g (Ok core) → CoreFrom g (Ok other) → core ≡ other
+  core_same g core other h k = let both = from_same g (Ok core) (Ok other) h k in cc
+
+  pub clears_same : (text : List ℕ) (one other : Result Cleared Reason) → Clears text one → Clears text other → one ≡ other
+  clears_same text (Ok (g, core)) (Ok (h, other)) (is, from, accepts) (too, comes, also) =
+      let grammar = same_grammar (grammar_in text) g h is too in
+      let same = core_same h core other (subst (λ x. CoreFrom x (Ok core)) grammar from) comes in
+      ap (λ x. Ok (x, core)) grammar ∙ ap (λ x. Ok (h, x)) same
+  clears_same text (Ok (g, core)) (Err reason) (is, from, accepts) h = absurd (not_refused text core reason (of_text text g (Ok core) is from) accepts h)
+  clears_same text (Err reason) (Ok (g, core)) h (is, from, accepts) = absurd (not_refused text core reason (of_text text g (Ok core) is from) accepts h)
+  clears_same text (Err one) (Err other) h k = let both : Some one ≡ Some other = judged_same text (Some one) (Some other) h k in cc

@@ -28,12 +28,13 @@ use Rattle.ipg_app.specs.Certificate.{Reads, Judges, cert_text, proof_said}
 use Rattle.ipg_app.specs.Checks.{Checks}
 use Rattle.ipg_app.specs.Editing.{ReadsScript, Edits, edit_text}
 use Rattle.ipg_app.specs.CoreOf.{CoreOf, grammar_in}
-use Rattle.ipg_app.specs.Laws.{OneCore, OneCheck, OneParse, OneEdits, OneExplained, OneTrial, OneReply, HasOneReply}
+use Rattle.ipg_app.specs.Laws.{OneCore, OneCheck, OneParse, OneEdits, OneExplained, OneCleared, OneFollowed, OneTrial, OneReply, HasOneReply}
 use Rattle.ipg_app.specs.Order.{Order, Answers, says, finds, reads, only, have}
 use Rattle.ipg_app.specs.Path.{ReadsPath, query_syntax}
 use Rattle.ipg_app.specs.Reply.{Task, Parse, Check, Cert, Verify, Table, Cover, Edit, text_by, core_of, accepted, input_in, parse_input, judge, formatted}
-use Rattle.ipg_app.specs.Reply.{order_by, order_on, use_order, load_in, Parses, edit_file, edit_input, edits_of, trial_of, try_core}
+use Rattle.ipg_app.specs.Reply.{order_by, order_on, use_order, load_in, Parses, edit_file, edit_input, edits_of, explain_text, follow, trial_of, try_core}
 use Rattle.ipg_app.specs.Explained.{Explains}
+use Rattle.ipg_app.specs.Followed.{Cleared, Clears, Follows, or_told, subject}
 use Rattle.ipg_app.specs.Helped.{help_said, version_said}
 use Rattle.ipg_app.specs.Trial.{kind_by, parts_in, Tries}
 use Rattle.ipg_app.specs.Covering.{CoverSays, may_gap}
@@ -230,7 +231,8 @@ module _ (told : List ℕ → Told) where
 
   module _ (one_core : OneCore) (one_check : OneCheck) (one_parse : OneParse) (one_path : OnePath) (no_fault : ProvesIsNoFault) (is_one : FaultIsOne)
       (load_once : LoadOnce) (no_gap : CoveredHasNoGap) (one_gap : OneGap)
-      (one_edits : OneEdits) (one_script : OneScript) (one_explained : OneExplained) (one_trial : OneTrial) (known : (name : List ℕ) → told name ≢ untold) where
+      (one_edits : OneEdits) (one_script : OneScript) (one_explained : OneExplained) (one_cleared : OneCleared) (one_followed : OneFollowed)
+      (one_trial : OneTrial) (known : (name : List ℕ) → told name ≢ untold) where
     one_accepted : (g : Grammar) (next : Grammar → Order) → ((same : Grammar) → IsOne (next same)) → IsOne (accepted g next)
     one_accepted g next each =
         one_found (Checks g) (λ answer. have answer next) (one_check g) (λ answer. one_have answer next each)
@@ -282,6 +284,17 @@ module _ (told : List ℕ → Told) where
     one_task Cover g settled = one_accepted g (λ same. says (CoverSays same)) (λ same. covers_same no_gap one_gap same)
     one_task (Edit input script) g settled = one_accepted g (edit_file input script) (one_edit_file input script)
 
+    one_follow : (name text input : List ℕ) (made : Cleared) → IsOne (follow name text input made)
+    one_follow name text input made =
+        one_read input (λ bytes. have (input_in bytes) (λ these. says (Follows (subject name text made.0 these) made.1))) (known input)
+        (λ bytes. one_bytes bytes (λ these. says (Follows (subject name text made.0 these) made.1))
+        (λ these. one_followed (subject name text made.0 these) made.1))
+
+    one_explain : (name input text : List ℕ) → IsOne (explain_text name input text)
+    one_explain name input text =
+        one_found (Clears text) (λ answer. have (or_told name text answer) (follow name text input)) (one_cleared text)
+        (λ answer. one_have (or_told name text answer) (follow name text input) (one_follow name text input))
+
     one_use : (grammar : List ℕ) (task : Task) → IsNoCert task → IsOne (use_order grammar task)
     one_use grammar task settled =
         one_text (kind_of grammar) grammar (λ text. core_of text (order_by task)) (known grammar)
@@ -312,7 +325,9 @@ module _ (told : List ℕ → Told) where
       where
         tried : List ℕ → Kind → ℕ → Order
         tried name kind parts = core_of (text_of kind) (try_core name kind parts)
-    one_request (Some (Explain grammar)) settled =
+    one_request (Some (Explain grammar (Some input))) settled =
+        one_text (kind_of grammar) grammar (λ text. explain_text grammar input text) (known grammar) (λ text. one_explain grammar input text)
+    one_request (Some (Explain grammar None)) settled =
         one_text (kind_of grammar) grammar (λ text. says (Explains grammar text)) (known grammar) (one_explained grammar)
     one_request (Some (Help command)) settled = one_only (help_said command)
     one_request (Some Version) settled = one_only version_said
@@ -325,8 +340,9 @@ module _ (told : List ℕ → Told) where
         (λ read. one_have read (λ query. use_order grammar (Parse (Picked query) input)) (λ query. one_use grammar (Parse (Picked query) input) tt))
 
 pub one_reply : OneCore → OneCheck → OneParse → OnePath → ProvesIsNoFault → FaultIsOne → LoadOnce → CoveredHasNoGap → OneGap → OneEdits → OneScript
-    → OneExplained → OneTrial → OneReply
-one_reply one_core one_check one_parse one_path no_fault is_one load_once no_gap one_gap one_edits one_script one_explained one_trial
+    → OneExplained → OneCleared → OneFollowed → OneTrial → OneReply
+one_reply one_core one_check one_parse one_path no_fault is_one load_once no_gap one_gap one_edits one_script one_explained one_cleared one_followed one_trial
     told words one other known plain =
-    one_request told one_core one_check one_parse one_path no_fault is_one load_once no_gap one_gap one_edits one_script one_explained one_trial
+    one_request told one_core one_check one_parse one_path no_fault is_one load_once no_gap one_gap one_edits one_script one_explained one_cleared
+    one_followed one_trial
     known (request_of words) plain one other

@@ -13,6 +13,10 @@ use Rattle.ipg_formats.specs.declared.Kind.{Kind}
 use Rattle.ipg_formats.specs.Names.{kind_of}
 use Rattle.ipg_formats.specs.Text.{text_of}
 use Rattle.ipg_app.specs.Reply.{input_in, text_by, text_under, grammar_of, core_of, grammar_under, core_under, accepted, path_in, script_in, held_in, max_input}
+use Rattle.ipg_app.specs.Reply.{cleared, explain_text, follow}
+use Rattle.ipg_app.specs.Explained.{Refuses, explained_said}
+use Rattle.ipg_app.specs.Followed.{Cleared, Clears}
+use Rattle.ipg_app.specs.Reasons.{Reason}
 use Rattle.ipg_app.specs.Tables.{Loads}
 use Rattle.ipg_query_path.specs.declared.path.Query.{Query}
 use Rattle.ipg_app.specs.Path.{ReadsPath}
@@ -76,6 +80,19 @@ module _ (told : List ℕ → Told) (before after : List ℕ → ℕ) where
 
   pub core_refused : (text : List ℕ) (next : Grammar → Order) (said : Said) → CoreOf text (Err said) → Settled (core_of text next) said
   core_refused text next said h = inl (Err said, h, refl)
+
+  -- a text that has a core grammar by which parsing ends leads on
+  pub cleared_on : (name text : List ℕ) (next : Cleared → Order) (said : Said) (made : Cleared) → Clears text (Ok made) → Settled (next made) said
+      → Settled (cleared name text next) said
+  cleared_on name text next said made h (inl a) = inl (Ok made, h, a)
+  cleared_on name text next said made h (inr f) = inr (record { name = f.name; turn = (Ok made, h, f.turn); rose = f.rose; is = f.is })
+
+  pub not_cleared : (name text : List ℕ) (next : Cleared → Order) (said : Said) (reason : Reason) → Clears text (Err reason)
+      → said ≡ explained_said name text (Some reason) → Settled (cleared name text next) said
+  not_cleared name text next said reason h is = inl (Err reason, h, is)
+
+  pub refused_text : (name input text : List ℕ) (said : Said) → Refuses name text said → Settled (explain_text name input text) said
+  refused_text name input text said (reason, h, is) = not_cleared name text (follow name text input) said reason h is
 
   -- the path of a text leads on
   pub path_goes_on : (text : List ℕ) (next : Query → Order) (said : Said) (path : Query) → ReadsPath text (Ok path) → Settled (next path) said

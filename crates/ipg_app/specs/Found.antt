@@ -6,7 +6,7 @@ use Rattle.ipg_outside.specs.Files.{Told, MayHold}
 use Rattle.ipg_app.specs.Said.{Said}
 use Rattle.ipg_app.specs.CoreOf.{grammar_in, CoreOf}
 use Rattle.ipg_app.specs.Order.{Order, Step, says, Answers, contents, ◌>>=◌}
-use Rattle.ipg_app.specs.Reply.{grammar_of, core_of}
+use Rattle.ipg_app.specs.Reply.{grammar_of, core_of, explain_text}
 use Rattle.ipg_app.specs.Explained.{Explains}
 
 abbrev pub grammar_in_file : List ℕ → Step written.Grammar
@@ -23,6 +23,11 @@ abbrev pub explain_in_file : List ℕ → Order
 explain_in_file name = do
   text ← contents name
   says (Explains name text)
+
+abbrev pub explain_input_in_file : (name input : List ℕ) → Order
+explain_input_in_file name input = do
+  text ← contents name
+  explain_text name input text
 
 -- a name of which this is told may hold a text of the grammar
 pub record Found (told : Told) (g : written.Grammar) : Type 0 where

@@ -1,5 +1,5 @@
 -- What holds of core grammars and refusals.
-use Rattle.std.specs.Prelude.{◌≡◌, ◌≢◌, ◌≤◌, ℕ, List, ◌++◌, length, Option, Some, None, Ok}
+use Rattle.std.specs.Prelude.{◌≡◌, ◌≢◌, ◌≤◌, ℕ, List, ◌++◌, length, Option, Some, None, Result, Ok}
 use Rattle.ipg_outside.specs.Files.{Told, untold, holds}
 use Rattle.ipg_core.specs.Grammar.{Grammar}
 use Rattle.ipg_app_words.specs.Request as words
@@ -9,12 +9,15 @@ use Rattle.ipg_core.specs.Grown.{IsInput}
 use Rattle.ipg_core.specs.Meaning.{Means}
 use Rattle.ipg_core.specs.Tree.{Tree}
 use Rattle.ipg_app.specs.Covering.{IsCovered}
-use Rattle.ipg_app.specs.declared.task.Show.TheVariants.{Bytes}
+use Rattle.ipg_app.specs.declared.task.Show.TheVariants.{Bytes, Lines}
 use Rattle.ipg_app.specs.Said.{Said, done}
 use Rattle.ipg_app.specs.Order.{Answers}
 use Rattle.ipg_app.specs.declared.task.Show.{Show}
 use Rattle.ipg_app.specs.Reply.{use_order, order_of, core_of, check, Check, verify, max_input, Parses}
 use Rattle.ipg_app.specs.Explained.{Explains}
+use Rattle.ipg_app.specs.Followed.{Cleared, Clears, Follows}
+use Rattle.ipg_app.specs.Reasons.{Reason}
+use Rattle.ipg_app_explain.specs.Furthest.{Subject}
 use Rattle.ipg_app.specs.Found.{Says}
 use Rattle.ipg_app.specs.Trial.{Tries}
 use Rattle.ipg_formats.specs.declared.Kind.{Kind}
@@ -47,6 +50,18 @@ OneTrial = (name : List ℕ) (kind : Kind) (n : ℕ) (g : Grammar) (one other : 
 -- of a text under a name `explain` says one thing
 abbrev pub OneExplained : Type 0
 OneExplained = (name text : List ℕ) (one other : Said) → Explains name text one → Explains name text other → one ≡ other
+
+-- a text has one grammar by which parsing ends, or one reason against it
+abbrev pub OneCleared : Type 0
+OneCleared = (text : List ℕ) (one other : Result Cleared Reason) → Clears text one → Clears text other → one ≡ other
+
+-- of an input by a grammar `explain` says one thing
+abbrev pub OneFollowed : Type 0
+OneFollowed = (s : Subject) (core : Grammar) (one other : Said) → Follows s core one → Follows s core other → one ≡ other
+
+-- it ends as `parse` does
+abbrev pub FollowEndsAsParse : Type 0
+FollowEndsAsParse = (s : Subject) (core : Grammar) (said own : Said) → Follows s core said → Parses Lines core s.input own → said.status ≡ own.status
 
 -- the status is that of what `check` says of the text, and the text begins with its line
 pub record BeginsAs (text : List ℕ) (said : Said) : Type 0 where
@@ -87,7 +102,7 @@ HasOneReply (Some (Trial kind n)) = Unit {0}
 HasOneReply (Some (Query grammar input path)) = Unit {0}
 HasOneReply (Some (View grammar input path)) = Unit {0}
 HasOneReply (Some (Load table input)) = Unit {0}
-HasOneReply (Some (Explain grammar)) = Unit {0}
+HasOneReply (Some (Explain grammar input)) = Unit {0}
 HasOneReply (Some (Help command)) = Unit {0}
 HasOneReply (Some Version) = Unit {0}
 

@@ -10,6 +10,7 @@ pub mod Certificate
 -- where and why a grammar is refused, for a person; what is written for help
 pub mod Reasons
 pub mod Explained
+pub mod Followed
 pub mod Helped
 -- table files
 pub mod Tables

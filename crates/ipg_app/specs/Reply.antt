@@ -25,6 +25,7 @@ use Rattle.ipg_app.specs.Covering.{CoverSays}
 use Rattle.ipg_app.specs.Editing.{ReadsScript, Edits}
 use Rattle.ipg_app.specs.Path.{ReadsPath}
 use Rattle.ipg_app.specs.Explained.{Explains}
+use Rattle.ipg_app.specs.Followed.{Cleared, Clears, Follows, or_told, subject}
 use Rattle.ipg_app.specs.Helped.{help_said, version_said}
 use Rattle.ipg_app.specs.Shown.{TreeSays}
 use Rattle.ipg_app.specs.Trial.{Tries, kind_by, parts_in}
@@ -220,10 +221,40 @@ fmt grammar = do
   formatted g
 
 -- G1 to G14 with their places, for a person
-abbrev pub explain : List ℕ → Order
-explain name = do
+abbrev pub explain_grammar : List ℕ → Order
+explain_grammar name = do
   text ← text_under name
   says (Explains name text)
+
+-- ---- the command that tells where an input stopped being what a grammar wants
+
+-- the same of a text, where it is refused
+abbrev pub cleared : (name text : List ℕ) → Step Cleared
+cleared name text next = do
+  answer ← found (Clears text)
+  made ← have (or_told name text answer)
+  next made
+
+abbrev pub follow : (name text input : List ℕ) → Cleared → Order
+follow name text input made = do
+  bytes ← contents input
+  these ← have (input_in bytes)
+  says (Follows (subject name text made.0 these) made.1)
+
+abbrev pub explain_text : (name input text : List ℕ) → Order
+explain_text name input text = do
+  made ← cleared name text
+  follow name text input made
+
+abbrev pub explain_input : (name input : List ℕ) → Order
+explain_input name input = do
+  text ← text_under name
+  explain_text name input text
+
+-- the grammar alone, or what an input comes to by it
+abbrev pub explain : (name : List ℕ) → (input : Option (List ℕ)) → Order
+explain name None = explain_grammar name
+explain name (Some input) = explain_input name input
 
 -- ---- words
 
@@ -286,7 +317,7 @@ order_on (Some (Trial kind n)) = trial kind n
 order_on (Some (Query grammar input path)) = query grammar input path
 order_on (Some (View grammar input path)) = view grammar input path
 order_on (Some (Load table input)) = load table input
-order_on (Some (Explain grammar)) = explain grammar
+order_on (Some (Explain grammar input)) = explain grammar input
 order_on (Some (Help command)) = only (help_said command)
 order_on (Some Version) = only version_said
 order_on None = only usage

@@ -1,13 +1,14 @@
 //! Where and why a grammar is refused, for a person.
-ghost use Rattle.std.specs.Prelude.{◌≡◌, ◌++◌, Some, IfOk, OnOk};
+ghost use Rattle.std.specs.Prelude.{◌≡◌, ◌++◌, Ok, Err, Some, IfOk, MatchResult, OnOk};
 ghost use Rattle.std.specs.Option.{option_map, option_copied};
 ghost use Rattle.ipg_names.specs.Readable.{IsReadable};
 ghost use Rattle.ipg_term.specs.Loops.{IsReason};
-ghost use Rattle.ipg_app.specs.Explained.{Explains, JudgedCore, JudgedGrammar, explained_said};
+ghost use Rattle.ipg_app.specs.Explained.{Explains, explained_said};
+ghost use Rattle.ipg_app.specs.Followed.{Clears};
 ghost use Rattle.ipg_app.specs.Lines.{said_of, text_of};
-ghost use Rattle.ipg_app.specs.Reasons.{IsCycle, Judged, cycle_places, edge_places, listed};
+ghost use Rattle.ipg_app.specs.Reasons.{IsCycle, IsRefused, Judged, cycle_places, edge_places, listed};
 ghost use Rattle.ipg_app_explain.specs.Terms.{call_place};
-ghost use Rattle.ipg_app.specs.Seen.{reason_of};
+ghost use Rattle.ipg_app.specs.Seen.{ClearsCore, ClearsGrammar, reason_of};
 
 use crate::core_of::core_or_reason;
 use crate::looping::may_loop;
@@ -16,7 +17,7 @@ use crate::said::{Settled, line};
 use crate::status::Status;
 use ipg_app_explain::{Source, TermAt, Why, call_place, explain};
 use ipg_ast::Grammar;
-use ipg_core::accepted::Core;
+use ipg_core::accepted::{Checked, Core};
 use ipg_facts_edges::{Edge, edges};
 use ipg_names_text as texts;
 use ipg_num::item_at;
@@ -67,29 +68,47 @@ fn joined(alloc: Global, lines: &[Vec<u8>]) -> Result<Vec<u8>, AllocError>
 fn judged(alloc: Global, text: &[u8]) -> Result<Option<Reason>, AllocError>
     ensures { IfOk result (λ reason. Judged text.now (option_map reason_of reason)) }
 {
-    match texts::grammar_in(alloc, text) {
-        Ok(g) => judged_grammar(alloc, &g),
-        Err(ReadFault::Memory) => Err(AllocError),
-        Err(fault) => Ok(Some(read_reason(alloc, &fault)?)),
-    }
-}
-
-fn judged_grammar(alloc: Global, g: &Grammar) -> Result<Option<Reason>, AllocError>
-    requires { IsReadable g.now }
-    ensures { IfOk result (λ reason. JudgedGrammar g.now (option_map reason_of reason)) }
-{
-    match core_or_reason(alloc, g)? {
-        Ok(core) => judged_core(alloc, g, core),
+    match clear(alloc, text)? {
+        Ok(_) => Ok(None),
         Err(reason) => Ok(Some(reason)),
     }
 }
 
-fn judged_core(alloc: Global, g: &Grammar, core: Core) -> Result<Option<Reason>, AllocError>
-    ensures { IfOk result (λ reason. JudgedCore g.now core (option_map reason_of reason)) }
+/// A grammar as it is written, and the core grammar that it has, by which parsing ends.
+#[derive(Drop)]
+pub struct Cleared {
+    pub grammar: Grammar,
+    pub core: Checked,
+}
+
+/// The grammar of a text and its core grammar, by which parsing ends; or the reason against it.
+pub fn clear(alloc: Global, text: &[u8]) -> Result<Result<Cleared, Reason>, AllocError>
+    ensures { IfOk result (λ made. MatchResult made (λ made. Clears text.now (Ok (made.grammar, made.core)))
+        (λ reason. Clears text.now (Err (reason_of reason)))) }
+{
+    match texts::grammar_in(alloc, text) {
+        Ok(g) => clear_grammar(alloc, g),
+        Err(ReadFault::Memory) => Err(AllocError),
+        Err(fault) => Ok(Err(read_reason(alloc, &fault)?)),
+    }
+}
+
+fn clear_grammar(alloc: Global, g: Grammar) -> Result<Result<Cleared, Reason>, AllocError>
+    requires { IsReadable g }
+    ensures { IfOk result (λ made. MatchResult made (λ made. ClearsGrammar g made.grammar made.core) (λ reason. IsRefused g (reason_of reason))) }
+{
+    match core_or_reason(alloc, &g)? {
+        Ok(core) => clear_core(alloc, g, core),
+        Err(reason) => Ok(Err(reason)),
+    }
+}
+
+fn clear_core(alloc: Global, g: Grammar, core: Core) -> Result<Result<Cleared, Reason>, AllocError>
+    ensures { IfOk result (λ made. MatchResult made (λ made. ClearsCore g core made.grammar made.core) (λ reason. IsCycle g core (reason_of reason))) }
 {
     match check(alloc, core) {
-        Ok(_) => Ok(None),
-        Err(TermFault { grammar, why }) => Ok(Some(cycle_reason(alloc, g, &grammar, &why)?)),
+        Ok((core, _)) => Ok(Ok(Cleared { grammar: g, core })),
+        Err(TermFault { grammar, why }) => Ok(Err(cycle_reason(alloc, &g, &grammar, &why)?)),
     }
 }
 

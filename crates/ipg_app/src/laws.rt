@@ -1,7 +1,7 @@
 //! What holds of core grammars, the contract of a function that does nothing.
 
 ghost use Rattle.ipg_app.specs.Laws.{BeginsAsCheck, CertIsVerified, CoveredIsRebuilt, OneCore, OneCheck, OneEdits, OneExplained};
-ghost use Rattle.ipg_app.specs.Laws.{OneParse, OneReply, OneTrial, OneVerdict};
+ghost use Rattle.ipg_app.specs.Laws.{FollowEndsAsParse, OneCleared, OneFollowed, OneParse, OneReply, OneTrial, OneVerdict};
 
 use ipg_core::laws::heights_agree;
 use ipg_cover::laws::{covered_has_no_gap, one_gap};
@@ -12,6 +12,7 @@ use ipg_edit_script::laws::one_script;
 use ipg_mach_count_laws::laws::{
     all_where_none_kept, fresh_at_any_height, keys_are_known, one_fresh, one_reach,
 };
+use ipg_mach_watch::laws::{end_is_meant, one_findings};
 use ipg_order::laws::{good_is_not_stuck, orders_once, stuck_once};
 use ipg_proof::laws::{fault_is_one, proves_is_no_fault};
 use ipg_query_path::laws::one_path;
@@ -78,6 +79,32 @@ pub fn one_explained()
     one_loops();
 }
 
+/// A text has one grammar by which parsing ends, or one reason against it.
+pub fn one_cleared()
+    ensures { OneCleared }
+{
+    one_limit();
+    orders_once();
+    good_is_not_stuck();
+    stuck_once();
+    loops_arent_accepted();
+    one_loops();
+}
+
+/// Of an input by a grammar `explain` says one thing.
+pub fn one_followed()
+    ensures { OneFollowed }
+{
+    one_findings();
+}
+
+/// What `explain` says of an input has the status of what `parse` says of it.
+pub fn follow_ends_as_parse()
+    ensures { FollowEndsAsParse }
+{
+    end_is_meant();
+}
+
 /// What `explain` says of a text has the status of what `check` says of it, and begins with its line.
 pub fn explain_begins_as_check()
     ensures { BeginsAsCheck }
@@ -123,5 +150,7 @@ pub fn one_reply()
     covered_has_no_gap();
     one_gap();
     one_explained();
+    one_cleared();
+    one_followed();
     one_trial();
 }

@@ -7,6 +7,7 @@ mod core_of;
 mod covering;
 mod editing;
 mod explaining;
+mod following;
 mod formatting;
 mod grammar;
 mod helping;
@@ -29,8 +30,11 @@ pub mod status;
 pub mod sure;
 mod task;
 mod telling;
-#[cfg(test)]
-mod tests;
 mod trial;
 mod verifying;
 mod writing;
+
+pub use answering::has_answer;
+pub use checks::accepted;
+pub use core_of::core_in_text;
+pub use said::Settled;

@@ -9,11 +9,12 @@ ghost use Rattle.ipg_app.specs.CoreOf.{CoreOf};
 ghost use Rattle.ipg_store_body.specs.Fits.{NestsRule};
 ghost use Rattle.ipg_app.specs.Reply.{grammar_of, core_of, formatted, parse_input, parse, verify, fmt, query, view, picked_view, load};
 ghost use Rattle.ipg_app.specs.Reply.{load_in, use_order, order_by, order_of, task_of};
-ghost use Rattle.ipg_app.specs.Reply.{edit, edit_file, edit_input, edits_of, explain};
-ghost use Rattle.ipg_app.specs.Explained.{Explains};
+ghost use Rattle.ipg_app.specs.Reply.{edit, edit_file, edit_input, edits_of, explain, explain_grammar, explain_input, explain_text, follow};
+ghost use Rattle.ipg_app.specs.Explained.{Refuses};
+ghost use Rattle.ipg_app.specs.Followed.{Follows, subject};
 ghost use Rattle.ipg_app.specs.Run.{Settles};
 ghost use Rattle.ipg_app_words.specs.Seen as words;
-ghost use Rattle.ipg_app.specs.Found.{Found, FoundCore, Says, explain_in_file, grammar_in_file, core_in_file, silence};
+ghost use Rattle.ipg_app.specs.Found.{Found, FoundCore, Says, explain_in_file, explain_input_in_file, grammar_in_file, core_in_file, silence};
 ghost use Rattle.ipg_app.specs.Lines.{said_of};
 ghost use Rattle.ipg_outside.specs.Files.{Told};
 ghost use Rattle.ipg_app.specs.Settled.{IsSettled, IsUnread, remember_of, task_seen};
@@ -23,7 +24,8 @@ use crate::checks::{accepted, say_cert, say_check, say_table};
 use crate::core_of::{core_in_text, core_of};
 use crate::covering::say_cover;
 use crate::editing::DueEdits;
-use crate::explaining::{explain_text, told};
+use crate::explaining::{Cleared, clear, explain_text, told};
+use crate::following::follow;
 use crate::formatting::format;
 use crate::grammar::grammar_in;
 use crate::helping::{say_help, say_version};
@@ -38,6 +40,7 @@ use crate::status::Status;
 use crate::task::{Show, Task};
 use crate::trial::trial;
 use crate::verifying::judge;
+use ipg_app_explain::{Source, Subject};
 use ipg_app_words::{Asked, Memo, Wanted, request};
 use ipg_ast::Grammar;
 use ipg_core::accepted::{Checked, Core};
@@ -82,7 +85,9 @@ pub fn settle<F: Files>(alloc: Global, words: &[String], files: &mut F) -> Resul
         Some(Asked::Load { table, input }) => settle_load(alloc, table, input, files),
         Some(Asked::Fmt { grammar }) => Ok(Reply::Text(settle_fmt(alloc, grammar, files)?)),
         Some(Asked::Trial { kind, count }) => Ok(Reply::Text(trial(alloc, kind, count)?)),
-        Some(Asked::Explain { grammar }) => Ok(Reply::Text(settle_explain(alloc, grammar, files)?)),
+        Some(Asked::Explain { grammar, input }) => {
+            Ok(Reply::Text(settle_explain(alloc, grammar, input, files)?))
+        }
         Some(Asked::Help { command }) => Ok(Reply::Text(say_help(alloc, command)?)),
         Some(Asked::Version) => Ok(Reply::Text(say_version(alloc)?)),
         None => Ok(Reply::Text(usage(alloc)?)),
@@ -316,9 +321,26 @@ fn fmt_file<F: Files>(alloc: Global, name: &str, files: &mut F) -> Result<Settle
 fn settle_explain<F: Files>(
     alloc: Global,
     grammar: &str,
+    input: Option<&str>,
     files: &mut F,
 ) -> Result<Settled, AllocError>
-    ensures settled { IfOk result (λ settled. Settles (F.told files.old) (F.faults files.old) (F.faults files.new) (explain grammar.now) (said_of settled)) }
+    ensures settled { IfOk result (λ settled. Settles (F.told files.old) (F.faults files.old) (F.faults files.new)
+        (explain grammar.now (option_map (λ text. text.now) input.entry)) (said_of settled)) }
+    ensures told { (n : List ℕ) → F.told files.new n ≡ F.told files.old n }
+{
+    match input {
+        None => explain_grammar(alloc, grammar, files),
+        Some(input) => explain_input(alloc, grammar, input, files),
+    }
+}
+
+fn explain_grammar<F: Files>(
+    alloc: Global,
+    grammar: &str,
+    files: &mut F,
+) -> Result<Settled, AllocError>
+    ensures settled { IfOk result (λ settled. Settles (F.told files.old) (F.faults files.old) (F.faults files.new) (explain_grammar grammar.now)
+        (said_of settled)) }
     ensures told { (n : List ℕ) → F.told files.new n ≡ F.told files.old n }
 {
     match kind_named(grammar) {
@@ -342,10 +364,103 @@ fn explain_file<F: Files>(alloc: Global, name: &str, files: &mut F) -> Result<Se
 
 /// What is said of a text of which not all was read: no place of it is shown.
 fn explain_too_long(alloc: Global, name: &str) -> Result<Settled, AllocError>
-    ensures { IfOk result (λ settled. (text : List ℕ) → 2 ^ 20 < length text → Explains name.now text (said_of settled)) }
+    ensures { IfOk result (λ settled. (text : List ℕ) → 2 ^ 20 < length text → Refuses name.now text (said_of settled)) }
 {
     let reason = read_reason(alloc, &ReadFault::TooLong)?;
     told(alloc, name, b"", &reason)
+}
+
+fn explain_input<F: Files>(
+    alloc: Global,
+    grammar: &str,
+    input: &str,
+    files: &mut F,
+) -> Result<Settled, AllocError>
+    ensures settled { IfOk result (λ settled. Settles (F.told files.old) (F.faults files.old) (F.faults files.new)
+        (explain_input grammar.now input.now) (said_of settled)) }
+    ensures told { (n : List ℕ) → F.told files.new n ≡ F.told files.old n }
+{
+    match kind_named(grammar) {
+        Some(kind) => follow_text(alloc, grammar, text(kind), input, files),
+        None => follow_file(alloc, grammar, input, files),
+    }
+}
+
+fn follow_file<F: Files>(
+    alloc: Global,
+    name: &str,
+    input: &str,
+    files: &mut F,
+) -> Result<Settled, AllocError>
+    ensures settled { IfOk result (λ settled. Settles (F.told files.old) (F.faults files.old) (F.faults files.new)
+        (explain_input_in_file name.now input.now) (said_of settled)) }
+    ensures told { (n : List ℕ) → F.told files.new n ≡ F.told files.old n }
+{
+    match files.read_all(alloc, name, MAX_TEXT) {
+        Ok(text) => follow_text(alloc, name, &text, input, files),
+        Err(FileFault::Failed) => line(alloc, Status::ReadFault, b"read fault"),
+        Err(FileFault::TooLarge(_)) => explain_too_long(alloc, name),
+        Err(FileFault::Memory) => Err(AllocError),
+    }
+}
+
+/// What is said of an input by the grammar of a text under a name.
+fn follow_text<F: Files>(
+    alloc: Global,
+    name: &str,
+    text: &[u8],
+    input: &str,
+    files: &mut F,
+) -> Result<Settled, AllocError>
+    ensures settled { IfOk result (λ settled. Settles (F.told files.old) (F.faults files.old) (F.faults files.new)
+        (explain_text name.now input.now text.now) (said_of settled)) }
+    ensures told { (n : List ℕ) → F.told files.new n ≡ F.told files.old n }
+    ensures counts { (n : List ℕ) → F.faults files.old n ≤ F.faults files.new n }
+{
+    match clear(alloc, text)? {
+        Ok(made) => follow_input(alloc, name, text, &made, input, files),
+        Err(reason) => told(alloc, name, text, &reason),
+    }
+}
+
+fn follow_input<F: Files>(
+    alloc: Global,
+    name: &str,
+    text: &[u8],
+    made: &Cleared,
+    input: &str,
+    files: &mut F,
+) -> Result<Settled, AllocError>
+    ensures settled { IfOk result (λ settled. Settles (F.told files.old) (F.faults files.old) (F.faults files.new)
+        (follow name.now text.now input.now (made.now.grammar, made.now.core)) (said_of settled)) }
+    ensures told { (n : List ℕ) → F.told files.new n ≡ F.told files.old n }
+    ensures counts { (n : List ℕ) → F.faults files.old n ≤ F.faults files.new n }
+{
+    match files.read_all(alloc, input, MAX_INPUT) {
+        Ok(input) => follow_bytes(alloc, name, text, made, &input),
+        Err(fault) => unread(alloc, fault),
+    }
+}
+
+fn follow_bytes(
+    alloc: Global,
+    name: &str,
+    text: &[u8],
+    made: &Cleared,
+    input: &[u8],
+) -> Result<Settled, AllocError>
+    requires { length input.now ≤ 2 ^ 30 }
+    ensures { IfOk result (λ settled. Follows (subject name.now text.now made.now.grammar input.now) made.now.core (said_of settled)) }
+{
+    let subject = Subject {
+        source: Source {
+            name: name.as_bytes(),
+            text,
+        },
+        grammar: &made.grammar,
+        input,
+    };
+    follow(alloc, subject, &made.core)
 }
 
 /// The core grammar of the text under a name, or what is said where it can't be read or has none.

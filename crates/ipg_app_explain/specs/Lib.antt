@@ -6,3 +6,11 @@ pub mod Word
 pub mod Why
 -- where a term stands
 pub mod Terms
+-- bytes and numbers
+pub mod Bytes
+-- what a term asks for, and what its rule is called
+pub mod Named
+-- where an input stopped being what a grammar wants
+pub mod Furthest
+-- what functions inside the crate promise each other
+pub mod Seen

@@ -1,5 +1,5 @@
 -- Where a term stands in a text, by the number of its rule, of its alternative, and its own.
-use Rattle.std.specs.Prelude.{ℕ, List, ◌∷◌, map, flat_map, slice_get, Option, None, Some}
+use Rattle.std.specs.Prelude.{ℕ, List, ◌∷◌, flat_map, slice_get, Option, None, Some}
 use Rattle.std.specs.Option.{option_map, option_and_then}
 use Rattle.ipg_ast.specs.declared.grammar.Grammar.{Grammar}
 use Rattle.ipg_ast.specs.declared.grammar.Rule.{Rule, out-Rule}
@@ -12,24 +12,23 @@ use Rattle.ipg_ast.specs.declared.grammar.Slot as written
 abbrev pub alts_of : Rule → List Alt
 alts_of rule = (out-Rule rule).alts
 
--- the alternatives of the local rules of an alternative, rule by rule
-abbrev pub local_alts : Alt → List (List Alt)
-local_alts alt = map alts_of (out-Alt alt).locals
+abbrev pub locals_of : Alt → List Rule
+locals_of alt = (out-Alt alt).locals
 
--- those of a global rule, and of the local rules of its alternatives
-abbrev pub family_alts : Rule → List (List Alt)
-family_alts rule = alts_of rule ∷ flat_map local_alts (alts_of rule)
+-- a global rule, and the local rules of its alternatives
+abbrev pub family : Rule → List Rule
+family rule = rule ∷ flat_map locals_of (alts_of rule)
 
--- those of all rules, in the order of their heads
-abbrev pub all_alts : Grammar → List (List Alt)
-all_alts g = flat_map family_alts g.rules
+-- all rules, in the order of their heads
+abbrev pub all_rules : Grammar → List Rule
+all_rules g = flat_map family g.rules
 
 abbrev pub terms_of : Alt → List Term
 terms_of alt = (out-Alt alt).terms
 
 -- term t of alternative a of rule r, where there is one
 abbrev pub term_at : Grammar → (r a t : ℕ) → Option Term
-term_at g r a t = option_and_then (λ alts. option_and_then (λ alt. slice_get (terms_of alt) t) (slice_get alts a)) (slice_get (all_alts g) r)
+term_at g r a t = option_and_then (λ rule. option_and_then (λ alt. slice_get (terms_of alt) t) (slice_get (alts_of rule) a)) (slice_get (all_rules g) r)
 
 -- an attribute begins with its name here, and an array with its variable
 abbrev pub begin_of : Term → ℕ

@@ -1,10 +1,16 @@
-//! What is wrong with a grammar, for a person: the place, the line with a mark under it, and what to do.
+//! What is wrong with a grammar, or with an input, for a person: the place, the line with a mark under it, and why.
 #![tactic(auto)]
 
+mod bytes;
+mod calls;
+mod failing;
+mod furthest;
+mod named;
 mod spot;
 mod terms;
 mod why;
 mod words;
 
+pub use furthest::{Ending, Subject, tell};
 pub use terms::{TermAt, call_place, term_place};
 pub use why::{Source, Why, explain};

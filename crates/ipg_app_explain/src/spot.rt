@@ -80,7 +80,8 @@ pub fn seen_byte(byte: u8) -> u8
     }
 }
 
-fn add_seen(out: &mut Vec<u8>, bytes: &[u8]) -> Result<(), AllocError>
+/// Bytes as they are shown.
+pub fn add_seen(out: &mut Vec<u8>, bytes: &[u8]) -> Result<(), AllocError>
     ensures { OnOk result (out.new.items ≡ out.old.items ++ map spec.seen_byte bytes.now) }
 {
     for byte in bytes {
@@ -128,6 +129,19 @@ fn add_marked(out: &mut Vec<u8>, window: &[u8], before: usize) -> Result<(), All
     out.extend_from_slice(b"\n  ")?;
     add_blanks(out, before)?;
     out.extend_from_slice(b"^\n")
+}
+
+/// The place alone.
+pub fn add_place_line(
+    out: &mut Vec<u8>,
+    name: &[u8],
+    text: &[u8],
+    at: u32,
+) -> Result<(), AllocError>
+    ensures { OnOk result (out.new.items ≡ out.old.items ++ spec.place_line name.now text.now at) }
+{
+    let spot = spot_of(text, at);
+    add_place(out, name, spot, at)
 }
 
 /// The place, its line, and a mark under it.

@@ -1,8 +1,8 @@
 //! Where a term stands in a text.
-ghost use Rattle.std.specs.Prelude.{◌≡◌, ◌+◌, length, map, flat_map, slice_get, MatchResult, Some};
+ghost use Rattle.std.specs.Prelude.{◌≡◌, ◌+◌, length, flat_map, slice_get, MatchResult, Some};
 ghost use Rattle.std.specs.Option.{option_copied, option_map};
 ghost use Rattle.ipg_app_explain.specs.Terms as spec;
-ghost use Rattle.ipg_app_explain.specs.Terms.{alts_of, local_alts, family_alts, term_at, begin_of, branch_or, call_of};
+ghost use Rattle.ipg_app_explain.specs.Terms.{all_rules, locals_of, family, term_at, begin_of, branch_or, call_of};
 
 use ipg_ast::{Alt, Case, Grammar, Rule, Slot, Term};
 use ipg_num::item_at;
@@ -15,21 +15,20 @@ pub struct TermAt {
     pub term: u32,
 }
 
-/// The alternatives of a rule by its number among these, or how far the number lies past them.
-fn in_locals(locals: &[Rule], number: usize) -> Result<&[Alt], usize>
-    ensures { MatchResult result (λ found. slice_get (map alts_of locals.now) number ≡ Some found.now)
-        (λ rest. number ≡ length (map alts_of locals.now) + rest) }
+/// A rule by its number among these, or how far the number lies past them.
+fn in_locals(locals: &[Rule], number: usize) -> Result<&Rule, usize>
+    ensures { MatchResult result (λ found. slice_get locals.now number ≡ Some found.now) (λ rest. number ≡ length locals.now + rest) }
 {
     if number < locals.len() {
-        return Ok(locals[number].alts.as_slice());
+        return Ok(&locals[number]);
     }
     Err(number - locals.len())
 }
 
 /// The same of a local rule of these alternatives.
-fn local_alts_at(alts: &[Alt], number: usize) -> Result<&[Alt], usize>
-    ensures { MatchResult result (λ found. slice_get (flat_map local_alts alts.now) number ≡ Some found.now)
-        (λ rest. number ≡ length (flat_map local_alts alts.now) + rest) }
+fn local_at(alts: &[Alt], number: usize) -> Result<&Rule, usize>
+    ensures { MatchResult result (λ found. slice_get (flat_map locals_of alts.now) number ≡ Some found.now)
+        (λ rest. number ≡ length (flat_map locals_of alts.now) + rest) }
 {
     let mut rest = number;
     for alt in alts {
@@ -42,35 +41,42 @@ fn local_alts_at(alts: &[Alt], number: usize) -> Result<&[Alt], usize>
 }
 
 /// The same of a global rule and its local ones.
-fn family_alts_at(rule: &Rule, number: usize) -> Result<&[Alt], usize>
-    ensures { MatchResult result (λ found. slice_get (family_alts rule.now) number ≡ Some found.now)
-        (λ rest. number ≡ length (family_alts rule.now) + rest) }
+fn in_family(rule: &Rule, number: usize) -> Result<&Rule, usize>
+    ensures { MatchResult result (λ found. slice_get (family rule.now) number ≡ Some found.now)
+        (λ rest. number ≡ length (family rule.now) + rest) }
 {
     match number.checked_sub(1) {
-        None => Ok(rule.alts.as_slice()),
-        Some(local) => local_alts_at(rule.alts.as_slice(), local),
+        None => Ok(rule),
+        Some(local) => local_at(rule.alts.as_slice(), local),
     }
 }
 
-/// The alternatives of a rule by its number.
-fn alts_at(rules: &[Rule], number: usize) -> Option<&[Alt]>
-    ensures { option_map (λ found. found.now) result ≡ slice_get (flat_map family_alts rules.now) number }
+/// The same of global rules and their local ones.
+fn in_families(rules: &[Rule], number: usize) -> Option<&Rule>
+    ensures { option_copied result ≡ slice_get (flat_map family rules.now) number }
 {
     let mut rest = number;
     for rule in rules {
-        match family_alts_at(rule, rest) {
-            Ok(alts) => return Some(alts),
+        match in_family(rule, rest) {
+            Ok(found) => return Some(found),
             Err(more) => rest = more,
         }
     }
     None
 }
 
-fn term_at(g: &Grammar, at: TermAt) -> Option<&Term>
+/// A rule by its number.
+pub fn rule_at(g: &Grammar, number: u32) -> Option<&Rule>
+    ensures { option_copied result ≡ slice_get (all_rules g.now) number }
+{
+    in_families(g.rules.as_slice(), number as usize)
+}
+
+pub fn term_at(g: &Grammar, at: TermAt) -> Option<&Term>
     ensures { option_copied result ≡ term_at g.now at.rule at.alt at.term }
 {
-    let alts = alts_at(g.rules.as_slice(), at.rule as usize)?;
-    let alt = item_at(alts, at.alt as usize)?;
+    let rule = rule_at(g, at.rule)?;
+    let alt = item_at(rule.alts.as_slice(), at.alt as usize)?;
     item_at(alt.terms.as_slice(), at.term as usize)
 }
 
@@ -87,7 +93,8 @@ fn begin_of(term: &Term) -> u32
     }
 }
 
-fn branch_or<'a>(found: Option<&'a Case>, other: &'a Slot) -> &'a Slot
+/// The slot of a case, or the one behind `else`.
+pub fn branch_or<'a>(found: Option<&'a Case>, other: &'a Slot) -> &'a Slot
     ensures { result.now ≡ branch_or (option_copied found.entry) other.now }
 {
     match found {
@@ -96,7 +103,7 @@ fn branch_or<'a>(found: Option<&'a Case>, other: &'a Slot) -> &'a Slot
     }
 }
 
-fn call_of(term: &Term, branch: u32) -> u32
+fn call_of(term: &Term, branch: u64) -> u32
     ensures { result ≡ call_of branch term.now }
 {
     match term {
@@ -126,7 +133,14 @@ pub fn term_place(g: &Grammar, at: TermAt) -> Option<u32>
 pub fn call_place(g: &Grammar, at: TermAt, branch: u32) -> Option<u32>
     ensures { result ≡ spec.call_place g.now at.rule at.alt at.term branch }
 {
-    match term_at(g, at) {
+    place_in(term_at(g, at), u64::from(branch))
+}
+
+/// The same of a term, if there is one.
+pub fn place_in(term: Option<&Term>, branch: u64) -> Option<u32>
+    ensures { result ≡ option_map (call_of branch) (option_copied term.entry) }
+{
+    match term {
         Some(term) => Some(call_of(term, branch)),
         None => None,
     }

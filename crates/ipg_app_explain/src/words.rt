@@ -6,7 +6,7 @@ ghost use Rattle.ipg_app_explain.specs.Word.{first_name};
 use crate::spot::{behind, seen_byte, upto};
 use std::alloc::{AllocError, Global};
 
-const TOLD_BYTES: usize = 64;
+pub const TOLD_BYTES: usize = 64;
 
 fn is_name_byte(byte: u8) -> bool
     ensures { result ≡ spec.is_name_byte byte }

@@ -41,7 +41,7 @@ lines_of topic.Commands =
     codes "  json G FILE          the tree as one JSON text" ∷
     codes "  query G FILE PATH    parts and values of the tree" ∷
     codes "  check G              whether parsing by the grammar always ends" ∷
-    codes "  explain G            where and why a grammar is refused" ∷
+    codes "  explain G [FILE]     where and why a grammar is refused, or a file fails" ∷
     codes "  fmt G                the grammar's text, laid out anew" ∷
     codes "  cert G               a certificate that parsing ends" ∷
     codes "  verify G CERT        whether a certificate proves the grammar" ∷
@@ -115,13 +115,16 @@ lines_of topic.Check =
     codes "  ipg check @gif" ∷
     []
 lines_of topic.Explain =
-    codes "ipg explain G" ∷
+    codes "ipg explain G [FILE]" ∷
     [] ∷
     codes "Writes `accepted`, or where and why the grammar is refused: the lines of its text, and what can be done." ∷
+    codes "With FILE it parses that, and writes what comes of it and where the parse failed furthest:" ∷
+    codes "what was wanted there, what stands there, and the calls that led there." ∷
     [] ∷
     codes "  G      the file of a grammar, or @elf, @pe, @gif, @pcap: those that are built in" ∷
+    codes "  FILE   the file to read, of at most 2^30 bytes" ∷
     [] ∷
-    codes "Status 0, or 2 where the grammar is refused." ∷
+    codes "Status 0, or 2 where the grammar is refused; with FILE that of parse." ∷
     [] ∷
     codes "  ipg explain my.ipg" ∷
     []

@@ -8,7 +8,7 @@ pub const COMMANDS: &[u8] =
   json G FILE          the tree as one JSON text
   query G FILE PATH    parts and values of the tree
   check G              whether parsing by the grammar always ends
-  explain G            where and why a grammar is refused
+  explain G [FILE]     where and why a grammar is refused, or a file fails
   fmt G                the grammar's text, laid out anew
   cert G               a certificate that parsing ends
   verify G CERT        whether a certificate proves the grammar
@@ -82,13 +82,16 @@ Status 0, or 2 where the grammar is refused. `ipg explain G` says more.
   ipg check @gif
 ";
 
-pub const EXPLAIN: &[u8] = br"ipg explain G
+pub const EXPLAIN: &[u8] = br"ipg explain G [FILE]
 
 Writes `accepted`, or where and why the grammar is refused: the lines of its text, and what can be done.
+With FILE it parses that, and writes what comes of it and where the parse failed furthest:
+what was wanted there, what stands there, and the calls that led there.
 
   G      the file of a grammar, or @elf, @pe, @gif, @pcap: those that are built in
+  FILE   the file to read, of at most 2^30 bytes
 
-Status 0, or 2 where the grammar is refused.
+Status 0, or 2 where the grammar is refused; with FILE that of parse.
 
   ipg explain my.ipg
 ";

@@ -59,8 +59,9 @@ trial = with_rule (with_rule (new_app (codes "trial")) (required (codes "KIND"))
 abbrev pub fmt : App
 fmt = on_grammar (codes "fmt")
 
+-- a file may be there
 abbrev pub explain : App
-explain = on_grammar (codes "explain")
+explain = with_rule (on_grammar (codes "explain")) (new_rule (codes "FILE"))
 
 -- the name of a command may be there
 abbrev pub help : App

@@ -31,7 +31,7 @@ pub data Request : Type 0 where
   Query : (grammar input path : Text) → Request
   View : (grammar input : Text) (path : Option Text) → Request
   Load : (table input : Text) → Request
-  Explain : (grammar : Text) → Request
+  Explain : (grammar : Text) (input : Option Text) → Request
   Help : (command : Option Text) → Request
   Version : Request
 
@@ -97,7 +97,7 @@ view_by rows = do
 abbrev pub explain_by : List Row → Option Request
 explain_by rows = do
   grammar ← first_of (codes "G") rows
-  Some (Explain grammar)
+  Some (Explain grammar (first_of (codes "FILE") rows))
 
 abbrev pub help_by : List Row → Option Request
 help_by rows = Some (Help (first_of (codes "COMMAND") rows))

@@ -26,7 +26,7 @@ seen (asked.Trial kind count) = Trial kind.now count
 seen (asked.Query grammar input path) = Query grammar.now input.now path.now
 seen (asked.View grammar input path) = View grammar.now input.now (option_map (λ text. text.now) path)
 seen (asked.Load table input) = Load table.now input.now
-seen (asked.Explain grammar) = Explain grammar.now
+seen (asked.Explain grammar input) = Explain grammar.now (option_map (λ text. text.now) input)
 seen (asked.Help command) = Help (option_map (λ text. text.now) command)
 seen asked.Version = Version
 

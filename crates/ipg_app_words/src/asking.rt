@@ -70,9 +70,10 @@ pub enum Asked<'a> {
         table: &'a str,
         input: &'a str,
     },
-    /// Where and why a grammar is refused.
+    /// Where and why a grammar is refused, or where an input stopped being what it wants.
     Explain {
         grammar: &'a str,
+        input: Option<&'a str>,
     },
     /// What a command does, or which there are.
     Help {

@@ -96,6 +96,13 @@ pub fn view<'a>(alloc: Global) -> Result<Command<'a>, AllocError>
         .arg(Arg::new(alloc, "PATH"))
 }
 
+/// A file may be there.
+pub fn explain<'a>(alloc: Global) -> Result<Command<'a>, AllocError>
+    ensures { IfOk result (λ command. app_of command ≡ spec.explain) }
+{
+    on_grammar(alloc, "explain")?.arg(Arg::new(alloc, "FILE"))
+}
+
 pub fn edit<'a>(alloc: Global) -> Result<Command<'a>, AllocError>
     ensures { IfOk result (λ command. app_of command ≡ spec.edit) }
 {

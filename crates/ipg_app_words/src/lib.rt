@@ -6,8 +6,6 @@ mod commands;
 mod matching;
 mod requesting;
 mod settings;
-#[cfg(test)]
-mod tests;
 
 pub use asking::{Asked, Memo, Wanted};
 pub use requesting::request;

@@ -9,7 +9,8 @@ ghost use Rattle.ipg_app_words.specs.Seen.{seen, task_seen};
 
 use crate::asking::{Asked, Wanted};
 use crate::commands::{
-    edit, help, json, load, on_grammar, parse, query, rebuild, trial, verify, version, view,
+    edit, explain, help, json, load, on_grammar, parse, query, rebuild, trial, verify, version,
+    view,
 };
 use crate::matching::{taken, value};
 use crate::settings::{count, memo, mib};
@@ -137,7 +138,7 @@ fn fmt_request<'a>(alloc: Global, words: &'a [String]) -> Result<Option<Asked<'a
 fn explain_request<'a>(alloc: Global, words: &'a [String]) -> Result<Option<Asked<'a>>, AllocError>
     ensures { IfOk result (λ asked. option_map seen asked ≡ spec.explain_words (map string_bytes words.now)) }
 {
-    match taken(on_grammar(alloc, "explain")?, words)? {
+    match taken(explain(alloc)?, words)? {
         Some(matches) => Ok(explain_of(&matches)),
         None => Ok(None),
     }
@@ -206,8 +207,10 @@ fn fmt_of<'a>(matches: &ArgMatches<'a>) -> Option<Asked<'a>>
 fn explain_of<'a>(matches: &ArgMatches<'a>) -> Option<Asked<'a>>
     ensures { option_map seen result ≡ spec.explain_by (rows_of (found_of matches.now)) }
 {
-    let grammar = value(matches, "G")?;
-    Some(Asked::Explain { grammar })
+    Some(Asked::Explain {
+        grammar: value(matches, "G")?,
+        input: value(matches, "FILE"),
+    })
 }
 
 fn help_of<'a>(matches: &ArgMatches<'a>) -> Asked<'a>

@@ -19,7 +19,17 @@ returns-in_ok-text-in-Ok c =
     let text = c.in_ok-text-in-Ok.text.items in
     let is : text ≡ text_of certificate = c.in_ok-text-in-Ok.ensures.text in
     IfOk-weaker c.written.result (λ s. said_of s ≡ done text) (λ s. Says (cert core) (said_of s))
-    (λ s e told. (Ok same, checks, record { certificate = certificate; proves = proves; speakable = c.is_speakable.ensures proves; is = e ∙ ap done is })) c.written.ensures
+    (λ s e told. (
+      Ok same,
+      checks,
+      record {
+        certificate = certificate;
+        proves = proves;
+        speakable = c.is_speakable.ensures proves;
+        is = e
+            ∙ ap done is;
+      },
+    )) c.written.ensures
 
 pub returns-in-Err : goal.returns-in-Err
 returns-in-Err c =

@@ -26,7 +26,8 @@ returns-in_ok-file-in-Ok c =
     let proves : Proves same certificate = rw c.in-Ok.is at c.in_ok-grammar.ensures.proved in
     let file = c.in_ok-file-in-Ok.file.items in
     IfOk-weaker c.written.result (λ s. said_of s ≡ done file) (λ s. Says (table core) (said_of s))
-    (λ s e told. (Ok same, checks, record { certificate = certificate; file = file; holds = c.in_ok-file-in-Ok.ensures.holds proves; is = e })) c.written.ensures
+    (λ s e told. (Ok same, checks, record { certificate = certificate; file = file; holds = c.in_ok-file-in-Ok.ensures.holds proves; is = e }))
+    c.written.ensures
 
 pub returns-in-Err : goal.returns-in-Err
 returns-in-Err c =

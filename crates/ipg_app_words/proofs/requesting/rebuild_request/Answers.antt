@@ -14,5 +14,6 @@ returns-in-Some c =
     let words = map string_bytes c.args.words.now in
     let rows = rows_of (found_of c.in-Some.matches) in
     let found : Some rows ≡ taken app words = rw c.in-Some.is at c.in_ok-matches.ensures in
-    used app command.rebuild rebuild_task words rows (option_map task_seen c.rebuild_wanted.result) (option_map seen c.use_of.result) c.in_ok-rebuild.ensures found
+    used app command.rebuild rebuild_task words rows (option_map task_seen c.rebuild_wanted.result) (option_map seen c.use_of.result)
+    c.in_ok-rebuild.ensures found
     c.rebuild_wanted.ensures c.use_of.ensures

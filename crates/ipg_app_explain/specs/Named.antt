@@ -1,0 +1,76 @@
+-- What a term of a grammar asks for, and what its rule is called.
+use Rattle.std.specs.Prelude.{ℕ, List, [], codes, take, length, slice_get, bytes_eq, Bool, true, false, ◌||◌, Option, None, Some, if◌then◌else◌}
+use Rattle.ipg_ast.specs.declared.grammar.Grammar.{Grammar}
+use Rattle.ipg_ast.specs.declared.grammar.Rule.{Rule, out-Rule}
+use Rattle.ipg_ast.specs.declared.grammar.Term.{Term}
+use Rattle.ipg_ast.specs.declared.grammar.Term.TheVariants.{Slot, Set, Test, Repeat, Many, Pick}
+use Rattle.ipg_ast.specs.declared.grammar.What.{What}
+use Rattle.ipg_ast.specs.declared.grammar.What.TheVariants.{Text, Call}
+use Rattle.ipg_app_explain.specs.Bytes.{bytes_words}
+use Rattle.ipg_app_explain.specs.Terms.{all_rules, alts_of, branch_or}
+use Rattle.ipg_app_explain.specs.Word.{told_bytes}
+
+-- ---- rules
+
+-- a longer name is cut
+abbrev pub cut : List ℕ → List ℕ
+cut name = take told_bytes name
+
+abbrev pub name_of : Option Rule → List ℕ
+name_of None = []
+name_of (Some rule) = cut (out-Rule rule).name.name
+
+abbrev pub rule_name : Grammar → ℕ → List ℕ
+rule_name g r = name_of (slice_get (all_rules g) r)
+
+abbrev pub count_of : Option Rule → ℕ
+count_of None = 0
+count_of (Some rule) = length (alts_of rule)
+
+-- how many alternatives a rule has
+abbrev pub alternatives : Grammar → ℕ → ℕ
+alternatives g r = count_of (slice_get (all_rules g) r)
+
+-- ---- terms
+
+abbrev pub what_words : What → List ℕ
+what_words (Text bytes) = bytes_words bytes
+what_words (Call name) = cut name
+
+-- what it reads, in a switch at a branch
+abbrev pub wanted_of : ℕ → Term → List ℕ
+wanted_of branch (Slot slot) = what_words slot.what
+wanted_of branch (Set name value) = []
+wanted_of branch (Test at cond) = []
+wanted_of branch (Repeat var first last item from to) = cut item.name
+wanted_of branch (Many at item place) = cut item.name
+wanted_of branch (Pick at cases other) = what_words (branch_or (slice_get cases branch) other).what
+
+-- how many bytes a number takes, by its name
+abbrev pub width_of : List ℕ → ℕ
+width_of name =
+    if bytes_eq name (codes "U8") then 1 else
+    (if bytes_eq name (codes "U16LE") || bytes_eq name (codes "U16BE") then 2 else
+    (if bytes_eq name (codes "U32LE") || bytes_eq name (codes "U32BE") then 4 else 8))
+
+abbrev pub what_size : What → ℕ
+what_size (Text bytes) = length bytes
+what_size (Call name) = width_of name
+
+-- how many bytes the string or the number takes that it reads
+abbrev pub size_of : ℕ → Term → ℕ
+size_of branch (Slot slot) = what_size slot.what
+size_of branch (Set name value) = 0
+size_of branch (Test at cond) = 0
+size_of branch (Repeat var first last item from to) = width_of item.name
+size_of branch (Many at item place) = width_of item.name
+size_of branch (Pick at cases other) = what_size (branch_or (slice_get cases branch) other).what
+
+abbrev pub is_many : Option Term → Bool
+is_many None = false
+is_many (Some (Slot slot)) = false
+is_many (Some (Set name value)) = false
+is_many (Some (Test at cond)) = false
+is_many (Some (Repeat var first last item from to)) = false
+is_many (Some (Many at item place)) = true
+is_many (Some (Pick at cases other)) = false
