@@ -1,0 +1,2 @@
+-- that something is said
+pub mod Replies

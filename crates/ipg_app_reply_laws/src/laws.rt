@@ -1,0 +1,50 @@
+//! Laws, each the contract of a function that calls only the laws it stands on.
+
+ghost use Rattle.ipg_app_reply_laws.specs.Replies.{SomeReply};
+
+use ipg_complete::laws::completed_is_formed;
+use ipg_core::laws::{holds_its_bytes, lies_within};
+use ipg_cover_leaves::laws::{all_put_comes_back, leaves_agree};
+use ipg_cover_refute_laws::laws::gaps_are_refuted;
+use ipg_facts_laws::laws::{
+    conditions_are_parts, edges_are_inside, gaps_are_bounded, joint_is_part,
+};
+use ipg_mach_count_laws::laws::{
+    all_where_none_kept, counts_over, keys_are_known, none_where_first_kept,
+};
+use ipg_mach_moves::laws::ends_as_meant;
+use ipg_names::laws::{faultless_is_formed, formed_is_readable};
+use ipg_proof::laws::{accepts_is_total, text_is_of_one};
+use ipg_read_canonical_laws::laws::{keeps_tokens, reads_formed};
+use ipg_read_syntax::laws::reads_exactly;
+use ipg_store::laws::held_is_total;
+
+/// To words that ask neither for a certificate nor for a table file it can't be that nothing is said, whatever is told of files, where
+/// what they are told to hold are bytes.
+pub fn some_reply()
+    ensures { SomeReply }
+{
+    reads_exactly();
+    reads_formed();
+    keeps_tokens();
+    formed_is_readable();
+    faultless_is_formed();
+    completed_is_formed();
+    conditions_are_parts();
+    joint_is_part();
+    accepts_is_total();
+    held_is_total();
+    text_is_of_one();
+    ends_as_meant();
+    keys_are_known();
+    counts_over();
+    none_where_first_kept();
+    all_where_none_kept();
+    holds_its_bytes();
+    lies_within();
+    leaves_agree();
+    all_put_comes_back();
+    gaps_are_refuted();
+    gaps_are_bounded();
+    edges_are_inside();
+}

@@ -1,0 +1,4 @@
+//! That to words something is said: laws.
+#![tactic(auto)]
+
+pub mod laws;

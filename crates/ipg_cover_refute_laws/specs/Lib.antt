@@ -1,0 +1,2 @@
+-- that a gap without a solution has a refutation
+pub mod Refuted
