@@ -15,10 +15,12 @@ kept in this repository's `dist/`.
 from __future__ import annotations
 
 import ctypes
+import itertools
 import json
 import mmap
 import os
 import re
+import struct
 import sys
 from collections.abc import Iterator, Mapping, Sequence
 from typing import Any, Union
@@ -86,6 +88,15 @@ class _File(ctypes.Structure):
     _fields_ = [("name", _Bytes), ("bytes", _Bytes)]
 
 
+class _Answer(ctypes.Structure):
+    _fields_ = [("status", ctypes.c_uint64), ("rows", ctypes.c_uint64)]
+
+
+# a row of `ipg_trees`: kind, of, name, high, low, (4 bytes of nothing), depth, from, to, start, end, value
+_ROW = struct.Struct("=5I4x5Qq")
+_PRIMITIVES = ("U8", "U16LE", "U16BE", "U32LE", "U32BE", "U64LE", "U64BE", "Bytes")
+
+
 def _path() -> str:
     here = os.path.dirname(os.path.abspath(__file__))
     places = (os.path.join(here, "libipg.so"), os.path.join(here, "..", "..", "..", "dist", "libipg.so"))
@@ -97,6 +108,10 @@ def _library() -> ctypes.CDLL:
     size, void = ctypes.c_size_t, ctypes.c_void_p
     library.ipg_run.argtypes = [void, size, void, size, void, size, ctypes.POINTER(ctypes.c_uint64)]
     library.ipg_run.restype = ctypes.c_uint8
+    library.ipg_names.argtypes = [void, size, void, size, ctypes.POINTER(ctypes.c_uint64)]
+    library.ipg_names.restype = ctypes.c_uint8
+    library.ipg_trees.argtypes = [void, size, void, size, void, size, void, size, ctypes.POINTER(ctypes.c_uint64)]
+    library.ipg_trees.restype = ctypes.c_uint8
     return library
 
 
@@ -240,6 +255,38 @@ def _made(told: dict[str, Any]) -> Kid:
     return Leaf(told) if "prim" in told else Items(told)
 
 
+def _rowed(rows: Iterator[tuple[int, ...]], rules: Sequence[str], attrs: Sequence[str]) -> dict[str, Any]:
+    """What the JSON text tells of a tree, by its rows."""
+    lists: list[list[dict[str, Any]]] = [[]]
+    attributes: dict[str, int] = {}
+    for kind, of, name, high, low, depth, begin, end, start, behind, value in rows:
+        if kind == 1:
+            attributes[attrs[name]] = value
+            continue
+        del lists[depth + 1 :]
+        if kind == 0:
+            attributes = {}
+            kids: list[dict[str, Any]] = []
+            told = {"rule": rules[name], "from": begin, "to": end, "start": start, "end": behind, "attrs": attributes, "kids": kids}
+            lists.append(kids)
+        elif kind >= 5:
+            kids = []
+            told = {"for" if kind == 5 else "many": rules[name] if of == 0 else _PRIMITIVES[name], "items": kids}
+            lists.append(kids)
+        else:
+            told = {"prim": "tok" if kind == 2 else _PRIMITIVES[name], "from": begin, "to": end}
+            if kind == 3:
+                told["val"] = high << 32 | low
+        lists[depth].append(told)
+    return lists[0][0]
+
+
+def _answered(answer: _Answer, rows: Iterator[tuple[int, ...]], rules: Sequence[str], attrs: Sequence[str]) -> Node | Error:
+    if answer.status == 0:
+        return Node(_rowed(rows, rules, attrs))
+    return ERRORS.get(answer.status, Error)(answer.status, {1: "no parse", 3: "range", 8: "too large"}.get(answer.status, ""))
+
+
 class Grammar:
     """A grammar by which parsing always ends: its text was checked when it was made."""
 
@@ -265,6 +312,43 @@ class Grammar:
         finally:
             sys.setrecursionlimit(depth)
 
+    def _given(self) -> Buffer:
+        return self._files["grammar"]
+
+    def _names(self) -> tuple[list[str], list[str]]:
+        """The names of the rules, and of the attributes."""
+        with _Lender() as lender:
+            given = lender.lend(self._given())
+            size = ctypes.c_uint64(FIRST_ROOM)
+            while True:
+                room = ctypes.create_string_buffer(size.value)
+                status = _LIBRARY.ipg_names(given.at, given.size, room, len(room), ctypes.byref(size))
+                if status:
+                    raise ERRORS.get(status, Error)(status, "")
+                if size.value <= len(room):
+                    break
+        rules, attrs = room.raw[: size.value].decode().split("\n\n", 1) if b"\n\n" in room.raw[: size.value] else ("", "")
+        return rules.split("\n"), attrs.split("\n")
+
+    def parse_each(self, inputs: Sequence[Buffer]) -> list[Node | Error]:
+        """The trees of many inputs, in their order, by one call, which checks the grammar once. An input without a tree has its error in place."""
+        rules, attrs = self._names()
+        with _Lender() as lender:
+            given = lender.lend(self._given())
+            told = (_Bytes * len(inputs))(*map(lender.lend, inputs))
+            answers = (_Answer * len(inputs))()
+            length = ctypes.c_uint64(1 << 10)
+            while True:
+                rows = ctypes.create_string_buffer(max(length.value, 1) * _ROW.size)
+                room = len(rows) // _ROW.size
+                status = _LIBRARY.ipg_trees(given.at, given.size, told, len(told), answers, len(answers), rows, room, ctypes.byref(length))
+                if status:
+                    raise ERRORS.get(status, Error)(status, "")
+                if length.value <= room:
+                    break
+        every = _ROW.iter_unpack(memoryview(rows)[: length.value * _ROW.size])
+        return [_answered(answer, itertools.islice(every, answer.rows), rules, attrs) for answer in answers]
+
     def query(self, data: Buffer, path: str) -> list[int | tuple[int, int]]:
         """What the path picks of the tree: values, and the two ends of parts."""
         text = _done(["query", self._name, "input", path], {**self._files, "input": data})
@@ -281,6 +365,9 @@ class _Builtin(Grammar):
         self._name = f"@{name}"
         self._files = {}
         self._check()
+
+    def _given(self) -> Buffer:
+        return self._name.encode()
 
 
 def builtin(name: str) -> Grammar:

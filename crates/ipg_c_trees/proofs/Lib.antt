@@ -1,0 +1,2 @@
+-- what an input comes to
+pub mod Coming
