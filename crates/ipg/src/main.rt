@@ -1,6 +1,9 @@
 //! The program: words, files and output of this machine, handed to `run`.
 #![tactic(auto)]
 
+#[cfg(test)]
+mod tests;
+
 use ipg_app::run::run;
 use ipg_app::status::Status;
 use ipg_outside::{DiskFiles, StdSink};

@@ -54,7 +54,8 @@ of_place P g flags all at rule alt is_at marked =
     let rules = of_item P 0 (λ n (q : CoreRule). if is_marked flags n then alternatives_of n q.alts else []) g.rules all at.0 rule is_at.is_rule in
     let here : AllByRecursion P (if is_marked flags at.0 then alternatives_of at.0 rule.alts else []) =
     subst (λ n. AllByRecursion P (if is_marked flags n then alternatives_of n rule.alts else [])) r rules in
-    let alts = of_item P 0 (λ n (q : CoreAlt). (at.0, n) ∷ []) rule.alts (if_marked P (is_marked flags at.0) (alternatives_of at.0 rule.alts) marked here) at.1 alt
+    let alts = of_item P 0 (λ n (q : CoreAlt). (at.0, n) ∷ []) rule.alts
+    (if_marked P (is_marked flags at.0) (alternatives_of at.0 rule.alts) marked here) at.1 alt
     is_at.is_alt in
     subst (λ n. P (at.0, n)) a alts.0
 

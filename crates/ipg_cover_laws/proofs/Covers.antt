@@ -31,7 +31,8 @@ use Rattle.ipg_cover_laws.proofs.Alternatives.{rule_there, TreeOf, tree_of}
 
 -- ---- where a place lies
 
-among_by : (low high : Bool) (from n place : ℕ) → nat_le from place ≡ low → nat_lt place (from + n) ≡ high → IsAmong from n place ⊎ IsOutside from (from + n) place
+among_by : (low high : Bool) (from n place : ℕ) → nat_le from place ≡ low → nat_lt place (from + n) ≡ high
+    → IsAmong from n place ⊎ IsOutside from (from + n) place
 among_by true true from n place e f = inl (record { begun = grind (arith, nat_tests); ends = grind (arith, nat_tests) })
 among_by false high from n place e f = inr (inl (grind (arith, nat_tests)))
 among_by true false from n place e f = inr (inr (grind (arith, nat_tests)))

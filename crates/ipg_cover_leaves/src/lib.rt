@@ -8,8 +8,6 @@ pub mod laws;
 mod leaf;
 mod number;
 mod page;
-#[cfg(test)]
-mod tests;
 
 pub use back::put_back;
 pub use collecting::leaves;

@@ -64,7 +64,8 @@ module _ (from : ℕ) where
   stay_in : (entry : Key × Answer) (known : Known) (key : Key) (b c : Bool) → nat_le entry.0.to from ≡ b → same_key entry.0 key ≡ c → key.to ≤ from
       → find (that_stay from known) key ≡ find known key
       → find (if b then entry ∷ that_stay from known else that_stay from known) key ≡ (if c then Some entry.1 else find known key)
-  stay_in entry known key true c e same early h = ap (λ t. if t then Some entry.1 else find (that_stay from known) key) same ∙ ap (λ more. if c then Some entry.1 else more) h
+  stay_in entry known key true c e same early h = ap (λ t. if t then Some entry.1 else find (that_stay from known) key) same
+      ∙ ap (λ more. if c then Some entry.1 else more) h
   stay_in entry known key false true e same early h =
       let one = same_by entry.0 key same in
       let late = le-leb entry.0.to from (subst (λ (k : Key). k.to ≤ from) (sym one) early) in absurd (cc)
@@ -108,9 +109,11 @@ module _ (from to new : ℕ) (ordered : from ≤ to) where
       → find (that_move from to new known) (moved_key from to new key) ≡ find known key
       → find (if b then (moved_key from to new entry.0, entry.1) ∷ that_move from to new known else that_move from to new known) (moved_key from to new key)
       ≡ (if c then Some entry.1 else find known key)
-  move_in entry known key true true true e same same_there behind h = ap (λ t. if t then Some entry.1 else find (that_move from to new known) (moved_key from to new key)) same_there
+  move_in entry known key true true true e same same_there behind h = ap
+      (λ t. if t then Some entry.1 else find (that_move from to new known) (moved_key from to new key)) same_there
   move_in entry known key true true false e same same_there behind h =
-      let again = ap (λ k. same_key (moved_key from to new k) (moved_key from to new key)) (same_by entry.0 key same) ∙ same_self (moved_key from to new key) in absurd (cc)
+      let again = ap (λ k. same_key (moved_key from to new k) (moved_key from to new key)) (same_by entry.0 key same)
+      ∙ same_self (moved_key from to new key) in absurd (cc)
   move_in entry known key true false true e same same_there behind h =
       let one = one_key entry.0 key (behind_by from to entry.0 e) behind (same_by _ _ same_there) in
       let again = ap (λ k. same_key k key) one ∙ same_self key in absurd (cc)
@@ -323,7 +326,8 @@ module _ (earlier : EarlierBytesStay) (later : LaterBytesMove) (g : Grammar) (in
   there = edited input from to with
 
   stay_right_by : (entry : Key × Answer) (known : Known) (b : Bool) → nat_le entry.0.to from ≡ b → IsRight g input entry
-      → AllByRecursion (IsRight g there) (that_stay from known) → AllByRecursion (IsRight g there) (if b then entry ∷ that_stay from known else that_stay from known)
+      → AllByRecursion (IsRight g there) (that_stay from known) → AllByRecursion (IsRight g there)
+      (if b then entry ∷ that_stay from known else that_stay from known)
   stay_right_by entry known true e right rest =
       (right_there g input there entry.0 entry.0 entry.1 refl (earlier input with from to entry.0.from entry.0.to edit (leb-true _ _ e)) right, rest)
   stay_right_by entry known false e right rest = rest

@@ -5,8 +5,6 @@ pub mod laws;
 mod pos;
 mod reading;
 mod script;
-#[cfg(test)]
-mod tests;
 
 pub use reading::{ScriptFault, read};
 pub use script::Edit;

@@ -73,7 +73,8 @@ unfolding terms_for
 terms_more aim scope order i made all within h =
     append_assoc made _ _ ∙ sym (ap (λ us. made ++ terms_for aim scope us) (at_nat order i within)) ∙ h
 
-pub terms_all : (aim : Aim) (scope : Scope) (order : List ℕ) (i : ℕ) (made all : List Fact) → length order ≤ i → made ++ terms_for aim scope (drop i order) ≡ all
+pub terms_all : (aim : Aim) (scope : Scope) (order : List ℕ) (i : ℕ) (made all : List Fact) → length order ≤ i
+    → made ++ terms_for aim scope (drop i order) ≡ all
     → made ≡ all
 unfolding terms_for
 terms_all aim scope order i made all past h = sym (append-nil made) ∙ sym (ap (λ us. made ++ terms_for aim scope us) (drop_all i order past)) ∙ h
@@ -87,8 +88,10 @@ pub all_passed : (scope all : Scope) (order : List ℕ) (i : ℕ) → length ord
 unfolding passed_all
 all_passed scope all order i past h = sym (ap (passed_all scope) (drop_all i order past)) ∙ h
 
-pub caller_made : (g : Grammar) (marks : List Bool) (edition : Edition) (e : Edge) (caller : CoreAlt) (scope done : Scope) (order : List ℕ) (old mid new : List Fact)
-    → scope ≡ opening g marks edition caller_side caller → order ≡ before e.term caller.order → mid ≡ old ++ terms_members scope order → done ≡ passed_all scope order
+pub caller_made : (g : Grammar) (marks : List Bool) (edition : Edition) (e : Edge) (caller : CoreAlt) (scope done : Scope) (order : List ℕ)
+    (old mid new : List Fact)
+    → scope ≡ opening g marks edition caller_side caller → order ≡ before e.term caller.order → mid ≡ old ++ terms_members scope order
+    → done ≡ passed_all scope order
     → new ≡ mid ++ own_at done e.term e.branch → new ≡ old ++ caller_facts g marks edition e caller
 unfolding caller_facts
 caller_made g marks edition e caller scope done order old mid new is_scope is_order is_mid is_done is_new =

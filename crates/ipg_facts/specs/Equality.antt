@@ -11,7 +11,8 @@ use Rattle.ipg_core.specs.declared.grammar.CoreField.{CoreField}
 use Rattle.ipg_core.specs.declared.grammar.CoreField.TheVariants as fields
 use Rattle.ipg_core.specs.declared.grammar.Sym.{Sym}
 use Rattle.ipg_core.specs.declared.grammar.Sym.TheVariants.{Text, Prim, Rule}
-use Rattle.ipg_core.specs.declared.grammar.CoreExpr.{CoreExpr, map-CoreExpr, roll-CoreExpr, fold-roll-CoreExpr, out-CoreExpr, out-roll-CoreExpr, roll-out-CoreExpr}
+use Rattle.ipg_core.specs.declared.grammar.CoreExpr.{CoreExpr, map-CoreExpr, roll-CoreExpr, fold-roll-CoreExpr}
+use Rattle.ipg_core.specs.declared.grammar.CoreExpr.{out-CoreExpr, out-roll-CoreExpr, roll-out-CoreExpr}
 use Rattle.ipg_core.specs.declared.grammar.CoreExpr.TheOpen.{CoreExpr-F}
 use Rattle.ipg_core.specs.Grammar.{primitive_number}
 use Rattle.ipg_facts.specs.declared.key.Side.{Side}

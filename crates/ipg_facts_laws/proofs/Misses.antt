@@ -114,7 +114,8 @@ module _ (v : Valuation) (place : ℕ) (is_place : v (whole point_side) ≡ pos 
     chosen_missed false earlier c cases other x e f h ran rest =
         one_so v (earlier ++ ((read scope c.0).holds ++ slot_gap scope number c.1))
         (map (is_so v) (gap_branches scope number (earlier ++ (read scope c.0).fails) cases other))
-        (so_append v earlier _ h (so_append v (read scope c.0).holds (slot_gap scope number c.1) ((known v scope env fits c.0 x e).holds f) (slot_missed c.1 ran)))
+        (so_append v earlier _ h (so_append v (read scope c.0).holds (slot_gap scope number c.1) ((known v scope env fits c.0 x e).holds f)
+        (slot_missed c.1 ran)))
     chosen_missed true earlier c cases other x e f h ran rest =
         or_true _ _ (rest (earlier ++ (read scope c.0).fails) (so_append v earlier (read scope c.0).fails h ((known v scope env fits c.0 x e).fails f)) ran)
 

@@ -20,7 +20,8 @@ use Rattle.ipg_facts.specs.Form.{variable, equal, leq, less}
 use Rattle.ipg_facts.specs.declared.edition.Edition.{Edition}
 use Rattle.ipg_facts.specs.declared.edition.Edition.TheVariants.{Earlier, Later}
 use Rattle.ipg_facts.specs.Reading.{Scope, length_of, nought, read, form, least_width, item_of, item_at, if_there}
-use Rattle.ipg_facts.specs.Members.{members, branches, slot_members, own_members, is_whole, takes, runs, terms_members, passed, passed_all, arrays_with, with_bounds}
+use Rattle.ipg_facts.specs.Members.{members, branches, slot_members, own_members, is_whole, takes, runs}
+use Rattle.ipg_facts.specs.Members.{terms_members, passed, passed_all, arrays_with, with_bounds}
 use Rattle.ipg_facts_laws.specs.Valued.{Valuation, is_so}
 use Rattle.ipg_facts_laws.specs.Known.{AreSo, Stands, Fits, IsBehind}
 use Rattle.ipg_facts_laws.specs.Ran.{SlotRan, Chosen, PickRan, TermRan, ArrayRan, AreBetween, AtRan, AllRan, IsWholeCall, Turns, TakesWhole, CallsWhole}

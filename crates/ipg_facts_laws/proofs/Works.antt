@@ -1,5 +1,6 @@
 -- An alternative at work: what holds of its state, and which of its terms have run.
-use Rattle.std.proofs.Common.{◌≡◌, ℕ, zero, suc, refl, sym, subst, append-nil, List, [], ◌∷◌, ◌++◌, length, Option, Some, None, Ok, Bool, true, false, if◌then◌else◌, ℤ}
+use Rattle.std.proofs.Common.{◌≡◌, ℕ, zero, suc, refl, sym, subst, append-nil, List, [], ◌∷◌, ◌++◌}
+use Rattle.std.proofs.Common.{length, Option, Some, None, Ok, Bool, true, false, if◌then◌else◌, ℤ}
 use Rattle.std.specs.Prelude.{slice_get, replicate}
 use Rattle.ipg_num.specs.Number.{limited}
 use Rattle.ipg_num.specs.declared.op.Answer.TheVariants.{Val}
@@ -32,7 +33,15 @@ use Rattle.ipg_facts_laws.proofs.Valuing.{clamped, of_known, key_of, fits}
 
 -- an alternative's scope, where none of its arrays has run
 abbrev pub first_scope : Grammar → Marks → Side → CoreAlt → Scope
-first_scope g marks side alt = record { edition = editions.Later; side = side; names = g.names; marks = marks; terms = alt.terms; arrays = replicate (length alt.terms) None }
+first_scope g marks side alt = record {
+  edition = editions.Later;
+  side = side;
+  names = g.names;
+  marks = marks;
+  terms = alt.terms;
+  arrays =
+      replicate (length alt.terms) None;
+}
 
 -- the alternative on s
 abbrev pub at_work : Grammar → ℕ × ℕ → List ℕ → Values → Frame

@@ -1,6 +1,7 @@
 //! Laws of how parsing ends, each the contract of a function that calls at most the laws it stands on.
 
-ghost use Rattle.ipg_facts_laws.specs.Ends.{CallsAreEdges, EndsWhereNoneSolve, EndsWithoutCycles, InputsNestWithinHeight, NestsAgree, NestsWithinHeight, RunsAgree};
+ghost use Rattle.ipg_facts_laws.specs.Ends.{CallsAreEdges, EndsWhereNoneSolve, EndsWithoutCycles, InputsNestWithinHeight};
+ghost use Rattle.ipg_facts_laws.specs.Ends.{NestsAgree, NestsWithinHeight, RunsAgree};
 ghost use Rattle.ipg_facts_laws.specs.Walks.{LongWalksHoldCycles};
 
 use crate::laws::{edges_are_few, edges_are_inside, reached_cycles_solve, reached_edges_solve};

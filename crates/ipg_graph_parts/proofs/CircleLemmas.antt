@@ -1,5 +1,6 @@
 -- The edges of circles are those with both ends in one part.
-use Rattle.std.proofs.Common.{◌≡◌, ℕ, zero, suc, ◌<◌, List, [], ◌∷◌, ◌++◌, Option, Bool, true, false, length, get_or, refl, sym, ap, subst, ◌∙◌, inl, inr, arith}
+use Rattle.std.proofs.Common.{◌≡◌, ℕ, zero, suc, ◌<◌, List, [], ◌∷◌, ◌++◌, Option, Bool, true}
+use Rattle.std.proofs.Common.{false, length, get_or, refl, sym, ap, subst, ◌∙◌, inl, inr, arith}
 use Rattle.std.specs.List.{All}
 use Rattle.std.proofs.lemmas.List.{get_or_past, get_or_push, get_or_append_left, length_push}
 use Rattle.std.proofs.lemmas.List.Elements.{All-nil, All-cons, All-head, All-tail, All-get_or, All-weaker}
@@ -19,7 +20,8 @@ use Rattle.ipg_graph_parts.proofs.GraphLemmas.{length-ends, all-ends}
 pub no-flags : (g : Graph) (names : List (Option ℕ)) → AreFlags g names []
 no-flags g names = record { set = λ e below. absurd (omega arith); unset = λ e below. absurd (omega arith) }
 
-pub end-at : (rules : ℕ) (end : Edge → ℕ) (edges : List Edge) (i : ℕ) (d : Edge) → i < length edges → get_or (ends rules end edges []) i rules ≡ end (get_or edges i d)
+pub end-at : (rules : ℕ) (end : Edge → ℕ) (edges : List Edge) (i : ℕ) (d : Edge) → i < length edges
+    → get_or (ends rules end edges []) i rules ≡ end (get_or edges i d)
 end-at rules end [] i d below = absurd (omega arith)
 end-at rules end (e ∷ edges) zero d below = refl
 end-at rules end (e ∷ edges) (suc i) d below = end-at rules end edges i d (omega arith)

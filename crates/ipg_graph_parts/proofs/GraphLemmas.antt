@@ -36,6 +36,7 @@ pub whole : (rules : ℕ) (edges : List Edge) → length edges < 2 ^ 32 → All 
 whole rules edges few all = record {
   few = rw length-ends few;
   same = length-ends rules (λ e. e.callee) edges ∙ sym (length-ends rules (λ e. e.caller) edges);
-  inside = λ i live. other-end rules (λ e. e.caller) (λ e. e.callee) edges i (All-weaker (IsInside rules) (λ e. e.callee < rules) (λ e is. is.1) edges all) live;
+  inside = λ i live. other-end rules (λ e. e.caller) (λ e. e.callee) edges i
+      (All-weaker (IsInside rules) (λ e. e.callee < rules) (λ e is. is.1) edges all) live;
   both = λ i live. other-end rules (λ e. e.callee) (λ e. e.caller) edges i (All-weaker (IsInside rules) (λ e. e.caller < rules) (λ e is. is.0) edges all) live;
 }

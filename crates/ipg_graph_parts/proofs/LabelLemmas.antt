@@ -194,7 +194,8 @@ put f labels waiting rule edge u live from to free below h = record {
     way : Leads f.graph f.root (callee f.graph edge)
     way = over f.graph f.root rule (callee f.graph edge) (h.only rule h.here).1 (along f.graph edge rule live from)
 
-pub filled : (f : Field) (labels : List (Option ℕ)) (waiting : List ℕ) (rule : ℕ) → length waiting ≡ 0 → IsSpreading f labels waiting rule None → IsFilled f labels
+pub filled : (f : Field) (labels : List (Option ℕ)) (waiting : List ℕ) (rule : ℕ) → length waiting ≡ 0 → IsSpreading f labels waiting rule None
+    → IsFilled f labels
 filled f labels waiting rule empty h = record {
   sized = h.sized;
   start = h.start;

@@ -7,7 +7,5 @@ mod finished;
 mod labels;
 mod links;
 mod parts;
-#[cfg(test)]
-mod tests;
 
 pub use cyclic::edges_on_cycles;

@@ -4,8 +4,6 @@
 mod formula;
 mod linear;
 pub mod sum;
-#[cfg(test)]
-mod tests;
 
 pub use formula::{Boxed, Formula, holds, is_over};
 pub use linear::{LinFault, Linear};

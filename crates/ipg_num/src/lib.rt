@@ -6,8 +6,6 @@ mod laws;
 mod list;
 mod look;
 mod op;
-#[cfg(test)]
-mod tests;
 
 pub use held::Held;
 pub use laws::divides_by_floor;

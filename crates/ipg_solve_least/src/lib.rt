@@ -2,7 +2,5 @@
 #![tactic(auto)]
 
 mod halving;
-#[cfg(test)]
-mod tests;
 
 pub use halving::decide_least;

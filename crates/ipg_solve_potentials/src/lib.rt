@@ -4,8 +4,6 @@
 mod edge;
 mod level;
 mod settling;
-#[cfg(test)]
-mod tests;
 mod trail;
 
 pub use edge::Edge;

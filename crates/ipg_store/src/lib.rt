@@ -6,8 +6,6 @@ pub mod laws;
 mod loading;
 mod parts;
 mod saving;
-#[cfg(test)]
-mod tests;
 
 pub use fault::LoadFault;
 pub use loading::{load, loaded};

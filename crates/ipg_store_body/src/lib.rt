@@ -5,8 +5,6 @@ mod body;
 pub mod laws;
 mod reading;
 mod tag;
-#[cfg(test)]
-mod tests;
 mod writing;
 
 pub use body::Body;

@@ -40,7 +40,10 @@ begins e h = let le : 256 ≤ 257 = omega arith in deeper 256 257 e le h
 -- a number or an expression as written, from there on
 number : (left : CoreExpr) (n : ℕ) → Left left → Whole (so_many left n)
 number left n h =
-    above 256 257 (CoreExpr-F.Two Add left (expr.Num (pos n))) (expr.rolls-Two Add left (expr.Num (pos n))) (omega arith) (h, above 0 256 (CoreExpr-F.Num (pos n)) (expr.rolls-Num (pos n)) (omega arith) tt)
+    above 256 257 (CoreExpr-F.Two Add left (expr.Num (pos n))) (expr.rolls-Two Add left (expr.Num (pos n))) (omega arith) (
+      h,
+      above 0 256 (CoreExpr-F.Num (pos n)) (expr.rolls-Num (pos n)) (omega arith) tt,
+    )
 
 written : (left e : CoreExpr) → Left left → Short e → Whole (expr.Two Add left e)
 written left e h k =

@@ -63,7 +63,8 @@ module _ (scope : Scope) where
       let attr = attr_number scope name in
       if_nests (scope.own name) 1 (core.Own attr) _ (above 0 1 (CoreExpr-F.Own attr) (core.rolls-Own attr) (omega arith) tt)
       (if_nests (is_var scope.var name) 1 core.Loop _ (above 0 1 CoreExpr-F.Loop core.rolls-Loop (omega arith) tt)
-      (if_nests (scope.outer name) 1 (core.Outer attr) core.Eoi (above 0 1 (CoreExpr-F.Outer attr) (core.rolls-Outer attr) (omega arith) tt) (above 0 1 CoreExpr-F.Eoi core.rolls-Eoi (omega arith) tt)))
+      (if_nests (scope.outer name) 1 (core.Outer attr) core.Eoi (above 0 1 (CoreExpr-F.Outer attr) (core.rolls-Outer attr) (omega arith) tt)
+      (above 0 1 CoreExpr-F.Eoi core.rolls-Eoi (omega arith) tt)))
 
   seen_nests : (at : Option ℕ) (s : Sym) (f : CoreField) → NestsWithin 1 (seen_at at s f)
   seen_nests None s f = above 0 1 CoreExpr-F.Eoi core.rolls-Eoi (omega arith) tt
@@ -85,25 +86,31 @@ module _ (scope : Scope) where
   layer (Expr-F.Part i f) = rolled (Expr-F.Part i f) (seen_nests (scope.call i.name) (symbol scope i.name) (field_in scope f))
   layer (Expr-F.Item i c f) = rolled (Expr-F.Item i c.0 f) (item_nests (scope.items i.name) (form_of c.0).depth (expr_in scope c.0) (field_in scope f) c.1)
   layer (Expr-F.Group c) = rolled (Expr-F.Group c.0) (deeper (form_of c.0).depth ((form_of c.0).depth + 1) (expr_in scope c.0) (omega arith) c.1)
-  layer (Expr-F.Neg c) = rolled (Expr-F.Neg c.0) (above (form_of c.0).depth ((form_of c.0).depth + 1) (CoreExpr-F.Neg (expr_in scope c.0)) (core.rolls-Neg (expr_in scope c.0)) (omega arith) c.1)
-  layer (Expr-F.Not c) = rolled (Expr-F.Not c.0) (above (form_of c.0).depth ((form_of c.0).depth + 1) (CoreExpr-F.Not (expr_in scope c.0)) (core.rolls-Not (expr_in scope c.0)) (omega arith) c.1)
+  layer (Expr-F.Neg c) = rolled (Expr-F.Neg c.0) (above (form_of c.0).depth ((form_of c.0).depth + 1) (CoreExpr-F.Neg (expr_in scope c.0))
+      (core.rolls-Neg (expr_in scope c.0)) (omega arith) c.1)
+  layer (Expr-F.Not c) = rolled (Expr-F.Not c.0) (above (form_of c.0).depth ((form_of c.0).depth + 1) (CoreExpr-F.Not (expr_in scope c.0))
+      (core.rolls-Not (expr_in scope c.0)) (omega arith) c.1)
   layer (Expr-F.Two o a b) =
       let n = max (form_of a.0).depth (form_of b.0).depth in
       rolled (Expr-F.Two o a.0 b.0)
-      (above n (n + 1) (CoreExpr-F.Two o (expr_in scope a.0) (expr_in scope b.0)) (core.rolls-Two o (expr_in scope a.0) (expr_in scope b.0)) (omega arith) (pair a.0 b.0 n (omega arith) (omega arith) a.1 b.1))
+      (above n (n + 1) (CoreExpr-F.Two o (expr_in scope a.0) (expr_in scope b.0)) (core.rolls-Two o (expr_in scope a.0) (expr_in scope b.0))
+      (omega arith) (pair a.0 b.0 n (omega arith) (omega arith) a.1 b.1))
   layer (Expr-F.Both a b) =
       let n = max (form_of a.0).depth (form_of b.0).depth in
       rolled (Expr-F.Both a.0 b.0)
-      (above n (n + 1) (CoreExpr-F.Both (expr_in scope a.0) (expr_in scope b.0)) (core.rolls-Both (expr_in scope a.0) (expr_in scope b.0)) (omega arith) (pair a.0 b.0 n (omega arith) (omega arith) a.1 b.1))
+      (above n (n + 1) (CoreExpr-F.Both (expr_in scope a.0) (expr_in scope b.0)) (core.rolls-Both (expr_in scope a.0) (expr_in scope b.0))
+      (omega arith) (pair a.0 b.0 n (omega arith) (omega arith) a.1 b.1))
   layer (Expr-F.Either a b) =
       let n = max (form_of a.0).depth (form_of b.0).depth in
       rolled (Expr-F.Either a.0 b.0)
-      (above n (n + 1) (CoreExpr-F.Either (expr_in scope a.0) (expr_in scope b.0)) (core.rolls-Either (expr_in scope a.0) (expr_in scope b.0)) (omega arith) (pair a.0 b.0 n (omega arith) (omega arith) a.1 b.1))
+      (above n (n + 1) (CoreExpr-F.Either (expr_in scope a.0) (expr_in scope b.0)) (core.rolls-Either (expr_in scope a.0) (expr_in scope b.0))
+      (omega arith) (pair a.0 b.0 n (omega arith) (omega arith) a.1 b.1))
   layer (Expr-F.Cond c a b) =
       let m = max (form_of a.0).depth (form_of b.0).depth in
       let n = max (form_of c.0).depth m in
       rolled (Expr-F.Cond c.0 a.0 b.0)
-      (above n (n + 1) (CoreExpr-F.Cond (expr_in scope c.0) (expr_in scope a.0) (expr_in scope b.0)) (core.rolls-Cond (expr_in scope c.0) (expr_in scope a.0) (expr_in scope b.0)) (omega arith)
+      (above n (n + 1) (CoreExpr-F.Cond (expr_in scope c.0) (expr_in scope a.0) (expr_in scope b.0))
+      (core.rolls-Cond (expr_in scope c.0) (expr_in scope a.0) (expr_in scope b.0)) (omega arith)
       (deeper (form_of c.0).depth n (expr_in scope c.0) (omega arith) c.1, pair a.0 b.0 n (omega arith) (omega arith) a.1 b.1))
 
   expr_shallow : (e : Expr) → IsShallow e

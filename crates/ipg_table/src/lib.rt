@@ -8,6 +8,4 @@ mod look;
 pub mod results;
 pub mod row;
 pub mod tables;
-#[cfg(test)]
-mod tests;
 mod value;

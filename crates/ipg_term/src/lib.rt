@@ -6,8 +6,6 @@ mod cycles;
 mod dead;
 mod fault;
 pub mod laws;
-#[cfg(test)]
-mod tests;
 
 pub use checking::check;
 pub use fault::{TermFault, TermWhy};

@@ -1,6 +1,9 @@
 //! Checks refutations of a stated size: `tool_cert combine|splits COUNT`.
 #![tactic(auto)]
 
+#[cfg(test)]
+mod tests;
+
 use anyhow::{Result, bail};
 use ipg_cert::{Refutation, Step, check};
 use ipg_lin::{Boxed, Formula, LinFault, Linear};

@@ -2,6 +2,8 @@
 //! earlier GRAMMAR`.
 #![tactic(auto)]
 
+#[cfg(test)]
+mod tests;
 mod text;
 
 ghost use Rattle.std.specs.Prelude.{◌<◌, length};

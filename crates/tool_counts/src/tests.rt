@@ -1,3 +1,6 @@
+mod nodes;
+mod term;
+
 use crate::checked_in;
 use anyhow::Result;
 use ipg_mach::{Machine, Remember, Turn};

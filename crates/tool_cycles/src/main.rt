@@ -2,6 +2,8 @@
 #![tactic(auto)]
 
 mod shapes;
+#[cfg(test)]
+mod tests;
 
 use anyhow::{Context, Result, bail, ensure};
 use ipg_graph::{Cycles, are_inside};

@@ -3,6 +3,8 @@
 #![tactic(auto)]
 
 mod draw;
+#[cfg(test)]
+mod tests;
 
 use crate::draw::Draw;
 use anyhow::{Result, bail};

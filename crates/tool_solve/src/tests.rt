@@ -1,3 +1,6 @@
+mod least;
+mod potentials;
+
 use super::*;
 use std::alloc::Global;
 

@@ -14,7 +14,8 @@ loop-case-preserved c =
     let case = c.case-item.result in
     let earlier = c.loop-case.earlier.items in
     ap (λ e. c.put_case.new.out.items ++ branches_for c.args.ran.aim scope c.args.ran.term e (drop (i + 1) cases) c.args.other.now) c.in_ok-put_fails.ensures
-    ∙ ap (λ m. m ++ branches_for c.args.ran.aim scope c.args.ran.term (earlier ++ (read scope case.0).fails) (drop (i + 1) cases) c.args.other.now) c.in_ok-put_case.ensures
+    ∙ ap (λ m. m ++ branches_for c.args.ran.aim scope c.args.ran.term (earlier ++ (read scope case.0).fails) (drop (i + 1) cases) c.args.other.now)
+    c.in_ok-put_case.ensures
     ∙ ap (λ e. (c.loop-case.members.items ++ All (e ++ ((read scope case.0).holds ++ slot_for c.args.ran.aim scope c.args.ran.term case.1)) ∷ [])
     ++ branches_for c.args.ran.aim scope c.args.ran.term (earlier ++ (read scope case.0).fails) (drop (i + 1) cases) c.args.other.now) c.as_slice.ensures.value
     ∙ branches_more c.args.ran.aim scope c.args.ran.term c.args.other.now cases i case c.loop-case.members.items earlier _ c.loop-case-test.true c.case-item.is

@@ -19,6 +19,7 @@ loop-term-preserved c =
 
 pub returns : goal.returns
 returns c = (
-  terms_all c.args.aim (scope_of c.loop-term.scope) c.args.order.now c.loop-term.term-index c.loop-term.out.items _ c.loop-term-test.false c.loop-term.invariant.0,
+  terms_all c.args.aim (scope_of c.loop-term.scope) c.args.order.now c.loop-term.term-index c.loop-term.out.items _ c.loop-term-test.false
+      c.loop-term.invariant.0,
   all_passed (scope_of c.loop-term.scope) _ c.args.order.now c.loop-term.term-index c.loop-term-test.false c.loop-term.invariant.1,
 )

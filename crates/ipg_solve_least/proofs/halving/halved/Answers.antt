@@ -5,7 +5,8 @@ use Rattle.ipg_solve_least.proofs.halving.halved.Goals as goal
 
 pub returns-in-Solution-clause-known : goal.returns-in-Solution-clause-known
 returns-in-Solution-clause-known c =
-    known_below c.args.f.now c.args.b.now c.args.x c.args.known c.requires.known c.requires.there c.middle-at.result (search rules) (search rules) (search rules)
+    known_below c.args.f.now c.args.b.now c.args.x c.args.known c.requires.known c.requires.there c.middle-at.result (search rules) (search rules)
+    (search rules)
     c.middle-at.ensures.least c.middle-at.ensures.most c.in_ok-lower.lower c.in_ok-lower.ensures c.in_ok-values.field-0 c.in-Solution.values c.value_of.result
     (search rules) (c.value_of.ensures ∙ ap (λ values. assigned values c.args.x) c.as_slice.ensures) c.in-Solution.is c.in_ok-values.ensures.decided
 
@@ -17,6 +18,7 @@ returns-in-Solution-clause-less c =
 
 pub returns-in-Refuted-clause-known : goal.returns-in-Refuted-clause-known
 returns-in-Refuted-clause-known c =
-    known_above c.args.f.now c.args.b.now c.args.x c.args.known c.requires.known c.requires.there c.middle-at.result (search rules) (search rules) (search rules)
+    known_above c.args.f.now c.args.b.now c.args.x c.args.known c.requires.known c.requires.there c.middle-at.result (search rules) (search rules)
+    (search rules)
     c.middle-at.ensures.least c.middle-at.ensures.most c.in_ok-lower.lower c.in_ok-lower.ensures c.in_ok-values.field-0 c.in-Refuted.field-0 c.in-Refuted.is
     c.in_ok-values.ensures.exact

@@ -17,7 +17,8 @@ loop-at-preserved c =
     let below : at < length k.keys = omega (arith, c.loop-at.invariant.0, c.loop-at-test.true) in
     let is : key k at ≡ v = get_or_default k.keys at k.limit v below ∙ sym c.index.ensures in
     let inside : v < k.limit = subst (λ x. x < k.limit) is (All-get_or (λ x. x < k.limit) k.keys at k.limit below c.requires.inside) in
-    let first_is : get_or firsts v None ≡ first = get_or_default firsts v None first (omega (arith, inside, linked.firsts_len)) ∙ sym c.index-in-loop-at.ensures in
+    let first_is : get_or firsts v None ≡ first = get_or_default firsts v None first (omega (arith, inside, linked.firsts_len))
+    ∙ sym c.index-in-loop-at.ensures in
     let up : c.loop-at.at ≡ at + 1 = omega (arith, c.loop-at-test.true) in (
       omega (arith, c.loop-at.invariant.0),
       subst (λ o. IsLinked k (set firsts v (Some at)) (set nexts at o) at) first_is

@@ -54,7 +54,13 @@ returns c =
     let search : code.Search = record { from = c.callees.result; to = c.callers.result; fence = c.as_slice.result; «open» = None; root = root } in
     let in_is : IsFilled (into g names root) leads =
     subst (λ f. IsFilled f leads) (field-is search (turned g) names c.callees.ensures c.callers.ensures c.as_slice.ensures) c.in_ok-fill.ensures.filled in
-    let search_out : code.Search = record { from = c.callers-2.result; to = c.callees-2.result; fence = c.as_slice-2.result; «open» = Some root; root = root } in
+    let search_out : code.Search = record {
+      from = c.callers-2.result;
+      to = c.callees-2.result;
+      fence = c.as_slice-2.result;
+      «open» = Some root;
+      root = root;
+    } in
     let out_of = field-is search_out g leads c.callers-2.ensures c.callees-2.ensures c.as_slice-2.ensures in
     record {
       parts = on_ok_both _ _ _ c.fill-2.result

@@ -1,6 +1,6 @@
 //! Leaves worked by hand, and what they are put back to.
-use crate::{Leaf, PutFault, put_back};
 use ipg_core::grammar::{Name, Primitive};
+use ipg_cover_leaves::{Leaf, PutFault, put_back};
 use ipg_num::List;
 use std::alloc::{AllocError, Global};
 use std::test::Fail;

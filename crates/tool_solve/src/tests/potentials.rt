@@ -1,7 +1,9 @@
+//! Levels of nodes, and rings that have none.
+
 ghost use Rattle.std.specs.Prelude.{◌≤◌, IsTrue};
 ghost use Rattle.ipg_solve_potentials.specs.Falls.{IsEdge, AreEdges};
 
-use super::*;
+use ipg_solve_potentials::{Edge, Settled, settle};
 use std::alloc::Global;
 use std::test::Fail;
 

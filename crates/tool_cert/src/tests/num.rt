@@ -1,4 +1,6 @@
-use super::*;
+//! Operators at their limits, lists and boxes.
+
+use ipg_num::{Answer, Held, List, Op2, apply, item_at, negate};
 use std::test::Fail;
 
 #[test]

@@ -1,4 +1,6 @@
-use super::*;
+//! Scripts of edits.
+
+use ipg_edit_script::{Edit, ScriptFault, read};
 use std::test::*;
 
 /// Texts that are no script, with the first byte at fault.

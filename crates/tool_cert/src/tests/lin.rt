@@ -1,7 +1,9 @@
+//! Sums and formulas.
+
 ghost use Rattle.std.specs.Prelude.{◌≡◌, IfOk};
 ghost use Rattle.ipg_lin.specs.Formula.{width};
 
-use super::*;
+use ipg_lin::{Formula, LinFault, Linear, holds};
 use ipg_num::List;
 use std::alloc::Global;
 use std::test::Fail;

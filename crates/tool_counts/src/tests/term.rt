@@ -1,6 +1,6 @@
 //! The laws stand at a call.
 
-use crate::laws::{loops_arent_accepted, one_loops};
+use ipg_term::laws::{loops_arent_accepted, one_loops};
 
 #[test]
 fn laws_are_called() {

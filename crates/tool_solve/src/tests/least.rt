@@ -1,9 +1,9 @@
 //! That the least value is found, and that a formula without a solution has none.
 
-use crate::halving::decide_least;
 use ipg_lin::{Boxed, Formula, Linear, is_over};
 use ipg_num::List;
 use ipg_solve::Decision;
+use ipg_solve_least::decide_least;
 use std::alloc::Global;
 use std::test::Fail;
 

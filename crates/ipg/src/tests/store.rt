@@ -1,4 +1,6 @@
-use super::*;
+//! A table file that is read, and such that are at fault.
+
+use ipg_store::{LoadFault, load, loaded};
 use std::test::*;
 
 /// The file of `S -> "ab"[0,2] ;`, whose certificate has no entry.

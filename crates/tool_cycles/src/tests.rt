@@ -1,7 +1,7 @@
 //! Two parts and an edge between them, and a chain that would take a walk for each of its rules in another order.
 
-use crate::edges_on_cycles;
 use ipg_graph::{Edge, are_inside};
+use ipg_graph_parts::edges_on_cycles;
 use std::alloc::Global;
 use std::test::Fail;
 

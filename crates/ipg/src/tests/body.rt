@@ -1,5 +1,7 @@
-use super::*;
+//! The body of a table file.
+
 use ipg_reader::Fault;
+use ipg_store_body::read;
 use std::test::*;
 
 /// The body of `S -> "ab"[0,2] ;`.

@@ -1,0 +1,4 @@
+//! Numbers and formulas.
+
+mod lin;
+mod num;
