@@ -3,12 +3,15 @@
   explains.py COMMAND
 
 Each case is a grammar, the line that refuses it and where: places as strings of the text, found by their number. Beside the
-cases below, each grammar of .ci/vectors/texts.json that is refused with a place is explained. Ends with status 1 where one differs.
+cases below, each grammar of .ci/vectors/texts.json that is refused with a place is explained. Behind them are inputs, worked out by
+hand: what each comes to, and for each of the furthest failures the line of why, what comes of it, and the calls that led there.
+Ends with status 1 where one differs.
 """
 
 import json
 import os
 import re
+import struct
 import subprocess
 import sys
 import tempfile
@@ -27,14 +30,19 @@ def sentences():
 SENTENCES = sentences()
 
 
-def spot(text, at):
-    """NAME:LINE:COLUMN, the line, and the mark."""
-    before, behind = text[:at], text[at:]
-    head, tail = before.split(b"\n")[-1], behind.split(b"\n")[0]
+def place(text, at, name=NAME):
+    """NAME:LINE:COLUMN."""
+    before = text[:at]
+    return f"{name}:{before.count(10) + 1}:{len(before.split(bytes([10]))[-1]) + 1}"
+
+
+def spot(text, at, name=NAME):
+    """The place, the line, and the mark."""
+    head, tail = text[:at].split(b"\n")[-1], text[at:].split(b"\n")[0]
     line = head + tail
     left = max(0, len(head) - 72)
     shown = "".join(chr(b) if 32 <= b <= 126 else " " if b == 9 else "." for b in line[left:left + 100])
-    return f"{NAME}:{before.count(10) + 1}:{len(head) + 1}\n  {shown}\n  {' ' * (len(head) - left)}^\n"
+    return f"{place(text, at, name)}\n  {shown}\n  {' ' * (len(head) - left)}^\n"
 
 
 def word_at(text, at):
@@ -55,12 +63,18 @@ def explained(text, refusal, places):
     return refusal + "\n" + "".join(spot(text, at) for at in places) + wrong + "\n" + advice + "\n"
 
 
-def call(command, words, text):
+def call(command, words, text, name=NAME, data=None):
+    """A command on a grammar, and on an input if there is one."""
     with tempfile.TemporaryDirectory() as folder:
         os.mkdir(os.path.join(folder, "some dir"))
         with open(os.path.join(folder, NAME), "wb") as file:
             file.write(text)
-        done = subprocess.run([command, *words, NAME], cwd=folder, stdin=subprocess.DEVNULL, capture_output=True, timeout=60)
+        files = []
+        if data is not None:
+            files = ["input"]
+            with open(os.path.join(folder, "input"), "wb") as file:
+                file.write(data)
+        done = subprocess.run([command, *words, name, *files], cwd=folder, stdin=subprocess.DEVNULL, capture_output=True, timeout=60)
     return done.returncode, done.stdout.decode("latin-1")
 
 
@@ -147,12 +161,226 @@ def wrong_vectors(command):
     return differ, count
 
 
+# ---- inputs
+
+PARSED, NO_PARSE, RANGE = ("parsed", 0), ("no parse", 1), ("range", 3)
+
+EACH = b"S -> " + b" / ".join(b'"a%d"' % n for n in range(10)) + b" ;"
+DEEP = b"".join(b"N%d -> N%d ;\n" % (n, n + 1) for n in range(14)) + b'N14 -> "x" ;\n'
+PNG = b"""Png -> "\\x89PNG" many Chunk Rest ;
+Chunk -> U32BE {size = U32BE.val} Bytes[4] Bytes[size] U32BE ;
+Rest -> Bytes ;
+"""
+FRAME = b"""Frame -> U8 {kind = U8.val} switch { case (kind == 4) Packet[6] else Bytes[6] } ;
+Packet -> U8 ?(U8.val == 69) U8 {total = U8.val} ?(total <= EOI) Bytes / Bytes ;
+"""
+HEXES = "6162636465666768696a6b6c6d6e6f70"
+
+# a grammar (the name of a built-in one: a file of its text is beside), an input, what it comes to, the place, how many more there
+# are, and the furthest failures: where in the text, why, what comes of it, the calls that are open below, and the call that failed
+# a header that says two section headers of 64 bytes behind it, one of them, and ten bytes
+ELF_CUT = b"\x7fELF\x02\x01\x01" + bytes(9) + struct.pack("<HHIQQQIHHHHHH", 2, 62, 1, 0, 0, 64, 0, 64, 0, 0, 64, 2, 0) + bytes(64 + 10)
+
+# a capture of one frame of 38 bytes: an IPv4 packet of 24, with 4 of a datagram's 8 bytes of header
+UDP_CUT = bytes.fromhex(
+    "d4c3b2a1020004000000000000000000ffff000001000000" "00000000000000002600000026000000" "0200000000010200000000020800"
+    "4500001800000000401100000a0000010a000002" "03e807d0")
+
+INPUTS = [
+    # a string that differs, from its first byte or a later one, and one that is cut
+    (b'S -> "ab" ;', b"ac", NO_PARSE, "1", 0, [
+        (('"ab"', 0), 'Wanted at byte 0: "ab" (6162). There stands "ac" (6163), with 1 byte in common.', "S has no tree here.", [], "S 0..2")]),
+    (b'S -> "ab" ;', b"xb", NO_PARSE, "0", 0, [
+        (('"ab"', 0), 'Wanted at byte 0: "ab" (6162). There stands "xb" (7862), with 0 bytes in common.', "S has no tree here.", [], "S 0..2")]),
+    (b'S -> "ab" ;', b"a", NO_PARSE, "0", 0, [
+        (('"ab"', 0), 'Wanted: "ab" (6162) on [0, 2], in a part of 1 byte.', "S has no tree here.", [], "S 0..1")]),
+    (b'S -> U8 "b"[1, 1] ;', b"a", NO_PARSE, "1, the end of the input", 0, [
+        (('"b"', 0), 'Wanted at byte 1: "b" (62). The part ends there.', "S has no tree here.", [], "S 0..1")]),
+    (b'S -> U8 "bc"[1, 2] ;', b"abc", NO_PARSE, "2", 0, [
+        (('"bc"', 0), 'Wanted at byte 1: "bc" (6263). There stands "bc" (6263), with 1 byte in common.', "S has no tree here.", [], "S 0..3")]),
+    # sixteen bytes of each are told, and none raw
+    (b'S -> "abcdefghijklmnopqrst" ;', b"abcdefghijklmnopqrsX", NO_PARSE, "19", 0, [
+        (('"abc', 0), f'Wanted at byte 0: "abcdefghijklmnop" ({HEXES}+4). There stands "abcdefghijklmnop" ({HEXES}+4), with 19 bytes in common.',
+         "S has no tree here.", [], "S 0..20")]),
+    (b'S -> "\\x1b[2J" ;', b"\x1b[2\t", NO_PARSE, "3", 0, [
+        (('"', 0), 'Wanted at byte 0: ".[2J" (1b5b324a). There stands ".[2 " (1b5b3209), with 3 bytes in common.', "S has no tree here.", [], "S 0..4")]),
+    # numbers: no room for the interval, and an interval that is too short
+    (b"S -> U8 ;", b"", NO_PARSE, "0, the end of the input", 0, [
+        (("U8", 0), "Wanted: U8 on [0, 1], in a part of 0 bytes.", "S has no tree here.", [], "S 0..0")]),
+    (b"S -> U8 U16LE ;", b"a", NO_PARSE, "1, the end of the input", 0, [
+        (("U16LE", 0), "Wanted: U16LE on [1, 3], in a part of 1 byte.", "S has no tree here.", [], "S 0..1")]),
+    (b"S -> U8 U16LE[1, 2] ;", b"ab", NO_PARSE, "2, the end of the input", 0, [
+        (("U16LE", 0), "Wanted at byte 1: U16LE, 2 bytes. Left: 1 byte.", "S has no tree here.", [], "S 0..2")]),
+    (b"S -> U64BE[0, 3] ;", b"abcd", NO_PARSE, "3", 0, [
+        (("U64BE", 0), "Wanted at byte 0: U64BE, 8 bytes. Left: 3 bytes.", "S has no tree here.", [], "S 0..4")]),
+    # intervals that are none
+    (b"S -> U8 Bytes[U8.val - 5] ;", b"\x01", NO_PARSE, "1, the end of the input", 0, [
+        (("Bytes", 0), "Wanted: Bytes on [1, -3], in a part of 1 byte.", "S has no tree here.", [], "S 0..1")]),
+    (b"S -> U8 A[1, 9] ;\nA -> U8 ;", b"ab", NO_PARSE, "1", 0, [
+        (("A[", 0), "Wanted: A on [1, 9], in a part of 2 bytes.", "S has no tree here.", [], "S 0..2")]),
+    (b"S -> U8 many A[U8.val, 9] ;\nA -> U8 ;", b"\x01", NO_PARSE, "1, the end of the input", 0, [
+        (("A[", 0), "Wanted: A on [1, 9], in a part of 1 byte.", "S has no tree here.", [], "S 0..1")]),
+    # tests, and expressions without a value
+    (b"S -> U8 ?(U8.val == 1) ;", b"\x02", NO_PARSE, "1, the end of the input", 0, [
+        (("?", 0), "The test is 0.", "S has no tree here.", [], "S 0..1")]),
+    (b"S -> U8 {n = 4 / U8.val} ;", b"\x00z", NO_PARSE, "1", 0, [
+        (("n =", 0), "An expression of this term has no value.", "S has no tree here.", [], "S 0..2")]),
+    (b"S -> U8 for i = 0 to 1 / U8.val do U8[1, 2] ;", b"\x00a", NO_PARSE, "1", 0, [
+        (("U8[", 0), "An expression of this term has no value.", "S has no tree here.", [], "S 0..2")]),
+    # alternatives: the one that came further; two at one place; more than eight
+    (b'S -> "ab" / "xy" ;', b"ac", NO_PARSE, "1", 0, [
+        (('"ab"', 0), 'Wanted at byte 0: "ab" (6162). There stands "ac" (6163), with 1 byte in common.', "The next alternative of S is tried.", [],
+         "S 0..2")]),
+    (b'S -> "xb" / "xc" ;', b"xd", NO_PARSE, "1", 0, [
+        (('"xb"', 0), 'Wanted at byte 0: "xb" (7862). There stands "xd" (7864), with 1 byte in common.', "The next alternative of S is tried.", [],
+         "S 0..2"),
+        (('"xc"', 0), 'Wanted at byte 0: "xc" (7863). There stands "xd" (7864), with 1 byte in common.', "S has no tree here.", [], "S 0..2")]),
+    (EACH, b"ax", NO_PARSE, "1", 2, [
+        ((f'"a{n}"', 0), f'Wanted at byte 0: "a{n}" (613{n}). There stands "ax" (6178), with 1 byte in common.', "The next alternative of S is tried.",
+         [], "S 0..2") for n in range(8)]),
+    # a tree, and nothing failed; a tree, though an alternative failed
+    (b"S -> U8 ;", b"a", PARSED, None, 0, []),
+    (b'S -> "ab" / "ac" ;', b"ac", PARSED, "1", 0, [
+        (('"ab"', 0), 'Wanted at byte 0: "ab" (6162). There stands "ac" (6163), with 1 byte in common.', "The next alternative of S is tried.", [],
+         "S 0..2")]),
+    # repetitions that ended: by a rule, by the last of its alternatives, by a number
+    (b'S -> many A Bytes ;\nA -> "a" U8 ?(U8.val == 98) ;', b"abac", PARSED, "4, the end of the input", 0, [
+        (("?", 0), "The test is 0.", "A has no tree here, and the repetition ends.", [("S 0..4", "many", 0)], "A 2..4")]),
+    (b'S -> many I Bytes ;\nI -> "a" "b" / "a" "c" ;', b"abad", PARSED, "3", 0, [
+        (('"b"', 0), 'Wanted at byte 3: "b" (62). There stands "d" (64), with 0 bytes in common.', "The next alternative of I is tried.",
+         [("S 0..4", "many", 0)], "I 2..4"),
+        (('"c"', 0), 'Wanted at byte 3: "c" (63). There stands "d" (64), with 0 bytes in common.', "I has no tree here, and the repetition ends.",
+         [("S 0..4", "many", 0)], "I 2..4")]),
+    (b"S -> many U16LE Bytes ;", b"abc", PARSED, "3, the end of the input", 0, [
+        (("U16LE", 0), "Wanted at byte 2: U16LE, 2 bytes. Left: 1 byte.", "The repetition ends here.", [], "S 0..3, item 1")]),
+    # a chunk whose head is nine bytes short: no chunk is in the tree, and the parse goes well
+    (PNG, b"\x89PNG\x00\x00\x00\x0dIHDR\x00\x00\x00\x01", PARSED, "12", 0, [
+        (("Bytes[size]", 0), "Wanted: Bytes on [8, 21], in a part of 12 bytes.", "Chunk has no tree here, and the repetition ends.",
+         [("Png 0..16", "many", 0)], "Chunk 4..16")]),
+    # a packet that became raw bytes, since its total is beyond its part
+    (FRAME, b"\x04\x45\x09....", PARSED, "3", 0, [
+        (("?(total", 0), "The test is 0.", "The next alternative of Packet is tried.", [("Frame 0..7", "switch", 0)], "Packet 1..7")]),
+    # arrays: a rule at an item, and an item that has no interval
+    (b'S -> U8 for i = 0 to U8.val do A[1 + i, 2 + i] ;\nA -> "x" ;', b"\x02xy", NO_PARSE, "2", 0, [
+        (('"x"', 0), 'Wanted at byte 2: "x" (78). There stands "y" (79), with 0 bytes in common.', "A has no tree here.", [("S 0..3", "i = 0", 0)],
+         "A 2..3")]),
+    (b"S -> U8 for i = 0 to 2 do U8[1 + i, 2 + i] ;", b"ab", NO_PARSE, "2, the end of the input", 0, [
+        (("U8[", 0), "Wanted: U8 on [2, 3], in a part of 2 bytes.", "S has no tree here.", [], "S 0..2, item 1")]),
+    # branches of a switch, the last one too
+    (b'S -> U8 switch { case (U8.val == 1) "a" case (U8.val == 2) "b" else "c" } ;', b"\x02x", NO_PARSE, "1", 0, [
+        (('"b"', 0), 'Wanted at byte 1: "b" (62). There stands "x" (78), with 0 bytes in common.', "S has no tree here.", [], "S 0..2")]),
+    (b'S -> U8 switch { case (U8.val == 1) "a" case (U8.val == 2) "b" else "c" } ;', b"\x03x", NO_PARSE, "1", 0, [
+        (('"c"', 0), 'Wanted at byte 1: "c" (63). There stands "x" (78), with 0 bytes in common.', "S has no tree here.", [], "S 0..2")]),
+    # local rules count where their holder's alternative stands
+    (b"S -> U8 {n = U8.val} L where { L -> U8 ?(U8.val < n) ; } ;", b"\x01\x05", NO_PARSE, "2, the end of the input", 0, [
+        (("?", 0), "The test is 0.", "L has no tree here.", [("S 0..2", "L where", 0)], "L 1..2")]),
+    (b'S -> L A where { L -> U8 ; } ;\nA -> "q" ;', b"az", NO_PARSE, "1", 0, [
+        (('"q"', 0), 'Wanted at byte 1: "q" (71). There stands "z" (7a), with 0 bytes in common.', "A has no tree here.", [("S 0..2", "A where", 0)],
+         "A 1..2")]),
+    # a call that is remembered fails once
+    (b'S -> A "x" / A "y" ;\nA -> "a" "b" ;', b"ac", NO_PARSE, "1", 0, [
+        (('"b"', 0), 'Wanted at byte 1: "b" (62). There stands "c" (63), with 0 bytes in common.', "A has no tree here.", [("S 0..2", 'A "x"', 0)],
+         "A 0..2")]),
+    # of fourteen calls four and eight are told; a long name is cut
+    (DEEP, b"y", NO_PARSE, "0", 0, [
+        (('"x"', 0), 'Wanted at byte 0: "x" (78). There stands "y" (79), with 0 bytes in common.', "N14 has no tree here.",
+         [(f"N{n} 0..1", f"N{n + 1} ;", 0) for n in range(4)] + [2] + [(f"N{n} 0..1", f"N{n + 1} ;", 0) for n in range(6, 14)], "N14 0..1")]),
+    (b"Long" * 20 + b' -> "x" ;', b"y", NO_PARSE, "0", 0, [
+        (('"x"', 0), 'Wanted at byte 0: "x" (78). There stands "y" (79), with 0 bytes in common.', "Long" * 16 + " has no tree here.", [],
+         "Long" * 16 + " 0..1")]),
+    # a capture with two bytes of its magic swapped, and a picture that ends before its trailer
+    ("@pcap", b"\xd4\xc3\xa1\xb2" + bytes(20), NO_PARSE, "2", 0, [
+        (('"\\xd4', 0), 'Wanted at byte 0: "...." (d4c3b2a1). There stands "...." (d4c3a1b2), with 2 bytes in common.',
+         "The next alternative of Magic is tried.", [("Pcap 0..24", "Magic[", 0)], "Magic 0..4")]),
+    ("@gif", b"GIF89a\x01\x00\x01\x00\x00\x00\x00", NO_PARSE, "13, the end of the input", 0, [
+        (('"\\x21"', 0), 'Wanted: "!" (21) on [0, 1], in a part of 0 bytes.', "Ext has no tree here.",
+         [("Gif 0..13", "Blocks[", 0), ("Blocks 13..13", "many Block", 0), ("Block 13..13", "Ext / Image", 0)], "Ext 13..13"),
+        (('"\\x2c"', 0), 'Wanted: "," (2c) on [0, 1], in a part of 0 bytes.', "Image has no tree here.",
+         [("Gif 0..13", "Blocks[", 0), ("Blocks 13..13", "many Block", 0), ("Block 13..13", "Image ;", 0)], "Image 13..13"),
+        (('"\\x3b"', 0), 'Wanted: ";" (3b) on [0, 1], in a part of 0 bytes.', "Blocks has no tree here.", [("Gif 0..13", "Blocks[", 0)],
+         "Blocks 13..13")]),
+    # an object whose second section header is cut
+    ("@elf", ELF_CUT, NO_PARSE, "128", 0, [
+        (("Sh[", 0), "Wanted: Sh on [128, 192], in a part of 138 bytes.", "Elf has no tree here.", [], "Elf 0..138, item 1")]),
+    # a datagram of four bytes, which are told as raw ones, behind the last packet of a capture
+    ("@pcap", UDP_CUT, PARSED, "78, the end of the input", 0, [
+        (("U16BE {length", 0), "Wanted: U16BE on [4, 6], in a part of 4 bytes.", "The next alternative of Udp is tried.",
+         [("Pcap 0..78", "many Rec", 0), ("Rec 24..78", "switch { case (link", 0), ("Eth 40..78", "switch { case (type", 0),
+          ("Ip 54..78", "switch { case ((frag", 0)], "Udp 74..78"),
+        (("U32LE", 0), "Wanted: U32LE on [0, 4], in a part of 0 bytes.", "The next alternative of Word is tried.",
+         [("Pcap 0..78", "many Rec", 0), ("Rec 78..78", "Word {sec", 0)], "Word 78..78"),
+        (("U32BE", 0), "Wanted: U32BE on [0, 4], in a part of 0 bytes.", "Word has no tree here.",
+         [("Pcap 0..78", "many Rec", 0), ("Rec 78..78", "Word {sec", 0)], "Word 78..78")]),
+    # a value that leaves 64 bits: the term, and what failed before
+    (b"S -> U8 {n = 9223372036854775807 + U8.val} ;", b"\x01", RANGE, None, 0, [], ("n = 9", 0, "S 0..1")),
+    (b'S -> "ab" / A ;\nA -> U8 {n = 0x7fffffffffffffff + U8.val} ;', b"ac", RANGE, "1", 0, [
+        (('"ab"', 0), 'Wanted at byte 0: "ab" (6162). There stands "ac" (6163), with 1 byte in common.', "The next alternative of S is tried.", [],
+         "S 0..2")], ("n = 0", 0, "A 0..2")),
+]
+
+
+def told(text, name, row):
+    """What is told of an input, put together from what a row says."""
+    (outcome, _), where, more, stories = row[2:6]
+    at = lambda part, n: nth(text, part.encode(), n)
+    said = outcome + "\n"
+    if len(row) > 6:
+        part, n, last = row[6]
+        said += spot(text, at(part, n), name) + f"A value leaves 64 bits here.\nin {last}\n"
+    if not stories:
+        return said + "No term failed.\n"
+    head = "failure is" if len(stories) == 1 and not more else "failures are"
+    said += f"The furthest {head} at byte {where}" + (f", and {more} more" if more else "") + ".\n"
+    for mark, why, then, calls, last in stories:
+        said += "\n" + spot(text, at(*mark), name) + f"{why}\n{then}\n"
+        for one in calls:
+            said += f".. {one} more calls ..\n" if isinstance(one, int) else f"in {one[0]} at {place(text, at(*one[1:]), name)}\n"
+        said += f"in {last}\n"
+    return said
+
+
+def wrong_inputs(command):
+    """What `explain` says of inputs; of a built-in grammar the text is that of crates/ipg_formats."""
+    differ = 0
+    for row in INPUTS:
+        grammar, data, (_, due_status) = row[:3]
+        text, name = grammar, NAME
+        if isinstance(grammar, str):
+            name = grammar
+            with open(os.path.join(TOP, f"crates/ipg_formats/src/texts/{grammar[1:]}.rt"), encoding="utf-8") as file:
+                text = re.search(r'br#"(.*?)"#', file.read(), re.S)[1].encode()
+        due = told(text, name, row)
+        status, said = call(command, ["explain"], text, name, data)
+        parsed = call(command, ["parse"], text, name, data)[0]
+        if (status, said, parsed) != (due_status, due, due_status):
+            differ += 1
+            print(f"explain: {text[:60]!r} {data[:30]!r}\n  says {status} {said}\n  due {due_status} {due}\n  parse {parsed}", file=sys.stderr)
+    return differ, len(INPUTS)
+
+
+def wrong_refused(command):
+    """A refused grammar is told with a file as without, an absent one is a read fault, and so is an absent input."""
+    differ = 0
+    text = b"S -> U8 {n = U24.val} ;"
+    if call(command, ["explain"], text, NAME, b"a") != call(command, ["explain"], text) or call(command, ["explain"], text)[0] != 2:
+        differ += 1
+        print("explain: a refused grammar is told otherwise with a file", file=sys.stderr)
+    fault = (5, "read fault\n")
+    if call(command, ["explain"], b"", "absent", b"a") != fault or call(command, ["explain", NAME], b"S -> U8 ;", "absent") != fault:
+        differ += 1
+        print("explain: an absent file is no read fault", file=sys.stderr)
+    return differ, 2
+
+
 def main():
     command = os.path.abspath(sys.argv[1])
     differ, count = wrong_cases(command)
     other, more = wrong_vectors(command)
-    print(f"explain: {count} cases by hand, {more} grammars of the vectors, {differ + other} differ")
-    return 1 if differ + other else 0
+    inputs, told_of = wrong_inputs(command)
+    refused, tried = wrong_refused(command)
+    wrong = differ + other + inputs + refused
+    print(f"explain: {count} cases by hand, {more} grammars of the vectors, {told_of} inputs by hand, {tried} of files, {wrong} differ")
+    return 1 if wrong else 0
 
 
 if __name__ == "__main__":

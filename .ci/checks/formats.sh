@@ -3,8 +3,11 @@
 # programs read them.
 # A program that is not installed is left out.
 set -u
-cd "$(dirname "$0")/../../crates/tool_sample" || exit 1
-. ../../.ci/skips.sh
+cd "$(dirname "$0")/../.." || exit 1
+top=$PWD
+. .ci/skips.sh
+. dist/sources.sh
+cd crates/tool_sample || exit 1
 dir=$(mktemp -d) || exit 1
 trap 'rm -rf "$dir"' EXIT
 failed=0
@@ -25,7 +28,7 @@ want() {
   fi
 }
 
-rt run -- gif 3 >/dev/null 2>"$dir/log" || { cat "$dir/log" >&2; exit 1; }
+is_built tool_sample || rt run -- gif 3 </dev/null >/dev/null 2>"$dir/log" || { cat "$dir/log" >&2; exit 1; }
 for name in elf pe gif pcap; do
   out/tool_sample "$name" >"$dir/$name.ipg" || failed=1
   out/tool_sample "$name" 3 >"$dir/$name" || failed=1
