@@ -23,12 +23,9 @@ done_by : (ends : Option (Result Tree Stop)) → Done ≡ turn_of ends → (answ
 done_by None e = absurd (cc)
 done_by (Some answer) e = (answer, refl)
 
--- one move more, with which it has ended
-pub done : (src : Source) (s : Stage) (e : Evaluation) (n : ℕ) → IsAt src s (move (moves n e)) → Done ≡ turn_of (ended (move (moves n e))) → Ends src s e
-done src s e n at turn =
-    let one = done_by (ended (move (moves n e))) turn in
-    let same = sym (one_more n e) in
-    record { moved = suc n; answer = one.0; at = subst (IsAt src s) same at; ends = subst (λ x. ended x ≡ Some one.0) same one.1 }
+-- so many moves, with which it has ended
+pub done : (src : Source) (s : Stage) (e : Evaluation) (n : ℕ) → IsAt src s (moves n e) → Done ≡ turn_of (ended (moves n e)) → Ends src s e
+done src s e n at turn = let one = done_by (ended (moves n e)) turn in record { moved = n; answer = one.0; at = at; ends = one.1 }
 
 -- nothing that is remembered at first is wrong
 pub knows_nothing : (g : Grammar) (s : List ℕ) (remember : Remember) → AreRight g s (known_at remember)

@@ -7,6 +7,7 @@ pub mod Reading
 pub mod Stepping
 pub mod Knowing
 pub mod Remembering
+pub mod Opening
 pub mod Ending
 -- what is known of the first rule on the whole input
 pub mod Verdicts

@@ -1,16 +1,19 @@
 -- Rows that stand one by one for what an open call has left.
-use Rattle.std.proofs.Common.{◌≡◌, ℕ, zero, suc, ◌-◌, ◌≤◌, arith, inl, inr, take, refl, sym, ap, ◌∙◌, subst, List, [], ◌∷◌, drop, length, Some, None}
+use Rattle.std.proofs.Common.{◌≡◌, ℕ, zero, suc, ◌-◌, ◌≤◌, arith, inl, inr, take, refl, sym, ap, ◌∙◌, subst, List, [], ◌∷◌, drop, length, Option, Some, None, Bor}
 use Rattle.std.specs.Prelude.{slice_get}
+use Rattle.std.specs.Option.{option_copied}
 use Rattle.std.proofs.lemmas.Bool.{cases_lt}
 use Rattle.std.proofs.lemmas.List.{take-append-drop, take-append-le, drop-append-le, length-drop}
 use Rattle.ipg_mach.specs.Piled.{between}
 use Rattle.ipg_core.specs.declared.grammar.CoreTerm.{CoreTerm}
 use Rattle.ipg_table.specs.declared.row.Instr.{Instr}
+use Rattle.ipg_core.specs.declared.grammar.CoreAlt.{CoreAlt}
 use Rattle.ipg_core.specs.declared.grammar.CoreRule.{CoreRule}
 use Rattle.ipg_mach_moves.specs.Moves.{alts_of}
+use Rattle.ipg_table.specs.declared.row.AltRow.{AltRow}
 use Rattle.ipg_table.specs.declared.row.RuleRow.{RuleRow}
-use Rattle.ipg_table.specs.Rows.{Rows, Each, HoldsInstr, HoldsAlt, HoldsRule, rows_at}
-use Rattle.ipg_mach.specs.Calls.{term_at_hand}
+use Rattle.ipg_table.specs.Rows.{Rows, Each, HoldsInstr, HoldsAlt, HoldsRule, rows_at, attrs_in}
+use Rattle.ipg_mach.specs.Calls.{term_at_hand, IsNext}
 
 pub first_term : (t : Rows) (terms : List CoreTerm) (rows : List Instr) (left : List ℕ) (instr : Instr) → Each (HoldsInstr t terms) rows left
     → slice_get rows 0 ≡ Some instr → instr.term ≡ term_at_hand left
@@ -62,6 +65,25 @@ module _ (t : Rows) where
   alts_past (r ∷ rows) (rule ∷ rules) (suc n) each e = alts_past rows rules n each.1 e
   alts_past [] (rule ∷ rules) n each e = absurd each
   alts_past (r ∷ rows) [] n each e = absurd each
+
+  -- the row of a number is that of the alternative of this number
+  pub next_row : (rows : List AltRow) (those : List CoreAlt) (n : ℕ) (found : Option (Bor AltRow)) → Each (HoldsAlt t) rows those
+      → option_copied found ≡ slice_get rows n → IsNext t found (drop n those)
+  next_row [] [] zero None each e = refl
+  next_row [] [] (suc n) None each e = refl
+  next_row [] [] n (Some row) each e = absurd (cc)
+  next_row (r ∷ rows) (alt ∷ those) zero None each e = absurd (cc)
+  next_row (r ∷ rows) (alt ∷ those) zero (Some row) each e =
+      let is : r ≡ row.now = cc in (alt, subst (λ x. HoldsAlt t x alt) is each.0, refl)
+  next_row (r ∷ rows) (alt ∷ those) (suc n) found each e = next_row rows those n found each.1 e
+  next_row [] (alt ∷ those) n found each e = absurd each
+  next_row (r ∷ rows) [] n found each e = absurd each
+
+  -- so what it sets is what that sets
+  pub sets_there : (row : AltRow) (those rest : List CoreAlt) (own : CoreAlt) (next : (alt : CoreAlt) × HoldsAlt t row alt × (those ≡ alt ∷ drop 1 those))
+      → those ≡ own ∷ rest → rows_at t.sets row.sets ≡ attrs_in own.terms
+  sets_there row those rest own next e =
+      let same : next.0 ≡ own = (let is = next.2 in cc) in next.1.sets.is ∙ ap (λ (a : CoreAlt). attrs_in a.terms) same
 
 -- what lies between two places of the first rows lies there in all
 module _ {A : Type 0} (xs : List A) (b from to : ℕ) (inside : to ≤ length (take b xs)) where

@@ -27,8 +27,7 @@ module _ (before_before : BeforeBefore) (grows : GrowsFromBefore) (items_stay : 
           mark = mark_below s.store s.frame.mark caller.mark waits.mark;
           is_open = record {
             call = was.call;
-            alts = was.alts;
-            sets = was.sets;
+            alternative = was.alternative;
             left = was.left;
             count = was.count;
             attrs = was.attrs;

@@ -1,7 +1,8 @@
 -- A call at work stays so as it comes to more.
 use Rattle.std.proofs.Common.{◌≡◌, ℕ, ◌+◌, ◌-◌, ◌≤◌, arith, refl, sym, ap, ◌∙◌, subst, List, [], ◌∷◌, drop, length, replicate, Some, None, Result, Ok, Bor}
-use Rattle.std.proofs.lemmas.List.{length-replicate, length-take, length-drop}
+use Rattle.std.proofs.lemmas.List.{length-replicate, length-take, length-drop, drop-drop}
 use Rattle.ipg_core.specs.declared.grammar.CoreAlt.{CoreAlt}
+use Rattle.ipg_core.specs.Grammar.{rule_at}
 use Rattle.ipg_core.specs.Run.{Stop}
 use Rattle.ipg_core.specs.Part.{part}
 use Rattle.ipg_core.specs.Tree as tree
@@ -25,15 +26,14 @@ use Rattle.ipg_mach_term.specs.declared.entry.Entry.TheVariants.{Outside, Items,
 use Rattle.ipg_mach_term.specs.Advance.{IsEntry}
 use Rattle.ipg_mach.specs.declared.frame.Frame.{Frame}
 use Rattle.ipg_mach.specs.declared.frame.Held.{Held}
-use Rattle.ipg_mach.specs.Calls.{Shown, items_in, IsAnswer, IsAtWork, IsHolding, IsHighest, IsReady, IsCall, Wait, size_of}
+use Rattle.ipg_mach.specs.Calls.{Shown, IsAlternative, alternatives, items_in, IsAnswer, IsAtWork, IsHolding, IsHighest, IsReady, IsCall, Wait, size_of}
 use Rattle.ipg_mach.proofs.Rows.{each_drop}
 use Rattle.ipg_mach.proofs.Stores.{IsCut, mark_grown, before_grown, cut_mark, cut_before}
 
 -- a call stays the same with other instructions
-pub same_call : (t : Rows) (src : Source) (frame : Frame) (under : Piled) (f : meaning.Frame) (from : ℕ) (alts : Bor (List AltRow)) (sets : Bor (List ℕ))
-    (left : Bor (List Instr)) (entry : Entry) → IsCall t src frame under f from
-    → IsCall t src (record frame { alts = alts; sets = sets; left = left; entry = entry }) under f from
-same_call t src frame under f from alts sets left entry h = record {
+pub same_call : (t : Rows) (src : Source) (frame : Frame) (under : Piled) (f : meaning.Frame) (from : ℕ) (left : Bor (List Instr)) (entry : Entry)
+    → IsCall t src frame under f from → IsCall t src (record frame { left = left; entry = entry }) under f from
+same_call t src frame under f from left entry h = record {
   syms = h.syms;
   tables = h.tables;
   rule = h.rule;
@@ -45,6 +45,16 @@ same_call t src frame under f from alts sets left entry h = record {
   outer = h.outer;
   outer_inside = h.outer_inside;
 }
+
+-- its alternatives are those of the rule and the number in its frame
+pub alternatives_at : (t : Rows) (src : Source) (frame : Frame) (under : Piled) (f : meaning.Frame) (from : ℕ) → IsCall t src frame under f from
+    → alternatives f ≡ drop frame.alt (moves.alts_of (rule_at f.grammar frame.rule))
+alternatives_at t src frame under f from h =
+    ap (λ r. drop f.alt (moves.alts_of (rule_at f.grammar r))) h.rule ∙ ap (λ a. drop a (moves.alts_of (rule_at f.grammar frame.rule))) h.alt
+
+-- those after its own are those from the next number on
+pub later_alternatives : (c : OpenCall) → IsAlternative c.frame c.terms c.alts → alternatives (record c.frame { alt = c.frame.alt + 1 }) ≡ c.alts
+later_alternatives c h = sym (drop-drop 1 c.frame.alt (moves.alts_of (rule_at c.frame.grammar c.frame.rule))) ∙ ap (drop 1) h.stands
 
 other : (c d : OpenCall) (state : State) (left : List ℕ)
     → runs_on (record c { frame = d.frame; from = d.from; terms = d.terms; alts = d.alts }) state left ≡ runs_on d state left
@@ -73,8 +83,7 @@ module _ (t : Rows) (src : Source) (s : Shown) (frames : List Frame) (lower : Li
     mark = work.mark;
     is_open = record {
       call = subst (λ under. IsCall t src s.frame under c.frame c.from) (sym turns.below) work.is_open.call;
-      alts = work.is_open.alts;
-      sets = work.is_open.sets;
+      alternative = work.is_open.alternative;
       left = work.is_open.left;
       count = count;
       attrs = attrs ∙ ap (λ (p : Piled). p.own) (sym turns.above);
@@ -91,8 +100,7 @@ module _ (t : Rows) (src : Source) (s : Shown) (frames : List Frame) (lower : Li
     mark = mark_grown s.store store s.frame.mark grows work.mark;
     is_open = record {
       call = work.is_open.call;
-      alts = work.is_open.alts;
-      sets = work.is_open.sets;
+      alternative = work.is_open.alternative;
       left = work.is_open.left;
       count = work.is_open.count;
       attrs = work.is_open.attrs;
@@ -111,9 +119,8 @@ module _ (t : Rows) (src : Source) (s : Shown) (frames : List Frame) (lower : Li
     base = work.base;
     mark = work.mark;
     is_open = record {
-      call = same_call t src s.frame _ c.frame c.from s.frame.alts s.frame.sets left Outside work.is_open.call;
-      alts = work.is_open.alts;
-      sets = work.is_open.sets;
+      call = same_call t src s.frame _ c.frame c.from left Outside work.is_open.call;
+      alternative = work.is_open.alternative;
       left = subst (λ rows. Each (HoldsInstr t c.terms) rows (drop 1 c.left)) (sym e)
           (each_drop (HoldsInstr t c.terms) s.frame.left.now c.left work.is_open.left);
       count = work.is_open.count;
@@ -143,9 +150,8 @@ module _ (t : Rows) (src : Source) (s : Shown) (frames : List Frame) (lower : Li
           base = work.base;
           mark = work.mark;
           is_open = record {
-            call = same_call t src s.frame _ c.frame c.from s.frame.alts s.frame.sets s.frame.left entry work.is_open.call;
-            alts = work.is_open.alts;
-            sets = work.is_open.sets;
+            call = same_call t src s.frame _ c.frame c.from s.frame.left entry work.is_open.call;
+            alternative = work.is_open.alternative;
             left = work.is_open.left;
             count = work.is_open.count;
             attrs = work.is_open.attrs;
@@ -174,8 +180,7 @@ module _ (t : Rows) (src : Source) (s : Shown) (frames : List Frame) (lower : Li
       mark = work.mark;
       is_open = record {
         call = work.is_open.call;
-        alts = work.is_open.alts;
-        sets = work.is_open.sets;
+        alternative = work.is_open.alternative;
         left = subst (Each (HoldsInstr t c.terms) s.frame.left.now) e work.is_open.left;
         count = work.is_open.count;
         attrs = work.is_open.attrs;
@@ -251,20 +256,17 @@ module _ (t : Rows) (src : Source) (s : Shown) (frames : List Frame) (lower : Li
   }
 
   module _ (row : AltRow) (alt : CoreAlt) (rest : List CoreAlt) (holds : HoldsAlt t row alt) where
-    pub begun : NoneHasRun → (alts : Bor (List AltRow)) (sets : Bor (List ℕ)) (left : Bor (List Instr)) (piles : Piled)
-        → Each (HoldsAlt t) alts.now rest → sets.now ≡ rows_at t.sets row.sets → left.now ≡ rows_at t.instrs row.instrs
+    pub begun : NoneHasRun → (left : Bor (List Instr)) (piles : Piled) → alternatives f ≡ alt ∷ rest → left.now ≡ rows_at t.instrs row.instrs
         → Turns s.piles piles s.frame.base (record { done = replicate row.terms None; own = []; items = [] })
-        → IsAtWork t src (record s { piles = piles; frame = record s.frame { alts = alts; sets = sets; left = left; entry = Outside } }) frames lower []
-        (opens_on alt rest)
-    begun none_has_run alts sets left piles later is_sets is_left turns = record {
+        → IsAtWork t src (record s { piles = piles; frame = record s.frame { left = left; entry = Outside } }) frames lower [] (opens_on alt rest)
+    begun none_has_run left piles stands is_left turns = record {
       answer = ready.answer;
       base = turns.base;
       mark = ready.mark;
       is_open = record {
-        call = same_call t src s.frame _ f from alts sets left Outside
+        call = same_call t src s.frame _ f from left Outside
             (subst (λ under. IsCall t src s.frame under f from) (sym turns.below) ready.call);
-        alts = later;
-        sets = is_sets ∙ holds.sets.is;
+        alternative = record { own = alt; same = refl; stands = stands };
         left = subst (λ rows. Each (HoldsInstr t alt.terms) rows alt.order) (sym is_left) holds.instrs.each;
         count = length-replicate (length alt.terms) None;
         attrs = ap (λ (p : Piled). p.own) (sym turns.above);

@@ -1,6 +1,9 @@
 -- The open calls of an evaluation, as frames and piles hold them.
 use denote.Bor.{Bor}
-use Rattle.std.specs.Prelude.{◌≡◌, ℕ, ◌+◌, ◌-◌, ◌≤◌, List, [], ◌∷◌, ◌++◌, length, Result, Ok, Err, Option, Some, None, ℤ}
+use Rattle.std.specs.Prelude.{◌≡◌, ℕ, ◌+◌, ◌-◌, ◌≤◌, List, [], ◌∷◌, ◌++◌, drop, length, Result, Ok, Err, Option, Some, None, ℤ}
+use Rattle.ipg_core.specs.declared.grammar.CoreAlt.{CoreAlt}
+use Rattle.ipg_core.specs.declared.grammar.CoreTerm.{CoreTerm}
+use Rattle.ipg_core.specs.Grammar.{rule_at}
 use Rattle.ipg_core.specs.Part.{part}
 use Rattle.ipg_core.specs.Tree as tree
 use Rattle.ipg_core.specs.Tree.{Tree}
@@ -19,8 +22,9 @@ use Rattle.ipg_mach_term.specs.declared.entry.Entry.{Entry}
 use Rattle.ipg_mach_term.specs.declared.entry.Entry.TheVariants as entry
 use Rattle.ipg_mach_nodes.specs.declared.store.Mark.{Mark}
 use Rattle.ipg_mach_nodes.specs.Stored.{Stored, Source, StandsTree, IsMark, before}
+use Rattle.ipg_table.specs.declared.row.AltRow.{AltRow}
 use Rattle.ipg_table.specs.declared.row.Instr.{Instr}
-use Rattle.ipg_table.specs.Rows.{Rows, Each, HoldsInstr, HoldsAlt, StandFor, attrs_in}
+use Rattle.ipg_table.specs.Rows.{Rows, Each, HoldsInstr, HoldsAlt, StandFor}
 use Rattle.ipg_mach_slot.specs.Now.{AreResults}
 use Rattle.ipg_mach_term.specs.Advance.{IsEntry, EndsBy}
 use Rattle.ipg_mach_node.specs.Items.{HasItems}
@@ -54,11 +58,25 @@ items_in moves.Outside = []
 items_in (moves.Items n i items) = items
 items_in (moves.Turns p r items) = items
 
+-- the alternatives of a call's rule from its own on
+abbrev pub alternatives : meaning.Frame → List CoreAlt
+alternatives f = drop f.alt (moves.alts_of (rule_at f.grammar f.rule))
+
+-- the row is that of the first of them; there is none where there is no row
+abbrev pub IsNext : Rows → Option (Bor AltRow) → List CoreAlt → Type 0
+IsNext t None those = those ≡ []
+IsNext t (Some row) those = (alt : CoreAlt) × HoldsAlt t row.now alt × (those ≡ alt ∷ drop 1 those)
+
+-- the call's terms are those of its alternative, and these alternatives come after it
+pub record IsAlternative (f : meaning.Frame) (terms : List CoreTerm) (after : List CoreAlt) : Type 0 where
+  pub own : CoreAlt
+  pub same : terms ≡ own.terms
+  pub stands : alternatives f ≡ own ∷ after
+
 -- an open call, with what it has come to, its items so far among that, and what the calls below have
 pub record IsOpen (t : Rows) (src : Source) (st : Stored) (frame : Frame) (under own : Piled) (items : List tree.Kid) (c : OpenCall) : Type 0 where
   pub call : IsCall t src frame under c.frame c.from
-  pub alts : Each (HoldsAlt t) frame.alts.now c.alts
-  pub sets : frame.sets.now ≡ attrs_in c.terms
+  pub alternative : IsAlternative c.frame c.terms c.alts
   pub left : Each (HoldsInstr t c.terms) frame.left.now c.left
   pub count : length c.state.done ≡ length c.terms
   pub attrs : c.state.own ≡ own.own

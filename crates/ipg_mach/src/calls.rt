@@ -1,39 +1,25 @@
 //! Calls that are made and come back.
 
 ghost use Rattle.std.specs.Prelude.{◌≡◌, ◌≤◌, ℕ, ◌++◌, ◌∷◌, [], List, Result, OnOk, length, Some};
-ghost use Rattle.ipg_core.specs.Grammar.{Grammar, rule_at, same_place};
+ghost use Rattle.ipg_core.specs.Grammar.{same_place};
 ghost use Rattle.ipg_core.specs.Run.{Stop};
 ghost use Rattle.ipg_core.specs.Tree.{Tree};
 ghost use Rattle.ipg_core.specs.Environment.{Values};
 ghost use Rattle.ipg_core.specs.Meaning as meaning;
 ghost use Rattle.ipg_core.specs.Meaning.{outer_for};
-ghost use Rattle.ipg_mach_moves.specs.Moves as moves;
 ghost use Rattle.ipg_mach_moves.specs.Moves.{OpenCall, Key, begins};
 ghost use Rattle.ipg_mach_nodes.specs.Stored.{Source, IsMark};
-ghost use Rattle.ipg_table.specs.Rows.{Each, HoldsAlt, StandFor};
 ghost use Rattle.ipg_mach.specs.Piled.{between, IsBase, below, above};
-ghost use Rattle.ipg_mach.specs.Calls.{shown, IsNew, IsCall, IsHighest, IsHolding, IsWorking, Awaits, Keeps};
+ghost use Rattle.ipg_mach.specs.Calls.{shown, alternatives, IsNew, IsCall, IsHighest, IsHolding, IsWorking, Awaits, Keeps};
 ghost use Rattle.ipg_mach.specs.declared.frame.Frame.{Frame};
 
 use crate::frame::{Frame, NewCall, Outer};
 use crate::top::Top;
 use ipg_mach_node::laws::{before_before, grows_from_before, items_stay, results_stay};
 use ipg_mach_term::Entry;
-use ipg_num::item_at;
 use ipg_region::Stack;
-use ipg_table::row::AltRow;
 use ipg_table::tables::Tables;
 use std::alloc::{AllocError, Allocator};
-
-/// The alternatives of a rule; none where there is no such rule.
-fn alts_of(tables: &Tables, rule: u32) -> &[AltRow]
-    ensures { (g : Grammar) → StandFor tables.now g → Each (HoldsAlt tables.now) result.now (moves.alts_of (rule_at g rule)) }
-{
-    match item_at(tables.rules(), rule as usize) {
-        Some(row) => tables.alts(row),
-        None => &[],
-    }
-}
 
 /// Whether this is the alternative at work.
 fn is_place(place: (u32, u32), frame: &Frame<'_>) -> bool
@@ -74,7 +60,7 @@ impl<'m, A: Allocator + Clone + Drop> Top<'m, A> {
     pub fn open(&mut self, tables: &'m Tables, new: NewCall) -> Result<(), AllocError>
         ensures highest { (src : Source) (frames : List Frame) (lower : List OpenCall) (f : meaning.Frame) (from : ℕ)
             → IsNew tables.now src (shown self.old) frames lower new f from
-            → OnOk result (IsHighest tables.now src (shown self.new) frames lower (begins f from (moves.alts_of (rule_at f.grammar f.rule)))) }
+            → OnOk result (IsHighest tables.now src (shown self.new) frames lower (begins f from (alternatives f))) }
         ensures keeps { IsMark self.old.store self.old.floor → OnOk result (Keeps (shown self.old) (shown self.new)) }
     {
         self.frame = Frame {
@@ -82,15 +68,13 @@ impl<'m, A: Allocator + Clone + Drop> Top<'m, A> {
             alt: 0,
             from: new.from,
             to: new.to,
-            alts: &[],
-            sets: &[],
             left: &[],
             entry: Entry::Outside,
             outer: new.outer,
             base: self.piles.tops(),
             mark: self.store.mark(),
         };
-        self.begin(tables, alts_of(tables, new.rule))
+        self.begin(tables)
     }
 
     /// The call below goes on, which waited for this one.

@@ -3,7 +3,7 @@
 use crate::piles::Bases;
 use ipg_mach_nodes::{Mark, RunId};
 use ipg_mach_term::Entry;
-use ipg_table::row::{AltRow, Instr};
+use ipg_table::row::Instr;
 
 /// Where the attributes of a call's holder stand in the pile of attributes.
 #[derive(Clone, Copy, Debug, PartialEq, Eq)]
@@ -12,16 +12,15 @@ pub struct Outer {
     pub to: u32,
 }
 
-/// An open call: its rule and the number of its alternative, its interval of the input, the alternatives after this one,
-/// the attributes that this one sets in text order, its instructions left, and where what it comes to begins.
+/// An open call: its rule and the number of its alternative, its interval of the input, the instructions left of the
+/// alternative, and where what it comes to begins. What else follows from the alternative is looked up: a row less here is a
+/// row less for each call that waits.
 #[derive(Clone, Copy)]
 pub struct Frame<'m> {
     pub rule: u32,
     pub alt: u32,
     pub from: u32,
     pub to: u32,
-    pub alts: &'m [AltRow],
-    pub sets: &'m [u32],
     pub left: &'m [Instr],
     pub entry: Entry,
     pub outer: Outer,

@@ -1,6 +1,7 @@
 //! The machine: the open evaluation of a grammar on rows, move by move.
 #![tactic(auto)]
 
+mod alternatives;
 mod calls;
 mod counted;
 mod ended;

@@ -4,14 +4,14 @@ ghost use Rattle.std.specs.Prelude.{◌≡◌, ◌≤◌, ◌+◌, ◌^◌, [], 
 ghost use Rattle.ipg_core.specs.Grammar.{Grammar};
 ghost use Rattle.ipg_core.specs.Tree.{Tree};
 ghost use Rattle.ipg_core.specs.Run.{Stop};
-ghost use Rattle.ipg_mach_moves.specs.Moves.{Evaluation, Known, opening, opened, move, ended};
+ghost use Rattle.ipg_mach_moves.specs.Moves.{Evaluation, Known, opening, opened, ended};
 ghost use Rattle.ipg_mach_nodes.specs.Stored.{Source, IsMark, before};
 ghost use Rattle.ipg_table.specs.Rows.{StandFor};
 ghost use Rattle.ipg_mach.specs.Calls.{shown, IsAnswer, IsHighest};
 ghost use Rattle.ipg_mach.specs.Counted.{IsTally};
 ghost use Rattle.ipg_mach.specs.Known.{IsKnown};
 ghost use Rattle.ipg_mach.specs.Stage.{staged, source, IsAt};
-ghost use Rattle.ipg_mach.specs.Turning.{known_at, turn_of};
+ghost use Rattle.ipg_mach.specs.Turning.{known_at, HasGone};
 
 use crate::counted;
 use crate::frame::{Frame, Held, NewCall, Outer};
@@ -71,8 +71,6 @@ fn nowhere<'m>(mark: Mark) -> Frame<'m> {
         alt: 0,
         from: 0,
         to: 0,
-        alts: &[],
-        sets: &[],
         left: &[],
         entry: Entry::Outside,
         outer: Outer { from: 0, to: 0 },
@@ -179,11 +177,10 @@ impl<'m, A: Allocator + Clone + Drop> Machine<'m, A> {
         })
     }
 
-    /// One move. Where memory runs out, every later step answers so.
-    #[inline(always)]
-    pub fn step(&mut self) -> Result<Turn, AllocError>
-        ensures moved { (src : Source) (e : Evaluation) → IsAt src (staged self.old.work) e
-            → IfOk result (λ turn. IsAt src (staged self.new.work) (move e) × (turn ≡ turn_of (ended (move e)))) }
+    /// At most so many moves: as many, or those up to the evaluation's end. Where memory runs out, every later call answers so.
+    pub fn go(&mut self, most: u64) -> Result<Turn, AllocError>
+        ensures gone { (src : Source) (e : Evaluation) → IsAt src (staged self.old.work) e
+            → IfOk result (λ turn. HasGone src (staged self.new.work) e most turn) }
         ensures tables { self.new.tables ≡ self.old.tables }
         ensures input { self.new.input ≡ self.old.input }
         ensures spoiled { OnErr result (self.new.is_spoiled ≡ true) }
@@ -192,8 +189,8 @@ impl<'m, A: Allocator + Clone + Drop> Machine<'m, A> {
         if self.is_spoiled {
             return Err(AllocError);
         }
-        match self.work.step() {
-            Ok(()) => Ok(self.work.turn()),
+        match self.work.go(most) {
+            Ok(turn) => Ok(turn),
             Err(fault) => {
                 self.is_spoiled = true;
                 Err(fault)

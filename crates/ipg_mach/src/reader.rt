@@ -124,6 +124,7 @@ impl<'v, 'm, A: Allocator + Clone + Drop> Results for View<'v, 'm, A> {
         self.now().item()
     }
 
+    #[inline(always)]
     fn seen(&self, term: u32, sym: &Sym, field: CoreField) -> Option<i64> {
         self.now().seen(term, sym, field)
     }

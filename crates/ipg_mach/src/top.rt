@@ -22,6 +22,7 @@ ghost use Rattle.ipg_mach.specs.Calls.{shown, IsAtWork, IsWorking, IsHolding, Is
 ghost use Rattle.ipg_mach.specs.Calls as calls;
 ghost use Rattle.ipg_mach.specs.declared.frame.Frame.{Frame};
 
+use crate::alternatives::{alternative, sets_of};
 use crate::frame::{Frame, Held};
 use crate::lent::{behind_first, first};
 use crate::piles::Piles;
@@ -32,7 +33,7 @@ use ipg_mach_node::{Closing, Scratch, array, close, repetition};
 use ipg_mach_nodes::{Kid, Mark, RunId, Store};
 use ipg_mach_slot::Done;
 use ipg_mach_term::{Advance, Entry};
-use ipg_table::row::{AltRow, Instr};
+use ipg_table::row::Instr;
 use ipg_table::tables::Tables;
 use std::alloc::{AllocError, Allocator};
 
@@ -187,7 +188,7 @@ impl<'m, A: Allocator + Clone + Drop> Top<'m, A> {
         let call = Closing {
             rule: self.frame.rule,
             size: size(&self.frame),
-            sets: self.frame.sets,
+            sets: sets_of(tables, self.frame.rule, self.frame.alt),
             own: self.piles.own(base),
             done: self.piles.done(base),
         };
@@ -271,19 +272,17 @@ impl<'m, A: Allocator + Clone + Drop> Top<'m, A> {
         self.pass(tables)
     }
 
-    /// The first of these alternatives begins; where there is none, the call holds that there is no tree.
+    /// The alternative of the frame's number begins; where the rule has no more, the call holds that there is no tree.
     #[inline(always)]
-    pub fn begin(&mut self, tables: &'m Tables, alts: &'m [AltRow]) -> Result<(), AllocError>
-        ensures highest { (src : Source) (frames : List Frame) (lower : List OpenCall) (f : meaning.Frame) (from : ℕ) (those : List CoreAlt)
-            → IsReady tables.now src (shown self.old) frames lower f from → Each (HoldsAlt tables.now) alts.now those
-            → OnOk result (IsHighest tables.now src (shown self.new) frames lower (begins f from those)) }
+    pub fn begin(&mut self, tables: &'m Tables) -> Result<(), AllocError>
+        ensures highest { (src : Source) (frames : List Frame) (lower : List OpenCall) (f : meaning.Frame) (from : ℕ)
+            → IsReady tables.now src (shown self.old) frames lower f from
+            → OnOk result (IsHighest tables.now src (shown self.new) frames lower (begins f from (calls.alternatives f))) }
         ensures keeps { IsMark self.old.store self.old.floor → OnOk result (Keeps (shown self.old) (shown self.new)) }
     {
-        match first(alts) {
+        match alternative(tables, self.frame.rule, self.frame.alt) {
             Some(alt) => {
-                self.frame.alts = behind_first(alts);
-                self.frame.sets = tables.sets(&alt);
-                self.frame.left = tables.instrs(&alt);
+                self.frame.left = tables.instrs(alt);
                 self.frame.entry = Entry::Outside;
                 none_has_run();
                 self.piles.begin(self.frame.base, alt.terms)?;
@@ -308,8 +307,7 @@ impl<'m, A: Allocator + Clone + Drop> Top<'m, A> {
         self.frame.alt = behind(self.frame.alt)?;
         before_before();
         self.store.cut(later(self.frame.mark, self.floor));
-        let alts = self.frame.alts;
-        self.begin(tables, alts)
+        self.begin(tables)
     }
 
     /// The term at hand has come to this: the call goes on, with its next alternative where there is no tree.

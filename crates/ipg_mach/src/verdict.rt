@@ -54,14 +54,10 @@ fn run_to_end<'m, A: Allocator + Clone + Drop>(
     ensures tables { machine.new.tables ≡ machine.old.tables }
     ensures input { machine.new.input ≡ machine.old.input }
 {
-    let mut left = u64::MAX;
-    while left > 0 {
-        match machine.step()? {
-            Turn::Done => return Ok(()),
-            Turn::More => left -= 1,
-        }
+    match machine.go(u64::MAX)? {
+        Turn::Done => Ok(()),
+        Turn::More => Err(AllocError),
     }
-    Err(AllocError)
 }
 
 /// The first rule on the whole input, as a memo keys it.

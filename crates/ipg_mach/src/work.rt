@@ -11,7 +11,7 @@ ghost use Rattle.ipg_mach_nodes.specs.Stored.{Source, before};
 ghost use Rattle.ipg_mach.specs.Known.{IsEntryOf};
 ghost use Rattle.ipg_mach.specs.declared.frame.Held.{Held};
 ghost use Rattle.ipg_mach.specs.declared.frame.Held.TheVariants as held;
-ghost use Rattle.ipg_mach.specs.Turning.{turn_of};
+ghost use Rattle.ipg_mach.specs.Turning.{turn_of, HasGone};
 ghost use Rattle.ipg_mach.specs.Stage.{staged, kid_of, key_in, IsAt, IsAsking};
 
 use crate::counted::{with_known, with_opened};
@@ -182,13 +182,29 @@ impl<'m, A: Allocator + Clone + Drop> Work<'m, A> {
 
     /// One move of the open evaluation; none where it has ended.
     #[inline(always)]
-    pub fn step(&mut self) -> Result<(), AllocError>
+    fn step(&mut self) -> Result<(), AllocError>
         ensures { (src : Source) (e : Evaluation) → IsAt src (staged self.old) e → OnOk result (IsAt src (staged self.new) (move e)) }
     {
         match self.top.answer {
             None => self.work(),
             Some(held) => self.give(held),
         }
+    }
+
+    /// At most so many moves: as many, or those up to the evaluation's end.
+    pub fn go(&mut self, most: u64) -> Result<Turn, AllocError>
+        ensures { (src : Source) (e : Evaluation) → IsAt src (staged self.old) e
+            → IfOk result (λ turn. HasGone src (staged self.new) e most turn) }
+    {
+        let mut left = most;
+        while left > 0 {
+            self.step()?;
+            left -= 1;
+            if let Turn::Done = self.turn() {
+                return Ok(Turn::Done);
+            }
+        }
+        Ok(self.turn())
     }
 
     /// Whether the evaluation goes on.

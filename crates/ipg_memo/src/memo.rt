@@ -217,6 +217,7 @@ impl<A: Allocator + Clone + Drop> Memo<A> {
     }
 
     /// The entry of a key, if it has one.
+    #[inline(always)]
     pub fn get(&self, key: Key) -> Option<Entry>
         ensures { result ≡ map.get self.now key }
     {
@@ -227,6 +228,7 @@ impl<A: Allocator + Clone + Drop> Memo<A> {
     }
 
     /// Gives a key this entry, in place of the one that it had, if any. Where memory runs out, nothing changes.
+    #[inline(always)]
     pub fn put(&mut self, key: Key, entry: Entry) -> Result<(), AllocError>
         ensures ok { OnOk result (self.new ≡ map.insert self.old key entry) }
         ensures err { OnErr result (self.new ≡ self.old) }

@@ -14,7 +14,7 @@ fn open_calls(alloc: Global, grammar: &[u8], input: &[u8; 3], moves: u32) -> Res
     let mut open = Vec::new(alloc);
     open.push(machine.frames())?;
     for _ in 0..moves {
-        let turn = machine.step()?;
+        let turn = machine.go(1)?;
         open.push(machine.frames())?;
         if turn == Turn::Done {
             break;

@@ -1,5 +1,7 @@
 use Rattle.std.proofs.lemmas.Result.{on_ok_weaker}
-use Rattle.ipg_mach.specs.Calls.{shown}
+use Rattle.std.proofs.Common.{◌+◌, subst, OnOk}
+use Rattle.ipg_mach_moves.specs.Moves.{begins}
+use Rattle.ipg_mach.specs.Calls.{shown, IsHighest}
 use Rattle.ipg_mach.proofs.Working as working
 use Rattle.ipg_mach.proofs.Stores as stores
 use Rattle.ipg_mach.proofs.top.Top.begin_next.Goals as goal
@@ -8,10 +10,11 @@ pub returns-clause-highest : goal.returns-clause-highest
 returns-clause-highest g c src frames lower items call mark work =
     let t = c.args.tables.now in
     let s = shown c.args.self.now in
-    c.begin.ensures.highest src frames lower _ call.from call.alts
+    subst (λ alts. OnOk c.begin.result (IsHighest t src (shown c.begin.new.self) frames lower (begins (record call.frame { alt = call.frame.alt + 1 }) call.from alts)))
+    (working.later_alternatives call work.is_open.alternative)
+    (c.begin.ensures.highest src frames lower _ call.from
     (working.next_ready t src s frames lower items call work c.later.result c.cut.new.self c.in_ok-self.field-0 c.before_before.ensures
-    (record { nodes = c.later.ensures.nodes; kids = c.later.ensures.kids; attrs = c.later.ensures.attrs }) c.cut.ensures c.in_ok-self.ensures)
-    work.is_open.alts
+    (record { nodes = c.later.ensures.nodes; kids = c.later.ensures.kids; attrs = c.later.ensures.attrs }) c.cut.ensures c.in_ok-self.ensures))
 
 pub returns-clause-keeps : goal.returns-clause-keeps
 returns-clause-keeps g c floor mark =

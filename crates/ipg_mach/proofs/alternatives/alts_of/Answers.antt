@@ -5,7 +5,7 @@ use Rattle.ipg_mach_moves.specs.Moves as moves
 use Rattle.ipg_core.specs.Grammar.{rule_at}
 use Rattle.ipg_table.specs.Rows.{Each, HoldsAlt}
 use Rattle.ipg_mach.proofs.Rows as rows
-use Rattle.ipg_mach.proofs.calls.alts_of.Goals as goal
+use Rattle.ipg_mach.proofs.alternatives.alts_of.Goals as goal
 
 pub returns-in-Some : goal.returns-in-Some
 returns-in-Some c g stand =
