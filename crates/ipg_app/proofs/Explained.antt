@@ -25,7 +25,8 @@ checked text r (inr (g, is, inr (core, from, h))) told = (
 )
 
 abbrev rest_of : List ℕ → List ℕ → Reason → List ℕ
-rest_of name text r = flat_map (spot_lines name text) r.places ++ (wrong r.why (first_word text r.places) ++ 10 ∷ (advice r.why ++ 10 ∷ []))
+rest_of name text r =
+    flat_map (spot_lines name text) r.places ++ (r.notes ++ (wrong r.why (first_word text r.places) ++ 10 ∷ (advice r.why ++ 10 ∷ [])))
 
 pub begins : BeginsAsCheck
 begins name text said (None, (core, of, accepts), is) = record {

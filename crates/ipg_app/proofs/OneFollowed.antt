@@ -14,7 +14,7 @@ use Rattle.ipg_app.specs.Reply.{ParseSays}
 use Rattle.ipg_app.specs.Laws.{OneFollowed, FollowEndsAsParse}
 
 pub followed_same : OneFindings → OneFollowed
-followed_same one s core x y h k = h.is ∙ ap (found_said s) (one core s.input h.found k.found h.are k.are) ∙ sym k.is
+followed_same one s core x y h k = h.is ∙ ap (found_said s core) (one core s.input h.found k.found h.are k.are) ∙ sym k.is
 
 ends_so : (g : Grammar) (input : List ℕ) (e : End) (answer : Result Tree Stop) (own : Said) → IsEnd e answer → ParseSays Lines g input answer own
     → status_of e ≡ own.status

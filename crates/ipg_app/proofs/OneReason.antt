@@ -23,6 +23,8 @@ use Rattle.ipg_touch.specs.Laws.{OneLimit}
 use Rattle.ipg_touch.specs.Loose.{loose}
 use Rattle.ipg_app_explain.specs.declared.why.Why.TheVariants as why
 use Rattle.ipg_app_explain.specs.Terms.{term_place}
+use Rattle.ipg_app_values.specs.Laws.{NotedOnce}
+use Rattle.ipg_app_values.specs.Notes.{AreNotes}
 use Rattle.ipg_app.specs.Said.{Said}
 use Rattle.ipg_app.specs.Refusal.{fault_said, name_said, circular, no_touch}
 use Rattle.ipg_app.specs.Checks.{may_loop}
@@ -121,20 +123,21 @@ apart : {A : Type 0} (r : Result A Said) (a : A) (said : Said) → r ≡ Ok a �
 apart r a said p q = let both : Ok a ≡ Err said = sym p ∙ q in absurd (cc)
 
 abbrev stuck_reason : written.Grammar → List ℕ → ℕ × ℕ → ℕ → Reason
-stuck_reason g rule at term = record { said = circular rule at.1 term; why = why.Circular; places = listed (term_place g at.0 at.1 term) }
+stuck_reason g rule at term = record { said = circular rule at.1 term; why = why.Circular; places = listed (term_place g at.0 at.1 term); notes = [] }
 
 abbrev loose_reason : written.Grammar → Grammar → ℕ × ℕ × ℕ → Reason
 loose_reason g core at = record {
   said = no_touch (name_of (rule_at core at.0)) at.1 at.2;
   why = why.NoTouch;
   places = listed (term_place g at.0 at.1 at.2);
+  notes = [];
 }
 
-abbrev cycle_reason : written.Grammar → Grammar → List ℕ → ℤ → Reason
-cycle_reason g core cycle eoi = record { said = may_loop core cycle eoi; why = why.MayLoop; places = cycle_places g core cycle }
+abbrev cycle_reason : written.Grammar → Grammar → List ℕ → ℤ → List ℕ → Reason
+cycle_reason g core cycle eoi notes = record { said = may_loop core cycle eoi; why = why.MayLoop; places = cycle_places g core cycle; notes = notes }
 
 module _ (one_limit : OneLimit) (orders_once : OrdersOnce) (good_is_not_stuck : GoodIsNotStuck) (stuck_once : StuckOnce)
-    (loops_arent_accepted : LoopsArentAccepted) (one_loops : OneLoops) where
+    (loops_arent_accepted : LoopsArentAccepted) (one_loops : OneLoops) (noted_once : NotedOnce) where
   stuck_same : (g : written.Grammar) (c : Unordered) (r s : Reason) → IsStuck g c r → IsStuck g c s → r ≡ s
   stuck_same g c r s h k =
       let core = unordered.core_of c in
@@ -192,9 +195,15 @@ module _ (one_limit : OneLimit) (orders_once : OrdersOnce) (good_is_not_stuck : 
   cycle_same : (g : written.Grammar) (core : Grammar) (r s : Reason) → IsCycle g core r → IsCycle g core s → r ≡ s
   cycle_same g core r s h k =
       let same = one_loops core h.cycle k.cycle h.values k.values h.loops k.loops in
+      let marks = one_limit core h.loops.marks k.loops.marks h.loops.limit k.loops.limit in
+      let of_marks = subst (λ m. AreNotes g core m h.cycle (assigned h.values 0) h.notes) marks h.noted in
+      let of_cycle = subst (λ c. AreNotes g core k.loops.marks c (assigned h.values 0) h.notes) same.0 of_marks in
+      let of_length = subst (λ z. AreNotes g core k.loops.marks k.cycle z h.notes) same.1 of_cycle in
+      let notes = noted_once g core k.loops.marks k.cycle (assigned k.values 0) h.notes k.notes of_length k.noted in
       h.is
-      ∙ ap (λ cycle. cycle_reason g core cycle (assigned h.values 0)) same.0
-      ∙ ap (cycle_reason g core k.cycle) same.1
+      ∙ ap (λ cycle. cycle_reason g core cycle (assigned h.values 0) h.notes) same.0
+      ∙ ap (λ eoi. cycle_reason g core k.cycle eoi h.notes) same.1
+      ∙ ap (cycle_reason g core k.cycle (assigned k.values 0)) notes
       ∙ sym k.is
 
   refused_same : (g : written.Grammar) (r s : Reason) → IsRefused g r → IsRefused g s → r ≡ s

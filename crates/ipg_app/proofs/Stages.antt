@@ -35,9 +35,9 @@ head_of (x ∷ rules) (suc r) rule e = head_of rules r rule e
 
 pub stuck : (g : written.Grammar) (c : Unordered) (r a u : ℕ) (heads : List (List ℕ)) (reason : Reason) → heads ≡ map (λ x. x.name) c.rules
     → IsFirstStuck (core_of c) (r, a) u
-    → reason ≡ record { said = circular (name_at heads r) a u; why = why.Circular; places = listed (term_place g r a u) } → IsStuck g c reason
+    → reason ≡ record { said = circular (name_at heads r) a u; why = why.Circular; places = listed (term_place g r a u); notes = [] } → IsStuck g c reason
 stuck g c r a u heads reason same first e =
-    let named : List ℕ → Reason = λ name. record { said = circular name a u; why = why.Circular; places = listed (term_place g r a u) } in
+    let named : List ℕ → Reason = λ name. record { said = circular name a u; why = why.Circular; places = listed (term_place g r a u); notes = [] } in
     record {
       at = (r, a);
       term = u;

@@ -1,13 +1,9 @@
--- What a sink tells over the lines of a text.
-use Rattle.std.proofs.Common.{◌≡◌, ℕ, suc, ◌+◌, ◌<◌, ◌≤◌, inl, inr, List, [], ◌++◌, length, get_or, drop, Option, None, Some, refl, sym, ap, ◌∙◌}
-use Rattle.std.proofs.Common.{add-one, drop-cons, append_assoc, append-nil, arith, Result, Ok, Err, OnOk, OnErr}
-use Rattle.std.proofs.lemmas.Grind.{common_steps}
-use Rattle.std.specs.declared.vec.Vec.{Vec}
-use Rattle.std.specs.declared.alloc.Global.{Global}
+-- What a sink tells over the pieces of a text.
+use Rattle.std.proofs.Common.{◌≡◌, ℕ, ◌≤◌, inl, inr, List, [], ◌++◌, Option, None, Some, refl, sym, ap, ◌∙◌}
+use Rattle.std.proofs.Common.{append_assoc, append-nil, arith}
 use Rattle.ipg_outside.specs.Faults.{Rose}
 use Rattle.ipg_outside.specs.Sink.{Output, Takes, HandsOn, Breaks, Tells, IsPrefix, given}
 use Rattle.ipg_app.specs.Run.{Writes}
-use Rattle.ipg_app.specs.Lines.{text_of}
 
 prefix-more : (a b c : List ℕ) → IsPrefix a b → IsPrefix b c → IsPrefix a c
 prefix-more a b c p q = (p.0 ++ q.0, q.1 ∙ ap (λ t. t ++ q.0) p.1 ∙ append_assoc a p.0 q.0)
@@ -71,28 +67,3 @@ all-out (Some a) (Some b) (Some c) text rest e p q =
 pub later : (a b c : ℕ) → a ≤ b → Rose b c → Rose a c
 later a b c h (inl r) = inl (omega arith)
 later a b c h (inr r) = inr r
-
--- the next line stands in front
-pub next-line : (lines : List (Vec ℕ Global)) (i : ℕ) (line : Vec ℕ Global) → i < length lines → line ≡ get_or lines i line
-    → text_of (drop i lines) ≡ line.items ++ text_of (drop (i + 1) lines)
-next-line lines i line h e =
-    ap (λ t. text_of t) (drop-cons lines i line h)
-    ∙ ap (λ l. l.items ++ text_of (drop (suc i) lines)) (sym e)
-    ∙ ap (λ k. line.items ++ text_of (drop k lines)) (sym (add-one i))
-
-pub ended-written : {E : Type 0} (r : Result (Unit {0}) E) (a b c : Option Output) (text rest : List ℕ) → rest ≡ [] → Progress a b text rest
-    → OnOk r (Tells b c HandsOn) → OnOk r (Tells a c (Writes text))
-ended-written (Ok u) a b c text rest e p h = all-out a b c text rest e p h
-ended-written (Err x) a b c text rest e p h = tt
-
-pub ended-broken : {E : Type 0} (r : Result (Unit {0}) E) (a b c : Option Output) (text rest : List ℕ) → Progress a b text rest
-    → OnErr r (Tells b c (Breaks [])) → OnErr r (Tells a c (Breaks text))
-ended-broken (Ok u) a b c text rest p h = tt
-ended-broken (Err x) a b c text rest p h = broken a b c text [] rest p h
-
-pub ended-failed : {E : Type 0} (r : Result (Unit {0}) E) (a b c : ℕ) → a ≤ b → OnErr r (Rose b c) → OnErr r (Rose a c)
-ended-failed (Ok u) a b c h r = tt
-ended-failed (Err x) a b c h r = later a b c h r
-
-pub none-left : (lines : List (Vec ℕ Global)) (i : ℕ) → length lines ≤ i → text_of (drop i lines) ≡ []
-none-left lines i h = ap (λ t. text_of t) (let e : drop i lines ≡ [] = grind (arith, common_steps) in e)

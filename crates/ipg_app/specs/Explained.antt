@@ -8,7 +8,7 @@ use Rattle.ipg_app.specs.Reasons.{Reason, Judged}
 abbrev pub explained_said : (name text : List ℕ) → Option Reason → Said
 explained_said name text None = done_line (codes "accepted")
 explained_said name text (Some reason) =
-    record reason.said { text = explained reason.said.text name text reason.why reason.places }
+    record reason.said { text = explained reason.said.text name text reason.why reason.places reason.notes }
 
 -- what `explain` says of a text
 abbrev pub Explains : (name text : List ℕ) → Said → Type 0

@@ -45,14 +45,15 @@ status_of end.Tree = status.Done
 status_of end.NoTree = status.NoParse
 status_of (end.Range call) = status.Range
 
-abbrev pub found_said : Subject → Found → Said
-found_said s f = record { status = status_of f.end; text = told_of s (ending_of f.end) f.told f.more }
+-- attributes have the names that the core grammar gives them
+abbrev pub found_said : Subject → Grammar → Found → Said
+found_said s core f = record { status = status_of f.end; text = told_of s core.names (ending_of f.end) f.told f.more }
 
 -- what is said of an input that is parsed by a core grammar, as the text tells of it
 pub record Follows (s : Subject) (core : Grammar) (said : Said) : Type 0 where
   pub found : Found
   pub are : AreFindings core s.input found
-  pub is : said ≡ found_said s found
+  pub is : said ≡ found_said s core found
 
 abbrev pub subject : (name text : List ℕ) → written.Grammar → (input : List ℕ) → Subject
 subject name text g input = record { name = name; text = text; grammar = g; input = input }

@@ -1,4 +1,4 @@
--- Why a text has no core grammar by which parsing ends: what is said of it, of which kind it is, and where in the text.
+-- Why a text has no core grammar by which parsing ends: what is said of it, of which kind it is, where in the text, and what is noted.
 use Rattle.std.specs.Prelude.{◌≡◌, ◌⊎◌, ℕ, ℤ, List, [], ◌∷◌, flat_map, slice_get, Result, Ok, Err, Option, None, Some}
 use Rattle.ipg_ast.specs.declared.grammar.Grammar as written
 use Rattle.ipg_read_tokens.specs.declared.fault.ReadFault.{ReadFault}
@@ -26,6 +26,7 @@ use Rattle.ipg_term.specs.Loops.{Loops}
 use Rattle.ipg_app_explain.specs.declared.why.Why.{Why}
 use Rattle.ipg_app_explain.specs.declared.why.Why.TheVariants as why
 use Rattle.ipg_app_explain.specs.Terms.{term_place, call_place}
+use Rattle.ipg_app_values.specs.Notes.{AreNotes}
 use Rattle.ipg_app.specs.Said.{Said}
 use Rattle.ipg_app.specs.Refusal.{fault_said, name_said, circular, no_touch}
 use Rattle.ipg_app.specs.Checks.{may_loop}
@@ -35,6 +36,7 @@ pub record Reason : Type 0 where
   pub said : Said
   pub why : Why
   pub places : List ℕ
+  pub notes : List ℕ
 
 abbrev pub listed : Option ℕ → List ℕ
 listed None = []
@@ -50,12 +52,12 @@ limit_why which.Depth = why.Depth
 
 -- no text reads as want of memory
 abbrev pub read_reason : ReadFault → Reason
-read_reason read.TooLong = record { said = fault_said read.TooLong; why = why.TooLong; places = [] }
-read_reason (read.Lex at) = record { said = fault_said (read.Lex at); why = why.Lex; places = at ∷ [] }
-read_reason (read.Number at) = record { said = fault_said (read.Number at); why = why.Number; places = at ∷ [] }
-read_reason (read.Syntax at) = record { said = fault_said (read.Syntax at); why = why.Syntax; places = at ∷ [] }
-read_reason (read.Limit which at) = record { said = fault_said (read.Limit which at); why = limit_why which; places = at ∷ [] }
-read_reason read.Memory = record { said = fault_said read.Memory; why = why.TooLong; places = [] }
+read_reason read.TooLong = record { said = fault_said read.TooLong; why = why.TooLong; places = []; notes = [] }
+read_reason (read.Lex at) = record { said = fault_said (read.Lex at); why = why.Lex; places = at ∷ []; notes = [] }
+read_reason (read.Number at) = record { said = fault_said (read.Number at); why = why.Number; places = at ∷ []; notes = [] }
+read_reason (read.Syntax at) = record { said = fault_said (read.Syntax at); why = why.Syntax; places = at ∷ []; notes = [] }
+read_reason (read.Limit which at) = record { said = fault_said (read.Limit which at); why = limit_why which; places = at ∷ []; notes = [] }
+read_reason read.Memory = record { said = fault_said read.Memory; why = why.TooLong; places = []; notes = [] }
 
 pub record IsUnread (text : List ℕ) (reason : Reason) : Type 0 where
   pub fault : ReadFault
@@ -66,13 +68,13 @@ pub record IsUnread (text : List ℕ) (reason : Reason) : Type 0 where
 
 -- no name is at fault for want of memory either
 abbrev pub name_reason : NameFault → Reason
-name_reason (name.DuplicateRule at) = record { said = name_said (name.DuplicateRule at); why = why.DuplicateRule; places = at ∷ [] }
-name_reason (name.UnknownRule at) = record { said = name_said (name.UnknownRule at); why = why.UnknownRule; places = at ∷ [] }
-name_reason (name.DuplicateAttr at) = record { said = name_said (name.DuplicateAttr at); why = why.DuplicateAttr; places = at ∷ [] }
-name_reason (name.UnknownAttr at) = record { said = name_said (name.UnknownAttr at); why = why.UnknownAttr; places = at ∷ [] }
-name_reason (name.PartAttr at) = record { said = name_said (name.PartAttr at); why = why.PartAttr; places = at ∷ [] }
-name_reason (name.NoOccurrence at) = record { said = name_said (name.NoOccurrence at); why = why.NoOccurrence; places = at ∷ [] }
-name_reason name.Memory = record { said = name_said name.Memory; why = why.TooLong; places = [] }
+name_reason (name.DuplicateRule at) = record { said = name_said (name.DuplicateRule at); why = why.DuplicateRule; places = at ∷ []; notes = [] }
+name_reason (name.UnknownRule at) = record { said = name_said (name.UnknownRule at); why = why.UnknownRule; places = at ∷ []; notes = [] }
+name_reason (name.DuplicateAttr at) = record { said = name_said (name.DuplicateAttr at); why = why.DuplicateAttr; places = at ∷ []; notes = [] }
+name_reason (name.UnknownAttr at) = record { said = name_said (name.UnknownAttr at); why = why.UnknownAttr; places = at ∷ []; notes = [] }
+name_reason (name.PartAttr at) = record { said = name_said (name.PartAttr at); why = why.PartAttr; places = at ∷ []; notes = [] }
+name_reason (name.NoOccurrence at) = record { said = name_said (name.NoOccurrence at); why = why.NoOccurrence; places = at ∷ []; notes = [] }
+name_reason name.Memory = record { said = name_said name.Memory; why = why.TooLong; places = []; notes = [] }
 
 pub record IsUnnamed (g : written.Grammar) (reason : Reason) : Type 0 where
   pub fault : NameFault
@@ -86,7 +88,7 @@ pub record IsStuck (g : written.Grammar) (c : Unordered) (reason : Reason) : Typ
   pub at : ℕ × ℕ
   pub term : ℕ
   pub first : IsFirstStuck (unordered.core_of c) at term
-  pub is : reason ≡ record { said = circular first.rule.name at.1 term; why = why.Circular; places = listed (term_place g at.0 at.1 term) }
+  pub is : reason ≡ record { said = circular first.rule.name at.1 term; why = why.Circular; places = listed (term_place g at.0 at.1 term); notes = [] }
 
 -- the place is that of the first loose repetition
 pub record IsLoose (g : written.Grammar) (core : Grammar) (reason : Reason) : Type 0 where
@@ -98,6 +100,7 @@ pub record IsLoose (g : written.Grammar) (core : Grammar) (reason : Reason) : Ty
     said = no_touch (name_of (rule_at core at.0)) at.1 at.2;
     why = why.NoTouch;
     places = listed (term_place g at.0 at.1 at.2);
+    notes = [];
   }
 
 abbrev pub IsUnordered : written.Grammar → Unordered → Reason → Type 0
@@ -117,7 +120,9 @@ pub record IsCycle (g : written.Grammar) (core : Grammar) (reason : Reason) : Ty
   pub cycle : List ℕ
   pub values : List ℤ
   pub loops : Loops core cycle values
-  pub is : reason ≡ record { said = may_loop core cycle (assigned values 0); why = why.MayLoop; places = cycle_places g core cycle }
+  pub notes : List ℕ
+  pub noted : AreNotes g core loops.marks cycle (assigned values 0) notes
+  pub is : reason ≡ record { said = may_loop core cycle (assigned values 0); why = why.MayLoop; places = cycle_places g core cycle; notes = notes }
 
 -- ---- the whole
 

@@ -9,7 +9,7 @@ use Rattle.ipg_app.specs.Lines.{said_of}
 use Rattle.ipg_app.specs.Reasons.{Reason}
 
 abbrev pub reason_of : code.Reason → Reason
-reason_of r = record { said = said_of r.said; why = r.why; places = r.places.items }
+reason_of r = record { said = said_of r.said; why = r.why; places = r.places.items; notes = r.notes.items }
 
 -- the same grammar, and the core grammar that it has, by which parsing ends
 abbrev pub ClearsGrammar : written.Grammar → written.Grammar → Grammar → Type 0

@@ -99,6 +99,6 @@ fn written(alloc: Global, text: Vec<u8>) -> Result<Settled, AllocError>
 {
     Ok(Settled {
         status: Status::Done,
-        lines: vec![in alloc; text]?,
+        text,
     })
 }

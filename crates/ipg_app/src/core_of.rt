@@ -1,5 +1,5 @@
 //! The core grammar of a grammar as it is written.
-ghost use Rattle.std.specs.Prelude.{◌≡◌, Ok, Err, IfOk, MatchResult, map, slice_get};
+ghost use Rattle.std.specs.Prelude.{◌≡◌, [], Ok, Err, IfOk, MatchResult, map, slice_get};
 ghost use Rattle.ipg_complete.specs.Completion.{completed};
 ghost use Rattle.ipg_core.specs.Grammar.{name_at};
 ghost use Rattle.ipg_core.specs.Good.{Good};
@@ -115,6 +115,7 @@ fn stuck(alloc: Global, g: &Grammar, rule: &[u8], at: TermAt) -> Result<Reason, 
       said = spec.circular rule.now at.alt at.term;
       why = why.Circular;
       places = listed (explain.term_place g.now at.rule at.alt at.term);
+      notes = [];
     }) }
 {
     let TermAt { alt, term, .. } = at;
@@ -169,6 +170,7 @@ fn without_touch(alloc: Global, g: &Grammar, rule: &[u8], at: TermAt) -> Result<
       said = spec.no_touch rule.now at.alt at.term;
       why = why.NoTouch;
       places = listed (explain.term_place g.now at.rule at.alt at.term);
+      notes = [];
     }) }
 {
     let TermAt { alt, term, .. } = at;

@@ -2,20 +2,21 @@
 ghost use Rattle.std.specs.Prelude.{◌≡◌, ◌++◌, Ok, Err, Some, IfOk, MatchResult, OnOk};
 ghost use Rattle.std.specs.Option.{option_map, option_copied};
 ghost use Rattle.ipg_names.specs.Readable.{IsReadable};
-ghost use Rattle.ipg_term.specs.Loops.{IsReason};
+ghost use Rattle.ipg_term.specs.Loops.{IsReason, Loops};
 ghost use Rattle.ipg_app.specs.Explained.{Explains, explained_said};
 ghost use Rattle.ipg_app.specs.Followed.{Clears};
-ghost use Rattle.ipg_app.specs.Lines.{said_of, text_of};
+ghost use Rattle.ipg_app.specs.Lines.{said_of};
 ghost use Rattle.ipg_app.specs.Reasons.{IsCycle, IsRefused, Judged, cycle_places, edge_places, listed};
 ghost use Rattle.ipg_app_explain.specs.Terms.{call_place};
 ghost use Rattle.ipg_app.specs.Seen.{ClearsCore, ClearsGrammar, reason_of};
 
 use crate::core_of::core_or_reason;
-use crate::looping::may_loop;
+use crate::looping::{length_of, may_loop};
 use crate::reasons::{Reason, read_reason};
 use crate::said::{Settled, line};
 use crate::status::Status;
 use ipg_app_explain::{Source, TermAt, Why, call_place, explain};
+use ipg_app_values::notes;
 use ipg_ast::Grammar;
 use ipg_core::accepted::{Checked, Core};
 use ipg_facts_edges::{Edge, edges};
@@ -39,29 +40,19 @@ pub fn explain_text(alloc: Global, name: &str, text: &[u8]) -> Result<Settled, A
 pub fn told(alloc: Global, name: &str, text: &[u8], reason: &Reason) -> Result<Settled, AllocError>
     ensures { IfOk result (λ settled. said_of settled ≡ explained_said name.now text.now (Some (reason_of reason.now))) }
 {
-    let said = joined(alloc, &reason.said.lines)?;
     let name = name.as_bytes();
-    let told = explain(
+    let text = explain(
         alloc,
-        &said,
+        &reason.said.text,
         Source { name, text },
         reason.why,
         &reason.places,
+        &reason.notes,
     )?;
     Ok(Settled {
         status: reason.said.status,
-        lines: vec![in alloc; told]?,
+        text,
     })
-}
-
-fn joined(alloc: Global, lines: &[Vec<u8>]) -> Result<Vec<u8>, AllocError>
-    ensures { IfOk result (λ text. text.items ≡ text_of lines.now) }
-{
-    let mut text = Vec::new(alloc);
-    for line in lines {
-        text.extend_from_slice(line)?;
-    }
-    Ok(text)
 }
 
 /// Why a text has no core grammar by which parsing ends, if so.
@@ -124,16 +115,32 @@ fn cycle_reason(
 {
     match why {
         TermWhy::MayLoop { cycle, values } => {
-            let said = may_loop(alloc, core, cycle.as_slice(), values.as_slice())?;
-            let places = cycle_places(alloc, g, core, cycle.as_slice())?;
-            Ok(Reason {
-                said,
-                why: Why::MayLoop,
-                places,
-            })
+            loop_reason(alloc, g, core, cycle.as_slice(), values.as_slice())
         }
         TermWhy::Memory => Err(AllocError),
     }
+}
+
+/// The same of a cycle, by the numbers of its edges, and the values that it can be walked with.
+fn loop_reason(
+    alloc: Global,
+    g: &Grammar,
+    core: &Core,
+    cycle: &[u32],
+    values: &[i64],
+) -> Result<Reason, AllocError>
+    requires { Loops core.now cycle.now values.now }
+    ensures { IfOk result (λ reason. IsCycle g.now core.now (reason_of reason)) }
+{
+    let said = may_loop(alloc, core, cycle, values)?;
+    let places = cycle_places(alloc, g, core, cycle)?;
+    let notes = notes(alloc, g, core, cycle, length_of(values))?;
+    Ok(Reason {
+        said,
+        why: Why::MayLoop,
+        places,
+        notes,
+    })
 }
 
 /// Where the calls of a cycle are named, by the numbers of its edges.

@@ -51,6 +51,7 @@ pub fn follow(alloc: Global, subject: Subject<'_>, core: &Checked) -> Result<Set
     let told = tell(
         alloc,
         subject,
+        core.core().names(),
         ending_of(end),
         &findings.told,
         findings.more,
@@ -62,8 +63,5 @@ pub fn follow(alloc: Global, subject: Subject<'_>, core: &Checked) -> Result<Set
 fn settled(alloc: Global, status: Status, text: Vec<u8>) -> Result<Settled, AllocError>
     ensures { IfOk result (λ settled. said_of settled ≡ record { status = status; text = text.items }) }
 {
-    Ok(Settled {
-        status,
-        lines: vec![in alloc; text]?,
-    })
+    Ok(Settled { status, text })
 }

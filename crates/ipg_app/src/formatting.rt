@@ -18,6 +18,6 @@ pub fn format(alloc: Global, g: &Grammar) -> Result<Settled, AllocError>
     let text = text_of(alloc, g)?;
     Ok(Settled {
         status: Status::Done,
-        lines: vec![in alloc; text]?,
+        text,
     })
 }

@@ -32,6 +32,6 @@ fn told(alloc: Global, text: &[u8]) -> Result<Settled, AllocError>
     let text = Vec::from_slice(alloc, text)?;
     Ok(Settled {
         status: Status::Done,
-        lines: vec![in alloc; text]?,
+        text,
     })
 }

@@ -3,6 +3,7 @@
 ghost use Rattle.ipg_app.specs.Laws.{BeginsAsCheck, CertIsVerified, CoveredIsRebuilt, OneCore, OneCheck, OneEdits, OneExplained};
 ghost use Rattle.ipg_app.specs.Laws.{FollowEndsAsParse, OneCleared, OneFollowed, OneParse, OneReply, OneTrial, OneVerdict};
 
+use ipg_app_values::laws::noted_once;
 use ipg_core::laws::heights_agree;
 use ipg_cover::laws::{covered_has_no_gap, one_gap};
 use ipg_cover_laws::laws::covered_comes_back;
@@ -77,6 +78,7 @@ pub fn one_explained()
     stuck_once();
     loops_arent_accepted();
     one_loops();
+    noted_once();
 }
 
 /// A text has one grammar by which parsing ends, or one reason against it.
@@ -89,6 +91,7 @@ pub fn one_cleared()
     stuck_once();
     loops_arent_accepted();
     one_loops();
+    noted_once();
 }
 
 /// Of an input by a grammar `explain` says one thing.

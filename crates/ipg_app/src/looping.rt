@@ -37,10 +37,11 @@ fn add_length(told: &mut Vec<u8>, values: &[i64]) -> Result<(), AllocError>
     ensures { OnOk result (told.new.items ≡ told.old.items ++ signed_decimal (assigned values.now 0)) }
 {
     let mut buffer = Buffer::new();
-    told.extend_from_slice(buffer.format(first(values)).as_bytes())
+    told.extend_from_slice(buffer.format(length_of(values)).as_bytes())
 }
 
-fn first(values: &[i64]) -> i64
+/// The first of the values, the length of the part.
+pub fn length_of(values: &[i64]) -> i64
     ensures { result ≡ assigned values.now 0 }
 {
     match item_at(values, 0) {

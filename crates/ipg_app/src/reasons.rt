@@ -1,5 +1,5 @@
 //! Why a text has no core grammar by which parsing ends.
-ghost use Rattle.std.specs.Prelude.{◌≡◌, IfOk};
+ghost use Rattle.std.specs.Prelude.{◌≡◌, [], IfOk};
 ghost use Rattle.ipg_app.specs.Lines.{said_of};
 ghost use Rattle.ipg_app.specs.Seen.{reason_of};
 ghost use Rattle.ipg_app.specs.Reasons as spec;
@@ -12,12 +12,13 @@ use ipg_names::NameFault;
 use ipg_read_tokens::{ReadFault, Which};
 use std::alloc::{AllocError, Global};
 
-/// What is said of it, of which kind it is, and at which places of the text, in bytes.
+/// What is said of it, of which kind it is, at which places of the text, in bytes, and what is noted of them, in whole lines.
 #[derive(Drop)]
 pub struct Reason {
     pub said: Settled,
     pub why: Why,
     pub places: Vec<u32>,
+    pub notes: Vec<u8>,
 }
 
 /// A reason at a place, if there is one.
@@ -27,13 +28,18 @@ pub fn reason_at(
     why: Why,
     at: Option<u32>,
 ) -> Result<Reason, AllocError>
-    ensures { IfOk result (λ r. reason_of r ≡ record { said = said_of said; why = why; places = listed at }) }
+    ensures { IfOk result (λ r. reason_of r ≡ record { said = said_of said; why = why; places = listed at; notes = [] }) }
 {
     let mut places = Vec::new(alloc);
     if let Some(at) = at {
         places.push(at)?;
     }
-    Ok(Reason { said, why, places })
+    Ok(Reason {
+        said,
+        why,
+        places,
+        notes: Vec::new(alloc),
+    })
 }
 
 fn limit_why(which: Which) -> Why

@@ -1,4 +1,4 @@
-//! What is said: a status, and the lines of a text.
+//! What is said: a status, and a text.
 ghost use Rattle.std.specs.Prelude.{◌≡◌, IfOk};
 ghost use Rattle.ipg_app.specs.Said as spec;
 ghost use Rattle.ipg_app.specs.Said.{line_said};
@@ -10,19 +10,16 @@ use std::alloc::{AllocError, Global};
 #[derive(Drop)]
 pub struct Settled {
     pub status: Status,
-    pub lines: Vec<Vec<u8>>,
+    pub text: Vec<u8>,
 }
 
 /// A status with a line of its own.
 pub fn line(alloc: Global, status: Status, words: &[u8]) -> Result<Settled, AllocError>
     ensures { IfOk result (λ settled. said_of settled ≡ line_said status words.now) }
 {
-    let mut line = Vec::from_slice(alloc, words)?;
-    line.push(b'\n')?;
-    Ok(Settled {
-        status,
-        lines: vec![in alloc; line]?,
-    })
+    let mut text = Vec::from_slice(alloc, words)?;
+    text.push(b'\n')?;
+    Ok(Settled { status, text })
 }
 
 /// What is said of words that are no command.

@@ -1,36 +1,19 @@
 //! Writes what is said.
-ghost use Rattle.std.specs.Prelude.{ℕ, List, Option, OnOk, OnErr};
-ghost use Rattle.ipg_outside.specs.Faults.{Rose};
-ghost use Rattle.ipg_outside.specs.Sink.{Output, Tells, Breaks};
+ghost use Rattle.std.specs.Prelude.{ℕ, List, Option};
+ghost use Rattle.ipg_outside.specs.Sink.{Output};
 ghost use Rattle.ipg_tree.specs.Puts.{Whole};
-ghost use Rattle.ipg_app.specs.Run.{Writes};
 ghost use Rattle.ipg_app.specs.Settled.{GoesOut};
-ghost use Rattle.ipg_app.specs.Lines.{said_of, text_of};
+ghost use Rattle.ipg_app.specs.Lines.{said_of};
 
 use crate::said::Settled;
 use crate::status::Status;
-use ipg_outside::{Sink, SinkFault};
-
-/// Writes line after line, and hands all on.
-fn put<S: Sink>(lines: &[Vec<u8>], out: &mut S) -> Result<(), SinkFault>
-    ensures written { OnOk result (Tells (S.output out.old) (S.output out.new) (Writes (text_of lines.now))) }
-    ensures broken { OnErr result (Tells (S.output out.old) (S.output out.new) (Breaks (text_of lines.now))) }
-    ensures failed { OnErr result (Rose (S.faults out.old) (S.faults out.new)) }
-{
-    for line in lines {
-        out.write(line)?;
-    }
-    out.flush()
-}
+use ipg_outside::Sink;
 
 /// Writes a settled text.
 pub fn say<S: Sink>(settled: &Settled, out: &mut S) -> Status
     ensures { GoesOut (said_of settled.now) (S.output out.old) (S.faults out.old) (S.output out.new) (S.faults out.new) result }
 {
-    match put(&settled.lines, out) {
-        Ok(()) => settled.status,
-        Err(_) => Status::WriteFault,
-    }
+    tell(settled.status, &settled.text, out)
 }
 
 /// Hands on the whole of a text.

@@ -9,12 +9,14 @@ use Rattle.ipg_mach_failures.specs.declared.failure.Cause.TheVariants.{Differs, 
 use Rattle.ipg_mach_failures.specs.declared.failure.Failure.{Failure}
 use Rattle.ipg_mach_failures.specs.declared.story.Call.{Call}
 use Rattle.ipg_mach_failures.specs.declared.story.Story.{Story}
+use Rattle.ipg_mach_failures.specs.declared.values.Valued.{Valued}
 use Rattle.ipg_app_explain.specs.declared.furthest.Ending.{Ending}
 use Rattle.ipg_app_explain.specs.declared.furthest.Ending.TheVariants.{Tree, NoTree, Range}
 use Rattle.ipg_app_explain.specs.Bytes.{bytes_words, counted, extent}
 use Rattle.ipg_app_explain.specs.Named.{alternatives, is_many, rule_name, size_of, wanted_of}
 use Rattle.ipg_app_explain.specs.Spot.{place_line, spot_lines}
 use Rattle.ipg_app_explain.specs.Terms.{term_at, term_place, call_place}
+use Rattle.ipg_app_explain.specs.Values.{values_line}
 
 -- a text under a name, the grammar that it reads as, and an input
 pub record Subject : Type 0 where
@@ -178,16 +180,6 @@ module _ (s : Subject) where
   abbrev pub failed_term : Failure → Option Term
   failed_term f = term_at s.grammar f.rule f.alt f.term
 
-  -- where, why, and what comes of it
-  abbrev pub failure_lines : Failure → Bool → List ℕ
-  failure_lines f in_many =
-      spot_at (call_place s.grammar f.rule f.alt f.term f.branch)
-      ++ (why_line s.input f (failed_term f) ++ then_line f (is_many (failed_term f) && is_some f.item) in_many)
-
-  abbrev pub story_lines : Story → List ℕ
-  story_lines one =
-      10 ∷ (failure_lines one.failure (is_in_many (nearest one.calls)) ++ (chain one.calls one.left_out ++ last_line one.failure))
-
   -- where a value left 64 bits
   abbrev pub range_lines : Ending → List ℕ
   range_lines Tree = []
@@ -195,6 +187,19 @@ module _ (s : Subject) where
   range_lines (Range c) =
       spot_at (term_place s.grammar c.rule c.alt c.term) ++ (codes "A value leaves 64 bits here.\n" ++ (call_words c.rule c.from c.to ++ 10 ∷ []))
 
+-- the names of attributes by their numbers
+module _ (s : Subject) (names : List (List ℕ)) where
+  -- where, why, what it read, and what comes of it
+  abbrev pub failure_lines : Failure → List Valued → Bool → List ℕ
+  failure_lines f values in_many =
+      spot_at s (call_place s.grammar f.rule f.alt f.term f.branch)
+      ++ (why_line s.input f (failed_term s f)
+      ++ (values_line s.grammar names f values ++ then_line s f (is_many (failed_term s f) && is_some f.item) in_many))
+
+  abbrev pub story_lines : Story → List ℕ
+  story_lines one =
+      10 ∷ (failure_lines one.failure one.values (is_in_many s (nearest one.calls)) ++ (chain s one.calls one.left_out ++ last_line s one.failure))
+
   -- what it came to, and the furthest failures
   abbrev pub told_of : Ending → List Story → (more : ℕ) → List ℕ
-  told_of end told more = end_line end ++ (range_lines end ++ (heading s.input told more ++ flat_map story_lines told))
+  told_of end told more = end_line end ++ (range_lines s end ++ (heading s.input told more ++ flat_map story_lines told))

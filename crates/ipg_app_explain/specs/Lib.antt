@@ -10,6 +10,8 @@ pub mod Terms
 pub mod Bytes
 -- what a term asks for, and what its rule is called
 pub mod Named
+-- the names that a term read, with their values
+pub mod Values
 -- where an input stopped being what a grammar wants
 pub mod Furthest
 -- what functions inside the crate promise each other

@@ -1,13 +1,14 @@
 -- What a term of a grammar asks for, and what its rule is called.
-use Rattle.std.specs.Prelude.{ℕ, List, [], codes, take, length, slice_get, bytes_eq, Bool, true, false, ◌||◌, Option, None, Some, if◌then◌else◌}
+use Rattle.std.specs.Prelude.{ℕ, List, [], ◌∷◌, ◌++◌, codes, map, take, length, slice_get, bytes_eq, Bool, true, false, ◌||◌, Option, None, Some, if◌then◌else◌}
 use Rattle.ipg_ast.specs.declared.grammar.Grammar.{Grammar}
 use Rattle.ipg_ast.specs.declared.grammar.Rule.{Rule, out-Rule}
 use Rattle.ipg_ast.specs.declared.grammar.Term.{Term}
 use Rattle.ipg_ast.specs.declared.grammar.Term.TheVariants.{Slot, Set, Test, Repeat, Many, Pick}
 use Rattle.ipg_ast.specs.declared.grammar.What.{What}
 use Rattle.ipg_ast.specs.declared.grammar.What.TheVariants.{Text, Call}
-use Rattle.ipg_app_explain.specs.Bytes.{bytes_words}
-use Rattle.ipg_app_explain.specs.Terms.{all_rules, alts_of, branch_or}
+use Rattle.ipg_app_explain.specs.Bytes.{bytes_words, most_shown}
+use Rattle.ipg_app_explain.specs.Spot.{seen_byte}
+use Rattle.ipg_app_explain.specs.Terms.{all_rules, alts_of, branch_or, term_at}
 use Rattle.ipg_app_explain.specs.Word.{told_bytes}
 
 -- ---- rules
@@ -45,6 +46,40 @@ wanted_of branch (Test at cond) = []
 wanted_of branch (Repeat var first last item from to) = cut item.name
 wanted_of branch (Many at item place) = cut item.name
 wanted_of branch (Pick at cases other) = what_words (branch_or (slice_get cases branch) other).what
+
+-- a string in quotes
+abbrev pub what_label : What → List ℕ
+what_label (Text bytes) = 34 ∷ (map seen_byte (take most_shown bytes) ++ 34 ∷ [])
+what_label (Call name) = cut name
+
+-- what its result goes by: the name of what it reads, in a switch of what the first branch reads
+abbrev pub label_of : Term → List ℕ
+label_of (Slot slot) = what_label slot.what
+label_of (Set name value) = []
+label_of (Test at cond) = []
+label_of (Repeat var first last item from to) = cut item.name
+label_of (Many at item place) = cut item.name
+label_of (Pick at cases other) = what_label (branch_or (slice_get cases 0) other).what
+
+abbrev pub label_in : Option Term → List ℕ
+label_in None = []
+label_in (Some term) = label_of term
+
+abbrev pub label_at : Grammar → (r a t : ℕ) → List ℕ
+label_at g r a t = label_in (term_at g r a t)
+
+abbrev pub loop_in : Option Term → List ℕ
+loop_in None = []
+loop_in (Some (Slot slot)) = []
+loop_in (Some (Set name value)) = []
+loop_in (Some (Test at cond)) = []
+loop_in (Some (Repeat var first last item from to)) = cut var.name
+loop_in (Some (Many at item place)) = []
+loop_in (Some (Pick at cases other)) = []
+
+-- the name of an array's variable
+abbrev pub loop_name : Grammar → (r a t : ℕ) → List ℕ
+loop_name g r a t = loop_in (term_at g r a t)
 
 -- how many bytes a number takes, by its name
 abbrev pub width_of : List ℕ → ℕ

@@ -78,7 +78,7 @@ abbrev pub first_word : List ℕ → List ℕ → List ℕ
 first_word text [] = []
 first_word text (at ∷ places) = word_at text at
 
--- behind the refusal's own line: each place, what is wrong, and what can be done
-abbrev pub explained : (said name text : List ℕ) → Why → List ℕ → List ℕ
-explained said name text why places =
-    said ++ (flat_map (spot_lines name text) places ++ (wrong why (first_word text places) ++ 10 ∷ (advice why ++ 10 ∷ [])))
+-- behind the refusal's own line: each place, what is noted of them, what is wrong, and what can be done
+abbrev pub explained : (said name text : List ℕ) → Why → (places notes : List ℕ) → List ℕ
+explained said name text why places notes =
+    said ++ (flat_map (spot_lines name text) places ++ (notes ++ (wrong why (first_word text places) ++ 10 ∷ (advice why ++ 10 ∷ []))))

@@ -9,7 +9,7 @@ use itoa::Buffer;
 use std::alloc::AllocError;
 
 /// So many bytes are shown at most.
-const MOST_SHOWN: usize = 16;
+pub const MOST_SHOWN: usize = 16;
 
 pub fn add_number(out: &mut Vec<u8>, number: u64) -> Result<(), AllocError>
     ensures { OnOk result (out.new.items ≡ out.old.items ++ decimal number) }

@@ -10,9 +10,11 @@ use crate::failing::{add_then, add_why};
 use crate::named::is_many;
 use crate::spot::add_spot;
 use crate::terms::{TermAt, place_in, term_at, term_place};
+use crate::values::add_values;
 use crate::why::Source;
 use ipg_ast::Grammar;
-use ipg_mach_failures::{Call, Failure, Story};
+use ipg_core::grammar::Name;
+use ipg_mach_failures::{Call, Failure, Story, Valued};
 use std::alloc::{AllocError, Global};
 
 /// A text under a name, the grammar that it reads as, and an input.
@@ -33,20 +35,22 @@ pub enum Ending {
 }
 
 /// What an input came to, and the furthest failures, with so many more that aren't told: of each its place in the grammar, what was
-/// wanted and what stands there, what comes of it, and the calls that led there. The only other answer is want of memory.
+/// wanted and what stands there, what its expressions read, what comes of it, and the calls that led there; attributes by these names.
+/// The only other answer is want of memory.
 pub fn tell(
     alloc: Global,
     subject: Subject<'_>,
+    names: &[Name],
     end: Ending,
     told: &[Story],
     more: u64,
 ) -> Result<Vec<u8>, AllocError>
-    ensures { IfOk result (λ text. text.items ≡ told_of (subject_of subject.entry) end told.now more) }
+    ensures { IfOk result (λ text. text.items ≡ told_of (subject_of subject.entry) names.now end told.now more) }
 {
     let mut out = Vec::from_slice(alloc, end_line(end))?;
     add_range(&mut out, subject, end)?;
     add_heading(&mut out, subject.input, told, more)?;
-    add_stories(&mut out, subject, told)?;
+    add_stories(&mut out, subject, names, told)?;
     Ok(out)
 }
 
@@ -135,25 +139,37 @@ fn add_heading(out: &mut Vec<u8>, input: &[u8], told: &[Story], more: u64) -> Re
     }
 }
 
-fn add_stories(out: &mut Vec<u8>, subject: Subject<'_>, told: &[Story]) -> Result<(), AllocError>
-    ensures { OnOk result (out.new.items ≡ out.old.items ++ flat_map (story_lines (subject_of subject.entry)) told.now) }
+fn add_stories(
+    out: &mut Vec<u8>,
+    subject: Subject<'_>,
+    names: &[Name],
+    told: &[Story],
+) -> Result<(), AllocError>
+    ensures { OnOk result (out.new.items ≡ out.old.items ++ flat_map (story_lines (subject_of subject.entry) names.now) told.now) }
 {
     for one in told {
-        add_story(out, subject, one)?;
+        add_story(out, subject, names, one)?;
     }
     Ok(())
 }
 
 /// A failure, and the calls that led there.
-fn add_story(out: &mut Vec<u8>, subject: Subject<'_>, one: &Story) -> Result<(), AllocError>
-    ensures { OnOk result (out.new.items ≡ out.old.items ++ story_lines (subject_of subject.entry) one.now) }
+fn add_story(
+    out: &mut Vec<u8>,
+    subject: Subject<'_>,
+    names: &[Name],
+    one: &Story,
+) -> Result<(), AllocError>
+    ensures { OnOk result (out.new.items ≡ out.old.items ++ story_lines (subject_of subject.entry) names.now one.now) }
 {
     let calls = one.calls.as_slice();
     out.push(b'\n')?;
     add_failure(
         out,
         subject,
+        names,
         &one.failure,
+        one.values.as_slice(),
         is_in_many(subject, nearest(calls)),
     )?;
     add_chain(out, subject, calls, one.left_out)?;
@@ -172,18 +188,21 @@ fn failed_at(f: &Failure) -> TermAt
     }
 }
 
-/// Where a term failed, why, and what comes of it.
+/// Where a term failed, why, what it read, and what comes of it.
 fn add_failure(
     out: &mut Vec<u8>,
     subject: Subject<'_>,
+    names: &[Name],
     f: &Failure,
+    values: &[Valued],
     in_many: bool,
 ) -> Result<(), AllocError>
-    ensures { OnOk result (out.new.items ≡ out.old.items ++ failure_lines (subject_of subject.entry) f.now in_many) }
+    ensures { OnOk result (out.new.items ≡ out.old.items ++ failure_lines (subject_of subject.entry) names.now f.now values.now in_many) }
 {
     let term = term_at(subject.grammar, failed_at(f));
     add_spot_at(out, subject, place_in(term, f.branch))?;
     add_why(out, subject.input, f, term)?;
+    add_values(out, subject.grammar, names, f, values)?;
     let ends = is_many(term) && f.item.is_some();
     add_then(out, subject, f, ends, in_many)
 }

@@ -8,9 +8,11 @@ mod furthest;
 mod named;
 mod spot;
 mod terms;
+mod values;
 mod why;
 mod words;
 
 pub use furthest::{Ending, Subject, tell};
+pub use named::{add_label, cut, loop_name, rule_name};
 pub use terms::{TermAt, call_place, term_place};
 pub use why::{Source, Why, explain};

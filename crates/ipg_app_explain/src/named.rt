@@ -2,17 +2,18 @@
 ghost use Rattle.std.specs.Prelude.{◌≡◌, ◌++◌, OnOk};
 ghost use Rattle.std.specs.Option.{option_copied};
 ghost use Rattle.ipg_app_explain.specs.Named as spec;
-ghost use Rattle.ipg_app_explain.specs.Named.{cut, wanted_of, what_size, what_words, width_of};
+ghost use Rattle.ipg_app_explain.specs.Named.{cut, wanted_of, what_label, what_size, what_words, label_of, width_of};
 
-use crate::bytes::add_bytes;
-use crate::spot::upto;
-use crate::terms::{branch_or, rule_at};
+use crate::bytes::{MOST_SHOWN, add_bytes};
+use crate::spot::{add_seen, upto};
+use crate::terms::{TermAt, branch_or, rule_at, term_at};
 use crate::words::TOLD_BYTES;
 use ipg_ast::{Grammar, Term, What};
 use ipg_num::item_at;
 use std::alloc::AllocError;
 
-fn cut(name: &[u8]) -> &[u8]
+/// A name, cut where it is long.
+pub fn cut(name: &[u8]) -> &[u8]
     ensures { result.now ≡ cut name.now }
 {
     upto(name, TOLD_BYTES)
@@ -60,6 +61,56 @@ pub fn add_wanted(out: &mut Vec<u8>, term: &Term, branch: u64) -> Result<(), All
             add_what(out, &slot.what)
         }
         _ => Ok(()),
+    }
+}
+
+fn add_what_label(out: &mut Vec<u8>, what: &What) -> Result<(), AllocError>
+    ensures { OnOk result (out.new.items ≡ out.old.items ++ what_label what.now) }
+{
+    match what {
+        What::Text(bytes) => {
+            out.push(b'"')?;
+            add_seen(out, upto(bytes.as_slice(), MOST_SHOWN))?;
+            out.push(b'"')?;
+            Ok(())
+        }
+        What::Call(name) => out.extend_from_slice(cut(name.as_slice())),
+    }
+}
+
+fn add_label_of(out: &mut Vec<u8>, term: &Term) -> Result<(), AllocError>
+    ensures { OnOk result (out.new.items ≡ out.old.items ++ label_of term.now) }
+{
+    match term {
+        Term::Slot(slot) => add_what_label(out, &slot.what),
+        Term::Repeat { item, .. } => out.extend_from_slice(cut(item.name.as_slice())),
+        Term::Many { item, .. } => out.extend_from_slice(cut(item.name.as_slice())),
+        Term::Pick { cases, other, .. } => {
+            let slot = branch_or(item_at(cases.as_slice(), 0), other);
+            add_what_label(out, &slot.what)
+        }
+        _ => Ok(()),
+    }
+}
+
+/// What a term's result goes by: the name of what it reads, in a switch of what the first branch reads; nothing where there is no such
+/// term, or where it reads nothing.
+pub fn add_label(out: &mut Vec<u8>, g: &Grammar, at: TermAt) -> Result<(), AllocError>
+    ensures { OnOk result (out.new.items ≡ out.old.items ++ spec.label_at g.now at.rule at.alt at.term) }
+{
+    match term_at(g, at) {
+        Some(term) => add_label_of(out, term),
+        None => Ok(()),
+    }
+}
+
+/// The name of an array's variable; nothing where the term is none.
+pub fn loop_name(g: &Grammar, at: TermAt) -> &[u8]
+    ensures { result.now ≡ spec.loop_name g.now at.rule at.alt at.term }
+{
+    match term_at(g, at) {
+        Some(Term::Repeat { var, .. }) => cut(var.name.as_slice()),
+        _ => &[],
     }
 }
 

@@ -37,22 +37,24 @@ pub struct Source<'a> {
     pub text: &'a [u8],
 }
 
-/// A refusal for a person: its own line, `said`; then each place, in bytes of the text, with its line and a mark; then what is wrong, by
-/// what stands at the first place, and what can be done. The only other answer is want of memory.
+/// A refusal for a person: its own line, `said`; then each place, in bytes of the text, with its line and a mark; the notes, which are whole
+/// lines; then what is wrong, by what stands at the first place, and what can be done. The only other answer is want of memory.
 pub fn explain(
     alloc: Global,
     said: &[u8],
     source: Source<'_>,
     why: Why,
     places: &[u32],
+    notes: &[u8],
 ) -> Result<Vec<u8>, AllocError>
-    ensures { IfOk result (λ text. text.items ≡ explained said.now source.entry.name.now source.entry.text.now why places.now) }
+    ensures { IfOk result (λ text. text.items ≡ explained said.now source.entry.name.now source.entry.text.now why places.now notes.now) }
 {
     let word = first_word(alloc, source.text, places)?;
     let mut out = Vec::from_slice(alloc, said)?;
     for at in places {
         add_spot(&mut out, source.name, source.text, *at)?;
     }
+    out.extend_from_slice(notes)?;
     add_wrong(&mut out, why, &word)?;
     out.push(b'\n')?;
     out.extend_from_slice(advice(why))?;

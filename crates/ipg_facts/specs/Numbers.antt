@@ -71,6 +71,10 @@ all_of facts = (formulas.All (map (formula_of (keys_of facts)) facts), box_of (k
 unfoldable pub keep : Grammar → List Bool → Edge → Formula × Boxed
 keep g marks e = all_of (edge_facts g marks Later e)
 
+-- the variables of an edge's conditions, by their numbers
+unfoldable pub variables : Grammar → List Bool → Edge → List Key
+variables g marks e = keys_of (edge_facts g marks Later e)
+
 -- as they were when they knew less
 unfoldable pub keep_before : Grammar → List Bool → Edge → Formula × Boxed
 keep_before g marks e = all_of (edge_facts g marks Earlier e)

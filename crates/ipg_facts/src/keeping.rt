@@ -8,9 +8,9 @@ ghost use Rattle.ipg_facts.specs.View.{scope_of};
 
 use crate::edition::Edition;
 use crate::fact::{Bounds, Fact};
-use crate::key::{Side, whole};
+use crate::key::{Key, Side, whole};
 use crate::members::{put_own_members, put_terms_members};
-use crate::numbers::{box_of, formulas_of, keys_of};
+use crate::numbers::{box_of, copies, formulas_of, keys_of};
 use crate::put::put_leq;
 use crate::scope::{Scope, length_of};
 use ipg_core::accepted::Core;
@@ -264,6 +264,25 @@ pub fn keep(
     };
     let facts = edge_facts(alloc, ground, Edition::Later, edge)?;
     numbered(alloc, facts.as_slice())
+}
+
+/// The variables of the conditions by their numbers, with the same arguments as `keep`: the first is the length of the part.
+#[tactic(auto, unfolding(crate::specs::Numbers::variables, crate::specs::Numbers::keys_of))]
+pub fn variables(
+    alloc: Global,
+    g: &Core,
+    touch: &[bool],
+    edge: Edge,
+) -> Result<Vec<Key>, AllocError>
+    ensures { IfOk result (λ made. made.items ≡ numbers.variables g.now touch.now edge) }
+{
+    let ground = Ground {
+        grammar: g,
+        marks: touch,
+    };
+    let facts = edge_facts(alloc, ground, Edition::Later, edge)?;
+    let first = whole(Side::Caller);
+    copies(alloc, &keys_of(alloc, &first, facts.as_slice())?)
 }
 
 /// The conditions as they were when they knew less (`Edition::Earlier`), with the same arguments as `keep`. Whatever

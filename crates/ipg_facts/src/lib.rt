@@ -25,4 +25,6 @@ mod touching;
 
 pub use gaps::gap;
 pub use joining::joint;
-pub use keeping::{keep, keep_before};
+pub use keeping::{keep, keep_before, variables};
+pub use key::{Key, Known, Side};
+pub use shared::{Shared, Sole};

@@ -175,3 +175,14 @@ pub fn box_of(alloc: Global, keys: &Keys<'_>) -> Result<Boxed, AllocError>
         bounds: List::from_vec(bounds),
     })
 }
+
+/// Copies of the variables, in order.
+pub fn copies(alloc: Global, keys: &Keys<'_>) -> Result<Vec<Key>, AllocError>
+    ensures { IfOk result (λ copies. copies.items ≡ keys_shown keys.now) }
+{
+    let mut copies = Vec::with_capacity(alloc, keys.len())?;
+    for key in keys.as_slice() {
+        copies.push(key.copy()?)?;
+    }
+    Ok(copies)
+}

@@ -14,9 +14,10 @@ use Rattle.ipg_mach_moves.specs.Moves.{ended}
 use Rattle.ipg_mach_failures.specs.declared.failure.Failure.{Failure}
 use Rattle.ipg_mach_failures.specs.declared.story.Call.{Call}
 use Rattle.ipg_mach_failures.specs.declared.story.Story.{Story}
+use Rattle.ipg_mach_failures.specs.declared.values.Valued.{Valued}
 use Rattle.ipg_mach_failures.specs.Failing.{call_fails}
 use Rattle.ipg_mach_failures.specs.Chain.{calls_of}
-use Rattle.ipg_mach_failures.specs.Furthest.{highest_fails, failure_of, story_with, story_of, in_front, stories}
+use Rattle.ipg_mach_failures.specs.Furthest.{highest_fails, highest_reads, failure_of, story_with, story_of, in_front, stories}
 use Rattle.ipg_mach_failures.specs.Laws.{is_no_tree, SomeWhereNone, NoneBehindEnd}
 use Rattle.ipg_mach_failures.proofs.Alive.{Alive, HasSome, onward, begins_alive}
 use Rattle.ipg_mach_failures.proofs.Calling.{callee_there}
@@ -108,16 +109,17 @@ module _ (g : Grammar) (good : Good g) where
   unfolding move
   move_sound e sound none = move_sound_by e e.highest sound sound.highest none
 
-  none_first : (calls : List Call) (failure : Option Failure) (met : List Story) → in_front (story_with calls failure) met ≡ []
+  none_first : (calls : List Call) (read : Failure → List Valued) (failure : Option Failure) (met : List Story)
+      → in_front (story_with calls read failure) met ≡ []
       → (failure ≡ None) × (met ≡ [])
-  none_first calls None met e = (refl, e)
-  none_first calls (Some failure) met e = absurd (cc)
+  none_first calls read None met e = (refl, e)
+  none_first calls read (Some failure) met e = absurd (cc)
 
   moves_sound : (n : ℕ) (e : Evaluation) → Sound g e → stories n e ≡ [] → Sound g (moves n e)
   unfolding moves stories
   moves_sound zero e sound none = sound
   moves_sound (suc n) e sound none =
-      let parts = none_first (calls_of e) (failure_of e) (stories n (move e)) none in moves_sound n (move e) (move_sound e sound parts.0) parts.1
+      let parts = none_first (calls_of e) (highest_reads e.highest) (failure_of e) (stories n (move e)) none in moves_sound n (move e) (move_sound e sound parts.0) parts.1
 
   opens : (s : List ℕ) (known : Option Known) → NoneKnown known → Sound g (opening g s known)
   unfolding opening
@@ -166,7 +168,7 @@ unfolding stories move
 none_behind zero e answer ends = refl
 none_behind (suc k) e answer ends =
     let stays : move e ≡ e = stays_by e e.highest e.lower answer refl ends in
-    ap (λ f. in_front (story_with (calls_of e) f) (stories k (move e))) (quiet_by e.lower e.highest answer ends)
+    ap (λ f. in_front (story_with (calls_of e) (highest_reads e.highest) f) (stories k (move e))) (quiet_by e.lower e.highest answer ends)
     ∙ ap (stories k) stays ∙ none_behind k e answer ends
 
 pub none_behind_end : NoneBehindEnd

@@ -4,3 +4,4 @@ pub mod Alive
 pub mod Calling
 pub mod Ending
 pub mod Telling
+pub mod Among

@@ -4,6 +4,7 @@ use Rattle.ipg_mach_moves.specs.Moves.{OpenCall, Evaluation}
 use Rattle.ipg_mach_failures.specs.declared.failure.Failure.{Failure}
 use Rattle.ipg_mach_failures.specs.declared.story.Call.{Call}
 use Rattle.ipg_mach_failures.specs.declared.story.Story.{Story}
+use Rattle.ipg_mach_failures.specs.declared.values.Valued.{Valued}
 
 -- the number of the term at hand
 abbrev pub first_left : List ℕ → ℕ
@@ -30,6 +31,6 @@ shown calls = if nat_lt 12 (length calls) then take 4 calls ++ drop (length call
 abbrev pub left_out : List Call → ℕ
 left_out calls = length calls - 12
 
--- a failure above these open calls
-abbrev pub story : List Call → Failure → Story
-story calls failure = record { failure = failure; calls = shown calls; left_out = left_out calls }
+-- a failure with these values, above these open calls
+abbrev pub story : List Call → List Valued → Failure → Story
+story calls values failure = record { failure = failure; values = values; calls = shown calls; left_out = left_out calls }

@@ -1,11 +1,13 @@
--- The failures that an evaluation meets, each with the calls that are open then, and the furthest of them.
+-- The failures that an evaluation meets, each with what its term reads and the calls that are open then, and the furthest of them.
 use Rattle.std.specs.Prelude.{ℕ, zero, suc, ◌+◌, List, [], ◌∷◌, ◌++◌, length, Option, Some, None, Bool, false, nat_eq, nat_lt, if◌then◌else◌, ◌&&◌, ◌||◌}
 use Rattle.ipg_mach_moves.specs.Moves.{Evaluation, Highest, Works, Holds, move}
 use Rattle.ipg_mach_failures.specs.declared.failure.Failure.{Failure}
 use Rattle.ipg_mach_failures.specs.declared.story.Call.{Call}
 use Rattle.ipg_mach_failures.specs.declared.story.Story.{Story}
+use Rattle.ipg_mach_failures.specs.declared.values.Valued.{Valued}
 use Rattle.ipg_mach_failures.specs.Failing.{call_fails}
 use Rattle.ipg_mach_failures.specs.Chain.{calls_of, story}
+use Rattle.ipg_mach_failures.specs.Values.{values_of}
 
 abbrev pub highest_fails : Highest → Option Failure
 highest_fails (Works c) = call_fails c
@@ -15,13 +17,18 @@ highest_fails (Holds key answer) = None
 abbrev pub failure_of : Evaluation → Option Failure
 failure_of e = highest_fails e.highest
 
-abbrev pub story_with : List Call → Option Failure → Option Story
-story_with calls None = None
-story_with calls (Some failure) = Some (story calls failure)
+-- what that term reads where it fails so
+abbrev pub highest_reads : Highest → Failure → List Valued
+highest_reads (Works c) failure = values_of c failure
+highest_reads (Holds key answer) failure = []
+
+abbrev pub story_with : List Call → (Failure → List Valued) → Option Failure → Option Story
+story_with calls read None = None
+story_with calls read (Some failure) = Some (story calls (read failure) failure)
 
 -- with the calls that are open below the highest one
 abbrev pub story_of : Evaluation → Option Story
-story_of e = story_with (calls_of e) (failure_of e)
+story_of e = story_with (calls_of e) (highest_reads e.highest) (failure_of e)
 
 abbrev pub in_front : Option Story → List Story → List Story
 in_front None met = met

@@ -4,6 +4,8 @@
 mod failure;
 pub mod laws;
 mod story;
+mod values;
 
 pub use failure::{Cause, Failure, Miss};
 pub use story::{Call, Calls, Story};
+pub use values::{Operand, Taken, Valued, Values};

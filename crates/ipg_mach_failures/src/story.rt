@@ -1,9 +1,10 @@
-//! The calls that were open when a term failed.
+//! A term that failed, with what it read and the calls that were open.
 
 ghost use Rattle.std.specs.Prelude.{◌≡◌, ◌≤◌, [], length};
 ghost use Rattle.ipg_mach_failures.specs.Chain.{shown, story};
 
 use crate::failure::Failure;
+use crate::values::Values;
 use std::marker::Model;
 
 /// How many calls are shown at most.
@@ -76,22 +77,25 @@ impl Calls {
     }
 }
 
-/// A failure, and the calls that were open below its own when it was met, from the first rule on: all where they are at most
-/// twelve, else the first four and the last eight, and how many between these are left out.
+/// A failure, the names that its expressions read with their values, and the calls that were open below its own when it was
+/// met, from the first rule on: all where they are at most twelve, else the first four and the last eight, and how many between
+/// these are left out.
 #[derive(Drop)]
 pub struct Story {
     pub failure: Failure,
+    pub values: Values,
     pub calls: Calls,
     pub left_out: u64,
 }
 
 impl Story {
-    /// A failure with what is shown of the calls that are open below its own.
-    pub fn of(failure: Failure, calls: &[Call]) -> Story
-        ensures { result ≡ story calls.now failure }
+    /// A failure with values, and with what is shown of the calls that are open below its own.
+    pub fn of(failure: Failure, values: Values, calls: &[Call]) -> Story
+        ensures { result ≡ story calls.now values failure }
     {
         Story {
             failure,
+            values,
             calls: Calls::of(calls),
             left_out: calls.len().saturating_sub(MOST) as u64,
         }

@@ -9,3 +9,6 @@ pub mod Following
 pub mod Moving
 pub mod Showing
 pub mod Present
+pub mod Reading
+pub mod Branching
+pub mod Keeping

@@ -1,11 +1,14 @@
 -- What is kept after one move more.
-use Rattle.std.proofs.Common.{◌≡◌, ℕ, zero, suc, refl, sym, ap, ◌∙◌, List, [], Option, Some, None, Result, Ok, Err, OnOk, IfOk}
+use Rattle.std.proofs.Common.{◌≡◌, ℕ, arith, zero, suc, refl, sym, ap, ◌∙◌, subst, List, [], Option, Some, None, Result, Ok, Err, OnOk, IfOk}
 use Rattle.ipg_core.specs.Tree.{Tree}
 use Rattle.ipg_core.specs.Run.{Stop}
 use Rattle.ipg_core.specs.Grammar.{Grammar}
-use Rattle.ipg_mach_moves.specs.Moves.{Evaluation, Known, move, moves, opening}
+use Rattle.ipg_mach_moves.specs.Moves.{Evaluation, Known, move, moves, ended, opening}
+use Rattle.ipg_mach_nodes.specs.Stored.{Source}
+use Rattle.ipg_mach.specs.declared.machine.Turn.{Turn}
 use Rattle.ipg_mach.specs.declared.machine.Turn.TheVariants.{Done}
-use Rattle.ipg_mach.specs.Turning.{turn_of}
+use Rattle.ipg_mach.specs.Stage.{Stage, IsAt}
+use Rattle.ipg_mach.specs.Turning.{turn_of, HasGone}
 use Rattle.ipg_mach_failures.specs.Chain.{calls_of}
 use Rattle.ipg_mach_failures.specs.declared.story.Call.{Call}
 use Rattle.ipg_mach_failures.specs.declared.story.Story.{Story}
@@ -16,6 +19,15 @@ pub one_more : (n : ℕ) (e : Evaluation) → moves (suc n) e ≡ move (moves n 
 unfolding moves
 one_more zero e = refl
 one_more (suc n) e = one_more n (move e)
+
+-- one move at most is one
+pub one_gone : (src : Source) (s : Stage) (e : Evaluation) (turn : Turn) → HasGone src s e 1 turn → IsAt src s (move e) × (turn ≡ turn_of (ended (move e)))
+unfolding moves
+one_gone src s e turn gone =
+    let most = gone.within in
+    let some = gone.some (omega arith) in
+    let once : gone.moved ≡ 1 = omega (arith, most, some) in
+    (subst (λ n. IsAt src s (moves n e)) once gone.at, subst (λ n. turn ≡ turn_of (ended (moves n e))) once gone.turned)
 
 from_first : (f : Furthest) (one : Option Story) (met : List Story) → furthest_from f (in_front one met) ≡ furthest_from (furthest_with f one) met
 from_first f None met = refl

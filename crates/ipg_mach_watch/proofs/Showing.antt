@@ -1,20 +1,24 @@
 -- What a scene says of its call.
-use Rattle.std.proofs.Common.{◌≡◌, ℕ, suc, ◌+◌, refl, sym, ap, ◌∙◌, List, [], ◌∷◌, length, Option, Some, None, ℤ}
+use Rattle.std.proofs.Common.{◌≡◌, ◌⊎◌, inl, inr, ℕ, suc, ◌+◌, refl, sym, ap, ◌∙◌, List, [], ◌∷◌, length, Option, Some, None, ℤ}
 use Rattle.ipg_core.specs.declared.grammar.CoreTerm.{CoreTerm}
 use Rattle.ipg_core.specs.Tree as tree
 use Rattle.ipg_core.specs.Tree.{kids_of}
 use Rattle.ipg_mach_moves.specs.Moves as moves
-use Rattle.ipg_mach_moves.specs.Moves.{OpenCall}
+use Rattle.ipg_mach_moves.specs.Moves.{OpenCall, Highest, Works, Holds}
 use Rattle.ipg_mach_nodes.specs.declared.kid.Kid.{Kid}
 use Rattle.ipg_mach_nodes.specs.Stored.{Stored, Source, StandKids}
 use Rattle.ipg_mach_term.specs.declared.entry.Entry.TheVariants as entries
 use Rattle.ipg_mach_term.specs.Advance.{IsEntry}
 use Rattle.ipg_mach.specs.Calls.{items_in}
-use Rattle.ipg_mach.specs.Scene.{IsScene}
+use Rattle.ipg_mach.specs.Scene.{IsScene, IsSceneOf}
 use Rattle.ipg_mach.specs.declared.scene.Scene.{Scene}
+use Rattle.ipg_mach_failures.specs.declared.failure.Cause.{Cause}
+use Rattle.ipg_mach_failures.specs.declared.failure.Cause.TheVariants.{NoInterval, IsZero, NoValue}
 use Rattle.ipg_mach_failures.specs.declared.failure.Miss.{Miss}
 use Rattle.ipg_mach_failures.specs.declared.failure.Failure.{Failure}
+use Rattle.ipg_mach_failures.specs.declared.values.Valued.{Valued}
 use Rattle.ipg_mach_failures.specs.Chain.{first_left, call_of}
+use Rattle.ipg_mach_failures.specs.Values.{if_asked}
 use Rattle.ipg_mach_failures.specs.Failing.{items_so_far, term_fails, given_fails, item_at_hand, place_of, failure_at, first_fails, call_fails}
 
 pub same_items : (e : moves.Entry) → items_in e ≡ items_so_far e
@@ -89,3 +93,24 @@ module _ {A : Type 0} (src : Source) (s : Scene A) (c : OpenCall) (q : IsScene s
         cause = m.cause;
         place = there i;
       }))
+
+-- ---- what it reads
+
+-- where no bytes are to blame, it is told
+pub asked : (cause : Cause) (read : List Valued)
+    → ((x : ℤ) × (y : ℤ) × (cause ≡ NoInterval x y)) ⊎ ((cause ≡ IsZero) ⊎ (cause ≡ NoValue)) → if_asked cause read ≡ read
+asked cause read (inl ends) = ap (λ (c : Cause). if_asked c read) ends.2
+asked cause read (inr (inl is)) = ap (λ (c : Cause). if_asked c read) is
+asked cause read (inr (inr is)) = ap (λ (c : Cause). if_asked c read) is
+
+-- ---- the highest call
+
+pub record Working {A : Type 0} (src : Source) (s : Scene A) (highest : Highest) : Type 0 where
+  pub call : OpenCall
+  pub is : highest ≡ Works call
+  pub scene : IsScene src s call
+
+-- a scene is of a call that works
+pub works_in : {A : Type 0} (src : Source) (s : Scene A) (highest : Highest) → IsSceneOf src (Some s) highest → Working src s highest
+works_in src s (Works c) h = record { call = c; is = refl; scene = h }
+works_in src s (Holds key answer) h = absurd h

@@ -1,10 +1,16 @@
 //! The furthest failures so far.
 
 ghost use Rattle.std.specs.Prelude.{◌≡◌, Result, OnOk, IfOk, Some};
+ghost use Rattle.ipg_mach_moves.specs.Moves.{OpenCall};
+ghost use Rattle.ipg_mach_nodes.specs.Stored.{Source};
+ghost use Rattle.ipg_mach.specs.Scene.{IsScene};
 ghost use Rattle.ipg_mach_failures.specs.Chain.{story};
+ghost use Rattle.ipg_mach_failures.specs.Values.{values_of};
 ghost use Rattle.ipg_mach_failures.specs.Furthest as spec;
 ghost use Rattle.ipg_mach_watch.specs.Told.{IsFurthest, told_place};
 
+use crate::scenes::values_in;
+use ipg_mach::Scene;
 use ipg_mach_failures::{Call, Failure, Story};
 use std::alloc::{AllocError, Allocator};
 
@@ -38,6 +44,17 @@ fn is_told(told: &[Story], failure: &Failure) -> bool
     false
 }
 
+/// A failure of a scene's term, above these calls.
+fn story_in<A: Allocator + Clone + Drop>(
+    scene: &Scene<'_, A>,
+    failure: Failure,
+    calls: &[Call],
+) -> Story
+    ensures { (src : Source) (c : OpenCall) → IsScene src scene.entry.now c → result ≡ story calls.now (values_of c failure) failure }
+{
+    Story::of(failure, values_in(scene, failure), calls)
+}
+
 /// The place of those that are told; None where none is.
 fn place_of(told: &[Story]) -> Option<u64>
     ensures { result ≡ told_place told.now }
@@ -60,24 +77,36 @@ impl<A: Allocator + Clone + Drop> Furthest<A> {
     }
 
     /// The first failure that is so far.
-    fn only(&mut self, failure: Failure, calls: &[Call]) -> Result<(), AllocError>
-        ensures { OnOk result (IsFurthest self.new (spec.only (story calls.now failure))) }
+    fn only(
+        &mut self,
+        scene: &Scene<'_, A>,
+        failure: Failure,
+        calls: &[Call],
+    ) -> Result<(), AllocError>
+        ensures { (src : Source) (c : OpenCall) → IsScene src scene.entry.now c
+            → OnOk result (IsFurthest self.new (spec.only (story calls.now (values_of c failure) failure))) }
     {
         self.told.clear();
         self.more = 0;
-        self.told.push(Story::of(failure, calls))?;
+        self.told.push(story_in(scene, failure, calls))?;
         Ok(())
     }
 
     /// One failure more at the same place.
-    fn with_one(&mut self, failure: Failure, calls: &[Call]) -> Result<(), AllocError>
-        ensures { (f : spec.Furthest) → IsFurthest self.old f → OnOk result (IsFurthest self.new (spec.with_one f (story calls.now failure))) }
+    fn with_one(
+        &mut self,
+        scene: &Scene<'_, A>,
+        failure: Failure,
+        calls: &[Call],
+    ) -> Result<(), AllocError>
+        ensures { (src : Source) (c : OpenCall) (f : spec.Furthest) → IsScene src scene.entry.now c → IsFurthest self.old f
+            → OnOk result (IsFurthest self.new (spec.with_one f (story calls.now (values_of c failure) failure))) }
     {
         if is_told(self.told.as_slice(), &failure) {
             return Ok(());
         }
         if self.told.len() < FEW {
-            self.told.push(Story::of(failure, calls))?;
+            self.told.push(story_in(scene, failure, calls))?;
             return Ok(());
         }
         self.more = self.more.saturating_add(1);
@@ -85,26 +114,39 @@ impl<A: Allocator + Clone + Drop> Furthest<A> {
     }
 
     /// One failure more, where those so far are at a place.
-    fn further(&mut self, place: u64, failure: Failure, calls: &[Call]) -> Result<(), AllocError>
-        ensures { (f : spec.Furthest) → IsFurthest self.old f → OnOk result (IsFurthest self.new (spec.further f place (story calls.now failure))) }
+    fn further(
+        &mut self,
+        place: u64,
+        scene: &Scene<'_, A>,
+        failure: Failure,
+        calls: &[Call],
+    ) -> Result<(), AllocError>
+        ensures { (src : Source) (c : OpenCall) (f : spec.Furthest) → IsScene src scene.entry.now c → IsFurthest self.old f
+            → OnOk result (IsFurthest self.new (spec.further f place (story calls.now (values_of c failure) failure))) }
     {
         if failure.place < place {
             return Ok(());
         }
         if place < failure.place {
-            return self.only(failure, calls);
+            return self.only(scene, failure, calls);
         }
-        self.with_one(failure, calls)
+        self.with_one(scene, failure, calls)
     }
 
-    /// One failure more, with the calls that are open below its own.
-    pub(crate) fn add(&mut self, failure: Failure, calls: &[Call]) -> Result<(), AllocError>
-        ensures { (f : spec.Furthest) → IsFurthest self.old f
-            → OnOk result (IsFurthest self.new (spec.furthest_with f (Some (story calls.now failure)))) }
+    /// One failure more, of a scene's term, with the calls that are open below its own. What it read is asked for only where it
+    /// is kept.
+    pub(crate) fn add(
+        &mut self,
+        scene: &Scene<'_, A>,
+        failure: Failure,
+        calls: &[Call],
+    ) -> Result<(), AllocError>
+        ensures { (src : Source) (c : OpenCall) (f : spec.Furthest) → IsScene src scene.entry.now c → IsFurthest self.old f
+            → OnOk result (IsFurthest self.new (spec.furthest_with f (Some (story calls.now (values_of c failure) failure)))) }
     {
         match place_of(self.told.as_slice()) {
-            Some(place) => self.further(place, failure, calls),
-            None => self.only(failure, calls),
+            Some(place) => self.further(place, scene, failure, calls),
+            None => self.only(scene, failure, calls),
         }
     }
 }

@@ -6,6 +6,7 @@ mod furthest;
 pub mod laws;
 mod lent;
 mod reach;
+mod reads;
 mod scenes;
 mod symbols;
 mod terms;

@@ -1,4 +1,4 @@
-//! What a scene tells: the call, and the term at hand where it fails by itself.
+//! What a scene tells: the call, the term at hand where it fails by itself, and what that reads.
 
 ghost use Rattle.std.specs.Prelude.{◌≡◌, ◌≤◌, ◌+◌, ◌^◌, ◌<◌, ℕ, length, Option, Some, Result, IfOk};
 ghost use Rattle.ipg_mach_moves.specs.Moves.{OpenCall};
@@ -6,11 +6,13 @@ ghost use Rattle.ipg_mach_nodes.specs.Stored.{Source};
 ghost use Rattle.ipg_mach.specs.Scene.{IsScene};
 ghost use Rattle.ipg_mach_failures.specs.Chain.{call_of};
 ghost use Rattle.ipg_mach_failures.specs.Failing as spec;
+ghost use Rattle.ipg_mach_failures.specs.Values.{read_at_hand, values_of};
 
 use crate::reach::{done_end, items_end};
+use crate::reads::read;
 use crate::terms::term;
 use ipg_mach::Scene;
-use ipg_mach_failures::{Call, Failure, Miss};
+use ipg_mach_failures::{Call, Cause, Failure, Miss, Values};
 use ipg_mach_results::laws::within_are_short;
 use ipg_mach_term::Entry;
 use std::alloc::{AllocError, Allocator};
@@ -113,5 +115,33 @@ pub(crate) fn failure_in<A: Allocator + Clone + Drop>(
     ) {
         Some(miss) => Ok(Some(failure(scene, miss)?)),
         None => Ok(None),
+    }
+}
+
+/// The names that the expressions of the term at hand read, in a switch at a branch, with their values.
+fn read_in<A: Allocator + Clone + Drop>(scene: &Scene<'_, A>, branch: u64) -> Values
+    ensures { (src : Source) (c : OpenCall) → IsScene src scene.entry.now c → result ≡ read_at_hand c branch }
+{
+    read(
+        scene.site.tables,
+        &scene.now,
+        scene.instr.action,
+        scene.entry,
+        branch,
+    )
+}
+
+/// The names that they read, with their values, where the term fails so; none where the bytes are to blame.
+pub(crate) fn values_in<A: Allocator + Clone + Drop>(
+    scene: &Scene<'_, A>,
+    failure: Failure,
+) -> Values
+    ensures { (src : Source) (c : OpenCall) → IsScene src scene.entry.now c → result ≡ values_of c failure }
+{
+    match failure.cause {
+        Cause::Differs { .. } | Cause::CutShort { .. } => Values::new(),
+        Cause::NoInterval { .. } | Cause::IsZero | Cause::NoValue => {
+            read_in(scene, failure.branch)
+        }
     }
 }

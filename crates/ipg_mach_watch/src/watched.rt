@@ -9,6 +9,7 @@ ghost use Rattle.ipg_mach.specs.Turning.{turn_of};
 ghost use Rattle.ipg_mach_failures.specs.declared.story.Call.{Call as AnyCall};
 ghost use Rattle.ipg_mach_failures.specs.Chain.{call_of, calls_of};
 ghost use Rattle.ipg_mach_failures.specs.Failing.{call_fails};
+ghost use Rattle.ipg_mach_failures.specs.Values.{values_of};
 ghost use Rattle.ipg_mach_failures.specs.Furthest as spec;
 ghost use Rattle.ipg_mach_watch.specs.Found.{worked};
 ghost use Rattle.ipg_mach_watch.specs.Told.{IsFurthest};
@@ -62,14 +63,14 @@ impl<A: Allocator + Clone + Drop> Watch<A> {
     fn see(&mut self, scene: &Scene<'_, A>) -> Result<(), AllocError>
         requires { length scene.now.site.bytes.now ≡ scene.now.site.size }
         ensures furthest { (src : Source) (c : OpenCall) (f : spec.Furthest) → IsScene src scene.entry.now c → IsFurthest self.old.furthest f
-            → OnOk result (IsFurthest self.new.furthest (spec.furthest_with f (spec.story_with self.old.calls.items (call_fails c)))) }
+            → OnOk result (IsFurthest self.new.furthest (spec.furthest_with f (spec.story_with self.old.calls.items (values_of c) (call_fails c)))) }
         ensures last { (src : Source) (c : OpenCall) → IsScene src scene.entry.now c → OnOk result (self.new.last ≡ Some (call_of c)) }
         ensures calls { self.new.calls ≡ self.old.calls }
     {
         widen(&mut self.numbers, scene.site.tables.depth())?;
         self.last = Some(call_in(scene));
         match failure_in(scene, self.numbers.as_mut_slice())? {
-            Some(failure) => self.furthest.add(failure, self.calls.as_slice()),
+            Some(failure) => self.furthest.add(scene, failure, self.calls.as_slice()),
             None => Ok(()),
         }
     }
@@ -116,7 +117,7 @@ impl<A: Allocator + Clone + Drop> Watch<A> {
     {
         self.look(machine)?;
         let before = machine.frames();
-        let turn = machine.step()?;
+        let turn = machine.go(1)?;
         self.follow(before, machine.frames())?;
         Ok(turn)
     }

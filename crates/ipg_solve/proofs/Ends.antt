@@ -16,6 +16,7 @@ use Rattle.ipg_cert.proofs.Absurd.{in_zero}
 use Rattle.ipg_solve.specs.declared.span.Span.{Span}
 use Rattle.ipg_solve.specs.Spans.{span_at, end_of, least, least_of}
 use Rattle.ipg_solve.specs.Closes.{entry_of, AreSpans}
+use Rattle.ipg_solve.specs.Laws.{EndsCombine}
 
 -- the form of the fact at which the term is least
 abbrev end_form : List Span → ℕ × ℤ → Form
@@ -106,16 +107,20 @@ none_left spans form y =
 is_above : (spans : List Span) (form : Form) → (atom_sum spans form).constant ≡ least_of spans form
 is_above spans form = same_in _ _ (omega (arith, ints, ends_constant spans (plus_times 1 form zero_form) form.terms, product_is (pos 1) form.constant))
 
-pub atom_combines : (facts : List Fact) (spans : List Span) (number : ℕ) (form : Form) → AreSpans facts spans → terms_width form.terms ≤ length spans
-    → in_rule form.terms ≡ true → slice_get facts number ≡ Some (AtMost form)
-    → int_lt (pos 0) (least_of spans form) ≡ true → combines ((1, number) ∷ map (entry_of spans) form.terms) facts ≡ true
-atom_combines facts spans number form are within rule at above =
+pub ends_combine : EndsCombine
+ends_combine facts spans number form are within few light at above =
     let entries : List (ℕ × ℕ) = (1, number) ∷ map (entry_of spans) form.terms in
     let sum = atom_sum spans form in
     ap (λ b. b && (nat_le (length entries) (2 ^ 21) && is_absurd (weighted_sum facts entries))) (le-leb 1 (length entries) (omega arith))
     ∙ ap (λ b. b && is_absurd (weighted_sum facts entries))
-    (le-leb (length entries) (2 ^ 21) (omega (arith, length-map form.terms (entry_of spans), rule_few form.terms rule)))
-    ∙ ap is_absurd (atom_sum_is facts spans number form are within (rule_small form.terms rule) at)
+    (le-leb (length entries) (2 ^ 21) (omega (arith, length-map form.terms (entry_of spans), few)))
+    ∙ ap is_absurd (atom_sum_is facts spans number form are within light at)
     ∙ ap (λ b. b && int_lt (pos 0) sum.constant) (in_zero sum.terms sum.terms (none_left spans form))
     ∙ ap (int_lt (pos 0)) (is_above spans form)
     ∙ above
+
+pub atom_combines : (facts : List Fact) (spans : List Span) (number : ℕ) (form : Form) → AreSpans facts spans → terms_width form.terms ≤ length spans
+    → in_rule form.terms ≡ true → slice_get facts number ≡ Some (AtMost form)
+    → int_lt (pos 0) (least_of spans form) ≡ true → combines ((1, number) ∷ map (entry_of spans) form.terms) facts ≡ true
+atom_combines facts spans number form are within rule =
+    ends_combine facts spans number form are within (rule_few form.terms rule) (rule_small form.terms rule)

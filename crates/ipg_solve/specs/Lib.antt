@@ -1,6 +1,8 @@
 -- What the public contract rests on.
 pub mod Decides
 pub mod Differences
+-- What the law says.
+pub mod Laws
 -- What functions inside the crate promise each other.
 pub mod Spans
 pub mod Closes

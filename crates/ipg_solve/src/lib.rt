@@ -9,6 +9,7 @@ mod decision;
 mod difference;
 mod edges;
 mod halving;
+pub mod laws;
 mod least;
 mod levels;
 #[cfg(test)]

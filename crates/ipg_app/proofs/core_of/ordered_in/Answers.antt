@@ -1,4 +1,4 @@
-use Rattle.std.proofs.Common.{◌≡◌, map, ap, ◌∙◌}
+use Rattle.std.proofs.Common.{◌≡◌, [], map, ap, ◌∙◌}
 use Rattle.ipg_core.specs.Grammar.{name_at}
 use Rattle.ipg_complete.specs.Unordered.{core_of}
 use Rattle.ipg_order.specs.Answer.{IsFirstStuck}
@@ -21,6 +21,6 @@ returns-in-Err-Circular c =
     let same : heads ≡ map (λ x. x.name) c.args.c.rules = c.in_ok-heads.ensures ∙ ap (λ rules. map (λ x. x.name) rules) c.rules.ensures.rules in
     let head : c.head_at-name.result.now ≡ name_at heads rule = c.head_at-name.ensures ∙ ap (λ xs. name_at (map line_bytes xs) rule) c.deref.ensures.value in
     let first : IsFirstStuck (core_of c.args.c) (rule, alt) term = rw c.in-Err-Circular.field-0-is at c.in-Err-Circular.ensures.err in
-    let named : _ → Reason = λ name. record { said = circular name alt term; why = why.Circular; places = listed (term_place g rule alt term) } in
+    let named : _ → Reason = λ name. record { said = circular name alt term; why = why.Circular; places = listed (term_place g rule alt term); notes = [] } in
     stuck g c.args.c rule alt term heads (reason_of c.in_ok-stuck-in-Err-Circular.field-0) same first
     (c.in_ok-stuck-in-Err-Circular.ensures ∙ ap named head)

@@ -1,4 +1,4 @@
-use Rattle.std.proofs.Common.{◌≡◌, sym, ◌∙◌, ap, ℕ, List, slice_get}
+use Rattle.std.proofs.Common.{◌≡◌, [], sym, ◌∙◌, ap, ℕ, List, slice_get}
 use Rattle.ipg_touch.specs.Loose.{loose}
 use Rattle.ipg_app_explain.specs.declared.why.Why.TheVariants as why
 use Rattle.ipg_app_explain.specs.Terms.{term_place}
@@ -14,7 +14,7 @@ returns-in_ok-without_touch-in-Some c =
     let alt = c.in-Some.alt in
     let term = c.in-Some.term in
     let named : List ℕ → Reason =
-    λ name. record { said = no_touch name alt term; why = why.NoTouch; places = listed (term_place c.args.g.now rule alt term) } in
+    λ name. record { said = no_touch name alt term; why = why.NoTouch; places = listed (term_place c.args.g.now rule alt term); notes = [] } in
     record {
       marks = c.in_ok-marks.marks.items;
       limit = c.in_ok-marks.ensures.limit;

@@ -10,7 +10,7 @@ pub loop-one-preserved : goal.loop-one-preserved
 loop-one-preserved c =
     let told = c.args.told.now in
     let i = c.loop-one.one-index in
-    let lines = story_lines (subject_of c.args.subject) in
+    let lines = story_lines (subject_of c.args.subject) c.args.names.now in
     let one = c.one-item.result in
     let old = c.args.out.now.items in
     let at = slice_get_read told (length told) i one refl c.loop-one-test.true c.one-item.is in

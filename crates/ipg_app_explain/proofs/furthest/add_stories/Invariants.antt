@@ -5,4 +5,4 @@ use Rattle.ipg_app_explain.proofs.furthest.add_stories.Given as goal
 
 -- the failures gone over are told
 abbrev pub invariant-loop-one : goal.invariant-loop-one
-invariant-loop-one l = l.out.items ≡ l.fn.out.items ++ flat_map (story_lines (subject_of l.subject)) (take l.one-index l.told)
+invariant-loop-one l = l.out.items ≡ l.fn.out.items ++ flat_map (story_lines (subject_of l.subject) l.names) (take l.one-index l.told)

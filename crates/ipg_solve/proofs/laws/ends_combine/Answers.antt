@@ -1,0 +1,5 @@
+use Rattle.ipg_solve.proofs.Ends as ends
+use Rattle.ipg_solve.proofs.laws.ends_combine.Goals as goal
+
+pub returns : goal.returns
+returns c = ends.ends_combine
