@@ -2,18 +2,18 @@
 use Rattle.std.proofs.Common.{◌≡◌, ℕ, refl, ap, ◌∙◌, subst, List, [], ◌∷◌, map, Option, Some, None, Result, Ok, Err}
 use Rattle.ipg_ast.specs.declared.grammar.Grammar as written
 use Rattle.ipg_read_tokens.specs.declared.fault.ReadFault.{ReadFault}
-use Rattle.ipg_read_syntax.specs.Laws.{ReadsExactly}
 use Rattle.ipg_read_syntax.specs.Reading.{read_of}
-use Rattle.ipg_read_canonical_laws.specs.Laws.{KeepsTokens, ReadsFormed}
 use Rattle.ipg_names.specs.declared.fault.NameFault.{NameFault}
 use Rattle.ipg_names.specs.Fault.{first_of}
 use Rattle.ipg_names.specs.Faults.{faults_of}
-use Rattle.ipg_names.specs.Laws.{FormedIsReadable, FaultlessIsFormed}
+use Rattle.ipg_names.specs.Laws.{FaultlessIsFormed}
+use Rattle.ipg_names_text.specs.Laws.{ReadIsReadable}
 use Rattle.ipg_names.specs.Resolved.{Resolved, names_of}
 use Rattle.ipg_complete.specs.declared.completed.CompletedAlt.{CompletedAlt}
 use Rattle.ipg_complete.specs.declared.completed.CompletedRule.{CompletedRule}
 use Rattle.ipg_complete.specs.Completion.{completed}
 use Rattle.ipg_complete.specs.Laws.{CompletedIsFormed}
+use Rattle.ipg_order.specs.Laws.{GoodAsOrdered}
 use Rattle.ipg_complete.specs.Unordered.{Unordered, core_of, alt_of, rule_of}
 use Rattle.ipg_core.specs.declared.grammar.CoreAlt.{CoreAlt}
 use Rattle.ipg_core.specs.declared.grammar.CoreRule.{CoreRule}
@@ -28,7 +28,6 @@ use Rattle.ipg_app.specs.CoreOf.{CoreOf}
 use Rattle.ipg_app_reply_laws.proofs.Classical.{Somehow, some, ◌>>=◌, by}
 use Rattle.ipg_app_reply_laws.proofs.Limits.{limits}
 use Rattle.ipg_app_reply_laws.proofs.Orders.{good_or_stuck}
-use Rattle.ipg_app_reply_laws.proofs.Readable.{readable}
 
 -- ---- a completed grammar has no orders
 
@@ -47,9 +46,9 @@ completed_alone c = ap (λ (rs : List CoreRule). record { rules = rs; names = c.
 
 -- ---- orders and marks
 
-orders : (c : Unordered) → WellFormed (core_of c) → Somehow ((answer : Answer) × Orders c answer)
-orders c formed = do
-  found ← good_or_stuck (core_of c) formed (completed_alone c)
+orders : GoodAsOrdered → (c : Unordered) → WellFormed (core_of c) → Somehow ((answer : Answer) × Orders c answer)
+orders as_ordered c formed = do
+  found ← good_or_stuck (core_of c) as_ordered formed (completed_alone c)
   some (by found (λ one. (Ok one.grammar, (one.good, one.same ∙ completed_alone c)))
       (λ stuck. (Err (circular stuck.first.rule.name stuck.at.1 stuck.term), record { at = stuck.at; term = stuck.term; first = stuck.first; is = refl })))
 
@@ -62,9 +61,9 @@ touches_on : (ordered : Answer) → Somehow ((answer : Answer) × On ordered Tou
 touches_on (Ok g) = touches g
 touches_on (Err said) = some (Err said, refl)
 
-pub orders_and_touches : (c : Unordered) → WellFormed (core_of c) → Somehow ((answer : Answer) × OrdersAndTouches c answer)
-orders_and_touches c formed = do
-  ordered ← orders c formed
+pub orders_and_touches : GoodAsOrdered → (c : Unordered) → WellFormed (core_of c) → Somehow ((answer : Answer) × OrdersAndTouches c answer)
+orders_and_touches as_ordered c formed = do
+  ordered ← orders as_ordered c formed
   answer ← touches_on ordered.0
   some (answer.0, record { ordered = ordered.0; orders = ordered.1; touches = answer.1 })
 
@@ -80,17 +79,16 @@ resolved_by : (g : written.Grammar) (fault : Option NameFault) (n : Resolved) �
 resolved_by g None n e is = record { faultless = e; is = cc }
 resolved_by g (Some fault) n e is = absurd (cc)
 
-module _ (exactly : ReadsExactly) (formed : ReadsFormed) (keeps : KeepsTokens) (is_readable : FormedIsReadable) (faultless : FaultlessIsFormed)
-    (completing : CompletedIsFormed) where
+module _ (readable : ReadIsReadable) (faultless : FaultlessIsFormed) (completing : CompletedIsFormed) (as_ordered : GoodAsOrdered) where
   pub completed_formed : (text : List ℕ) (g : written.Grammar) (n : Resolved) → read_of text ≡ Ok g → resolved g ≡ Ok n → WellFormed (core_of (completed n))
   completed_formed text g n reads is =
       let r = resolved_by g (first_of (faults_of g)) n refl is in
       subst (λ m. WellFormed (core_of (completed m))) r.is
-      (completing (names_of g) (faultless g (readable exactly formed keeps is_readable text g reads) r.faultless))
+      (completing (names_of g) (faultless g (readable text g reads) r.faultless))
 
   core_on : (text : List ℕ) (g : written.Grammar) → read_of text ≡ Ok g → (named : Result Resolved Said) → resolved g ≡ named
       → Somehow ((answer : Answer) × On named (λ n. OrdersAndTouches (completed n)) answer)
-  core_on text g reads (Ok n) is = orders_and_touches (completed n) (completed_formed text g n reads is)
+  core_on text g reads (Ok n) is = orders_and_touches as_ordered (completed n) (completed_formed text g n reads is)
   core_on text g reads (Err said) is = some (Err said, refl)
 
   core_in : (text : List ℕ) (read : Result written.Grammar ReadFault) → read_of text ≡ read → Somehow ((answer : Answer) × On (or_fault read) CoreFrom answer)

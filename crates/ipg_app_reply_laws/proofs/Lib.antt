@@ -2,9 +2,7 @@
 pub mod Classical
 pub mod Answering
 -- the core grammar of a text
-pub mod Readable
 pub mod Lists
-pub mod Alone
 pub mod Ordering
 pub mod Orders
 pub mod Limits

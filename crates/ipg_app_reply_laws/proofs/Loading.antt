@@ -2,7 +2,6 @@
 use Rattle.std.proofs.Common.{◌≡◌, ℕ, zero, suc, ◌+◌, ◌<◌, ◌≤◌, ◌^◌, inl, inr, get_or, refl, sym, ap, ◌∙◌, subst, arith, List, [], ◌∷◌, ◌++◌, length}
 use Rattle.std.proofs.Common.{take, drop, Some, Result, Ok, Err}
 use Rattle.std.specs.Prelude.{codes, decimal}
-use Rattle.std.specs.List.{AllByRecursion}
 use Rattle.std.proofs.lemmas.List.{drop-drop, take-append-drop, length-take-le}
 use Rattle.std.proofs.lemmas.Nat.{le_bytes_8}
 use Rattle.ipg_outside.specs.Files.{AreBytes}
@@ -28,21 +27,20 @@ use Rattle.ipg_app_reply_laws.proofs.Texts.{reads_body, reads_certificate}
 
 -- ---- a whole file is put together of its parts
 
-small_at : (bytes : List ℕ) → AllByRecursion (λ b. b < 256) bytes → (i : ℕ) → get_or bytes i 0 < 256
+small_at : (bytes : List ℕ) → AreBytes bytes → (i : ℕ) → get_or bytes i 0 < 256
 small_at [] h i = omega arith
 small_at (b ∷ bytes) h zero = h.0
 small_at (b ∷ bytes) h (suc i) = small_at bytes h.1 i
 
-small_front : (n : ℕ) (xs : List ℕ) → ((i : ℕ) → get_or xs i 0 < 256) → (i : ℕ) → get_or (take n xs) i 0 < 256
-small_front zero xs small i = omega arith
-small_front (suc n) [] small i = omega arith
-small_front (suc n) (x ∷ xs) small zero = small 0
-small_front (suc n) (x ∷ xs) small (suc i) = small_front n xs (λ j. small (suc j)) i
+bytes_front : (n : ℕ) (xs : List ℕ) → AreBytes xs → AreBytes (take n xs)
+bytes_front zero xs h = tt
+bytes_front (suc n) [] h = tt
+bytes_front (suc n) (x ∷ xs) h = (h.0, bytes_front n xs h.1)
 
-small_back : (n : ℕ) (xs : List ℕ) → ((i : ℕ) → get_or xs i 0 < 256) → (i : ℕ) → get_or (drop n xs) i 0 < 256
-small_back zero xs small i = small i
-small_back (suc n) [] small i = omega arith
-small_back (suc n) (x ∷ xs) small i = small_back n xs (λ j. small (suc j)) i
+bytes_back : (n : ℕ) (xs : List ℕ) → AreBytes xs → AreBytes (drop n xs)
+bytes_back zero xs h = h
+bytes_back (suc n) [] h = tt
+bytes_back (suc n) (x ∷ xs) h = bytes_back n xs h.1
 
 length_dropped : (n : ℕ) (xs : List ℕ) → length xs ≤ n + length (drop n xs)
 length_dropped zero xs = omega arith
@@ -64,7 +62,7 @@ module _ (file : List ℕ) (bytes : AreBytes file) (within : length file ≤ 2 ^
       let room : 8 ≤ length (drop 8 file) = let l = length_dropped 8 file in omega (arith, l, size) in
       let said : long_text (length (body_in file)) ≡ take 8 (drop 8 file) =
       ap long_text (body_long whole) ∙ le_bytes_8 (take 8 (drop 8 file)) (announced file) (length-take-le 8 (drop 8 file) room)
-      (small_front 8 (drop 8 file) (small_back 8 file (small_at file bytes))) refl in
+      (small_at (take 8 (drop 8 file)) (bytes_front 8 (drop 8 file) (bytes_back 8 file bytes))) refl in
       sym (take-append-drop 8 file) ∙ ap (λ xs. xs ++ drop 8 file) whole.begins
       ∙ ap (λ xs. magic ++ xs) (sym (take-append-drop 8 (drop 8 file)) ∙ ap (λ xs. xs ++ drop 8 (drop 8 file)) (sym said)
       ∙ ap (λ xs. long_text (length (body_in file)) ++ xs) (drop-drop 8 8 file ∙ sym (take-append-drop (announced file) (behind file))))

@@ -1,34 +1,19 @@
 -- A well formed grammar has a good one that differs in no more than orders, or a first alternative that gets stuck.
-use Rattle.std.proofs.Common.{◌≡◌, ℕ, ◌⊎◌, inl, inr, refl, sym, ap, ◌∙◌, subst, List, [], ◌∷◌, length, Option, Some, None}
+use Rattle.std.proofs.Common.{◌≡◌, ℕ, ◌⊎◌, inl, inr, refl, sym, ap, ◌∙◌, subst, List, length, Option, Some, None}
 use Rattle.std.specs.Prelude.{slice_get}
 use Rattle.std.proofs.lemmas.Option.{slice_get_within}
 use Rattle.ipg_core.specs.declared.grammar.CoreTerm.{CoreTerm}
 use Rattle.ipg_core.specs.declared.grammar.CoreAlt.{CoreAlt}
 use Rattle.ipg_core.specs.declared.grammar.CoreRule.{CoreRule}
 use Rattle.ipg_core.specs.Grammar.{Grammar}
-use Rattle.ipg_core.specs.Order.{IsNext, InOrder, Provides}
-use Rattle.ipg_core.specs.Good.{AltAt, WellFormed, Good}
+use Rattle.ipg_core.specs.Order.{Provides}
+use Rattle.ipg_core.specs.Good.{AltAt, IsOrdered, WellFormed, Good}
 use Rattle.ipg_order.specs.Stuck.{IsStuck}
 use Rattle.ipg_order.specs.Answer.{alt_alone, rule_alone, without_orders, HasOrder, IsBefore, IsFirstStuck}
+use Rattle.ipg_order.specs.Laws.{GoodAsOrdered}
 use Rattle.ipg_app_reply_laws.proofs.Classical.{Somehow, some, ◌>>=◌, by, First, first_of, first_below, each_below}
 use Rattle.ipg_app_reply_laws.proofs.Lists.{Chosen, choose}
-use Rattle.ipg_app_reply_laws.proofs.Alone.{whole, provides_to, provides_from}
 use Rattle.ipg_app_reply_laws.proofs.Ordering.{arranged}
-
--- ---- a relation may be replaced by one that is the same
-
-module _ (P Q : ℕ → ℕ → Type 0) (n : ℕ) (to : (u v : ℕ) → P u v → Q u v) (from : (u v : ℕ) → Q u v → P u v) where
-  next_to : (taken : List ℕ) (u : ℕ) → IsNext P n taken u → IsNext Q n taken u
-  next_to taken u h = record {
-    below = h.below;
-    fresh = h.fresh;
-    provided = λ v q. h.provided v (from u v q);
-    least = λ w lt fresh provided. h.least w lt fresh (λ v p. provided v (to w v p));
-  }
-
-  order_to : (taken order : List ℕ) → InOrder P n taken order → InOrder Q n taken order
-  order_to taken [] h = h
-  order_to taken (u ∷ order) h = (next_to taken u h.0, order_to (u ∷ taken) order h.1)
 
 -- ---- a choice for each of a list
 
@@ -115,11 +100,11 @@ module _ (g : Grammar) where
   -- ---- with orders
 
   abbrev OrderedAlt : ℕ → ℕ → CoreAlt → CoreAlt → Type 0
-  OrderedAlt r a old new = (alt_alone new ≡ alt_alone old) × InOrder (Provides g (r, a) new.terms) (length new.terms) [] new.order
+  OrderedAlt r a old new = (alt_alone new ≡ alt_alone old) × IsOrdered g (r, a) new
 
   pub record OrderedRule (r : ℕ) (old new : CoreRule) : Type 0 where
     pub same : rule_alone new ≡ rule_alone old
-    pub each : (a : ℕ) (alt : CoreAlt) → slice_get new.alts a ≡ Some alt → InOrder (Provides g (r, a) alt.terms) (length alt.terms) [] alt.order
+    pub each : (a : ℕ) (alt : CoreAlt) → slice_get new.alts a ≡ Some alt → IsOrdered g (r, a) alt
 
   with_orders : AllOrdered → (r : ℕ) (rule : CoreRule) → slice_get g.rules r ≡ Some rule → (new : CoreRule) × OrderedRule r rule new
   with_orders all r rule there =
@@ -137,7 +122,7 @@ module _ (g : Grammar) where
     pub good : Good grammar
     pub same : without_orders grammar ≡ without_orders g
 
-  module _ (formed : WellFormed g) (bare : without_orders g ≡ g) (all : AllOrdered) where
+  module _ (as_ordered : GoodAsOrdered) (formed : WellFormed g) (bare : without_orders g ≡ g) (all : AllOrdered) where
     abbrev rules : Chosen g.rules OrderedRule rule_alone rule_alone
     rules = choose g.rules OrderedRule rule_alone rule_alone (λ r old new o. o.same) (λ r rule e. with_orders all r rule e)
 
@@ -150,22 +135,18 @@ module _ (g : Grammar) where
     is_g : without_orders made ≡ g
     is_g = same_alone ∙ bare
 
-    in_order : (at : ℕ × ℕ) (rule : CoreRule) (alt : CoreAlt) → AltAt made rule alt at → InOrder (Provides made at alt.terms) (length alt.terms) [] alt.order
+    in_order : (at : ℕ × ℕ) (rule : CoreRule) (alt : CoreAlt) → AltAt made rule alt at → IsOrdered (without_orders made) at alt
     in_order at rule alt there =
-        let from = rules.each at.0 rule there.is_rule in
-        order_to (Provides g at alt.terms) (Provides made at alt.terms) (length alt.terms)
-        (λ u v p. provides_from made at alt.terms u v (subst (λ x. Provides x at alt.terms u v) (sym is_g) p))
-        (λ u v p. subst (λ x. Provides x at alt.terms u v) is_g (provides_to made at alt.terms u v p))
-        [] alt.order (from.2.each at.1 alt there.is_alt)
+        subst (λ h. IsOrdered h at alt) (sym is_g) ((rules.each at.0 rule there.is_rule).2.each at.1 alt there.is_alt)
 
     good_one : GoodOne
     good_one = record {
       grammar = made;
-      good = record { well_formed = whole made (subst WellFormed (sym is_g) formed); ordered = in_order };
+      good = as_ordered made (subst WellFormed (sym is_g) formed) in_order;
       same = same_alone;
     }
 
-  pub good_or_stuck : WellFormed g → without_orders g ≡ g → Somehow (GoodOne ⊎ IsStuckFirst)
-  good_or_stuck formed bare = do
+  pub good_or_stuck : GoodAsOrdered → WellFormed g → without_orders g ≡ g → Somehow (GoodOne ⊎ IsStuckFirst)
+  good_or_stuck as_ordered formed bare = do
     found ← all_or_first
-    some (by found (λ all. inl (good_one formed bare all)) (λ stuck. inr stuck))
+    some (by found (λ all. inl (good_one as_ordered formed bare all)) (λ stuck. inr stuck))

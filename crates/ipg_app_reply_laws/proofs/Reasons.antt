@@ -1,17 +1,17 @@
 -- A text has a core grammar by which parsing ends, or there is a reason against it.
-use Rattle.std.proofs.Common.{◌≡◌, ℕ, ◌⊎◌, inl, inr, refl, sym, ap, ◌∙◌, subst, List, Option, Some, None, Result, Ok, Err}
+use Rattle.std.proofs.Common.{◌≡◌, ℕ, ℤ, [], ◌⊎◌, inl, inr, refl, sym, ap, ◌∙◌, subst, List, Option, Some, None, Result, Ok, Err}
 use Rattle.ipg_ast.specs.declared.grammar.Grammar as written
 use Rattle.ipg_read_tokens.specs.declared.fault.ReadFault.{ReadFault}
-use Rattle.ipg_read_syntax.specs.Laws.{ReadsExactly}
 use Rattle.ipg_read_syntax.specs.Reading.{read_of}
-use Rattle.ipg_read_canonical_laws.specs.Laws.{KeepsTokens, ReadsFormed}
 use Rattle.ipg_names.specs.declared.fault.NameFault.{NameFault}
 use Rattle.ipg_names.specs.Fault.{first_of}
 use Rattle.ipg_names.specs.Faults.{faults_of}
-use Rattle.ipg_names.specs.Laws.{FormedIsReadable, FaultlessIsFormed}
+use Rattle.ipg_names.specs.Laws.{FaultlessIsFormed}
+use Rattle.ipg_names_text.specs.Laws.{ReadIsReadable}
 use Rattle.ipg_names.specs.Resolved.{Resolved, names_of}
 use Rattle.ipg_complete.specs.Completion.{completed}
 use Rattle.ipg_complete.specs.Laws.{CompletedIsFormed}
+use Rattle.ipg_order.specs.Laws.{GoodAsOrdered}
 use Rattle.ipg_complete.specs.Unordered.{core_of}
 use Rattle.ipg_core.specs.Grammar.{Grammar, rule_at}
 use Rattle.ipg_core.specs.Good.{WellFormed}
@@ -20,9 +20,12 @@ use Rattle.ipg_facts_laws.specs.Bounded.{JointIsPart}
 use Rattle.ipg_facts_laws.specs.Laws.{ConditionsAreParts}
 use Rattle.ipg_lin.specs.Formula.{assigned}
 use Rattle.ipg_proof.specs.Proves.{Accepts}
+use Rattle.ipg_term.specs.Loops.{Loops}
 use Rattle.ipg_touch.specs.Loose.{loose}
 use Rattle.ipg_app_explain.specs.declared.why.Why.TheVariants as why
 use Rattle.ipg_app_explain.specs.Terms.{term_place}
+use Rattle.ipg_app_values.specs.Laws.{NotedSomehow}
+use Rattle.ipg_app_values.specs.Notes.{AreNotes}
 use Rattle.ipg_app.specs.Checks.{Checks, may_loop}
 use Rattle.ipg_app.specs.CoreOf.{Answer, On, or_fault, grammar_in, unless_fault, resolved, name_of, unless_loose, OrdersAndTouches, CoreFrom, CoreOf}
 use Rattle.ipg_app.specs.Explained.{Explains, explained_said}
@@ -49,18 +52,28 @@ pub record IsClear (text : List ℕ) : Type 0 where
 abbrev Verdict : List ℕ → Type 0
 Verdict text = IsClear text ⊎ ((reason : Reason) × Judged text (Some reason))
 
-module _ (are_parts : ConditionsAreParts) (is_part : JointIsPart) (text : List ℕ) (g : written.Grammar) (reads : grammar_in text ≡ Ok g) where
+module _ (as_ordered : GoodAsOrdered) (are_parts : ConditionsAreParts) (is_part : JointIsPart) (noted : NotedSomehow) (text : List ℕ) (g : written.Grammar)
+    (reads : grammar_in text ≡ Ok g) where
   refused : (reason : Reason) → IsRefused g reason → Verdict text
   refused reason is = inr (reason, inr (g, reads, is))
 
   -- ---- G13
 
-  by_checks : (core : Grammar) → CoreFrom g (Ok core) → (answer : Answer) → Checks core answer → Verdict text
+  some_notes : (core : Grammar) (cycle : List ℕ) (values : List ℤ) (loops : Loops core cycle values)
+      → Somehow ((notes : List ℕ) × AreNotes g core loops.marks cycle (assigned values 0) notes)
+  some_notes core cycle values loops none = noted g core loops.marks cycle (assigned values 0) (λ notes are. none (notes, are))
+
+  by_checks : (core : Grammar) → CoreFrom g (Ok core) → (answer : Answer) → Checks core answer → Somehow (Verdict text)
   by_checks core from (Ok same) checks =
-      inl (record { grammar = g; core = core; reads = reads; from = from; accepts = checks.1 })
-  by_checks core from (Err said) loop =
-      refused (record { said = may_loop core loop.cycle (assigned loop.values 0); why = why.MayLoop; places = cycle_places g core loop.cycle })
-      (inr (core, from, record { cycle = loop.cycle; values = loop.values; loops = loop.loops; is = refl }))
+      some (inl (record { grammar = g; core = core; reads = reads; from = from; accepts = checks.1 }))
+  by_checks core from (Err said) loop = do
+    notes ← some_notes core loop.cycle loop.values loop.loops
+    some (refused (record {
+      said = may_loop core loop.cycle (assigned loop.values 0);
+      why = why.MayLoop;
+      places = cycle_places g core loop.cycle;
+      notes = notes.0;
+    }) (inr (core, from, record { cycle = loop.cycle; values = loop.values; loops = loop.loops; notes = notes.0; noted = notes.1; is = refl })))
 
   -- ---- G12 and G14
 
@@ -74,6 +87,7 @@ module _ (are_parts : ConditionsAreParts) (is_part : JointIsPart) (text : List �
           said = circular s.first.rule.name s.at.1 s.term;
           why = why.Circular;
           places = listed (term_place g s.at.0 s.at.1 s.term);
+          notes = [];
         }) (inl (record { at = s.at; term = s.term; first = s.first; is = refl }))
 
     by_loose : (one : GoodOne (core_of (completed n))) (marks : Marks) → AreLimit one.grammar marks → (at : Option (ℕ × ℕ × ℕ))
@@ -83,6 +97,7 @@ module _ (are_parts : ConditionsAreParts) (is_part : JointIsPart) (text : List �
           said = no_touch (name_of (rule_at one.grammar at.0)) at.1 at.2;
           why = why.NoTouch;
           places = listed (term_place g at.0 at.1 at.2);
+          notes = [];
         }) (inr (one.grammar, (one.good, one.same ∙ completed_alone (completed n)), record { marks = marks; limit = limit; at = at; found = e; is = refl })))
     by_loose one marks limit None e = do
       let from = subst (λ named. On named (λ m. OrdersAndTouches (completed m)) (Ok one.grammar)) (sym is) (record {
@@ -91,11 +106,11 @@ module _ (are_parts : ConditionsAreParts) (is_part : JointIsPart) (text : List �
         touches = record { marks = marks; limit = limit; is = sym (ap (unless_loose one.grammar) e) };
       })
       answer ← checked are_parts is_part one.grammar
-      some (by_checks one.grammar from answer.0 answer.1)
+      by_checks one.grammar from answer.0 answer.1
 
     by_order : WellFormed (core_of (completed n)) → Somehow (Verdict text)
     by_order formed = do
-      found ← good_or_stuck (core_of (completed n)) formed (completed_alone (completed n))
+      found ← good_or_stuck (core_of (completed n)) as_ordered formed (completed_alone (completed n))
       by found (λ one. do
         marks ← limits one.grammar
         by_loose one marks.0 marks.1 (loose marks.0 one.grammar.rules) refl) (λ stuck. some (by_stuck stuck))
@@ -111,11 +126,11 @@ module _ (are_parts : ConditionsAreParts) (is_part : JointIsPart) (text : List �
 
 -- ---- the whole
 
-module _ (exactly : ReadsExactly) (formed : ReadsFormed) (keeps : KeepsTokens) (is_readable : FormedIsReadable) (faultless : FaultlessIsFormed)
-    (completing : CompletedIsFormed) (are_parts : ConditionsAreParts) (is_part : JointIsPart) where
+module _ (readable : ReadIsReadable) (faultless : FaultlessIsFormed) (completing : CompletedIsFormed) (as_ordered : GoodAsOrdered)
+    (are_parts : ConditionsAreParts) (is_part : JointIsPart) (noted : NotedSomehow) where
   by_reading : (text : List ℕ) (read : Result written.Grammar ReadFault) → read_of text ≡ read → Somehow (Verdict text)
   by_reading text (Ok g) e =
-      by_names are_parts is_part text g (ap or_fault e) (λ n is. completed_formed exactly formed keeps is_readable faultless completing text g n e is)
+      by_names as_ordered are_parts is_part noted text g (ap or_fault e) (λ n is. completed_formed readable faultless completing as_ordered text g n e is)
       (first_of (faults_of g)) refl
   by_reading text (Err fault) e = some (inr (read_reason fault, inl (record { fault = fault; reads = e; is = refl })))
 

@@ -10,10 +10,11 @@ use Rattle.ipg_core.specs.Good.{Good}
 use Rattle.ipg_core.specs.Grown.{IsInput}
 use Rattle.ipg_core.specs.Laws.{HoldsItsBytes, LiesWithin}
 use Rattle.ipg_core.specs.Total.{Total}
-use Rattle.ipg_read_syntax.specs.Laws.{ReadsExactly}
-use Rattle.ipg_read_canonical_laws.specs.Laws.{KeepsTokens, ReadsFormed}
-use Rattle.ipg_names.specs.Laws.{FormedIsReadable, FaultlessIsFormed}
+use Rattle.ipg_names.specs.Laws.{FaultlessIsFormed}
+use Rattle.ipg_names_text.specs.Laws.{ReadIsReadable}
 use Rattle.ipg_complete.specs.Laws.{CompletedIsFormed}
+use Rattle.ipg_order.specs.Laws.{GoodAsOrdered}
+use Rattle.ipg_app_values.specs.Laws.{NotedSomehow}
 use Rattle.ipg_facts_laws.specs.Bounded.{JointIsPart}
 use Rattle.ipg_facts_laws.specs.Gapped.{GapsAreBounded}
 use Rattle.ipg_facts_laws.specs.Laws.{ConditionsAreParts, EdgesAreInside}
@@ -70,14 +71,13 @@ use Rattle.ipg_app_reply_laws.proofs.Trials.{tries, follows}
 
 -- what is known of the crates below
 pub record Known : Type 0 where
-  pub exactly : ReadsExactly
-  pub formed : ReadsFormed
-  pub keeps : KeepsTokens
-  pub readable : FormedIsReadable
+  pub readable : ReadIsReadable
   pub faultless : FaultlessIsFormed
   pub completing : CompletedIsFormed
+  pub as_ordered : GoodAsOrdered
   pub are_parts : ConditionsAreParts
   pub is_part : JointIsPart
+  pub noted : NotedSomehow
   pub accepts : AcceptsIsTotal
   pub held : HeldIsTotal
   pub of_one : TextIsOfOne
@@ -170,7 +170,7 @@ module _ (laws : Known) (told : List ℕ → Told) (known : (name : List ℕ) �
   by_core : (text : List ℕ) (next : Grammar → Order) → ((g : Grammar) → Good g → Replies told (next g)) → Replies told (core_of text next)
   by_core text next each =
       replies_finds told (CoreOf text) (λ answer. have answer next)
-      (core laws.exactly laws.formed laws.keeps laws.readable laws.faultless laws.completing text)
+      (core laws.readable laws.faultless laws.completing laws.as_ordered text)
       (λ answer is. replies_have told answer next (λ g e. each g (core_good text g (subst (CoreOf text) e is))))
 
   by_accepted : (g : Grammar) → Good g → (next : Grammar → Order) → ((same : Grammar) → Good same → Total same → Replies told (next same))
@@ -245,7 +245,7 @@ module _ (laws : Known) (told : List ℕ → Told) (known : (name : List ℕ) �
   by_explain : (name input text : List ℕ) → Replies told (explain_text name input text)
   by_explain name input text =
       replies_finds told (Clears text) (λ answer. have (or_told name text answer) (follow name text input))
-      (clears laws.exactly laws.formed laws.keeps laws.readable laws.faultless laws.completing laws.are_parts laws.is_part text)
+      (clears laws.readable laws.faultless laws.completing laws.as_ordered laws.are_parts laws.is_part laws.noted text)
       (λ answer clear. replies_have told (or_told name text answer) (follow name text input)
       (λ made e. by_follow name text input made (clear_of name text answer made clear e)))
 
@@ -288,7 +288,7 @@ module _ (laws : Known) (told : List ℕ → Told) (known : (name : List ℕ) �
       by_text (kind_of grammar) grammar (λ text. explain_text grammar input text) (λ text. by_explain grammar input text)
   by_request (Some (Explain grammar None)) has =
       by_text (kind_of grammar) grammar (λ text. says (Explains grammar text)) (λ text. replies_says told (Explains grammar text)
-      (explains laws.exactly laws.formed laws.keeps laws.readable laws.faultless laws.completing laws.are_parts laws.is_part grammar text))
+      (explains laws.readable laws.faultless laws.completing laws.as_ordered laws.are_parts laws.is_part laws.noted grammar text))
   by_request (Some (Help command)) has = replies_only told (help_said command)
   by_request (Some Version) has = replies_only told version_said
   by_request (Some (View grammar input None)) has = by_use grammar (Parse show.View input) tt

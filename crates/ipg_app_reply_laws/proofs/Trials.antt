@@ -63,4 +63,4 @@ module _ (ends : EndsAsMeant) (are_known : KeysAreKnown) (over : CountsOver) (no
   follows s is =
       let m = means g good total s.input is in
       let f = findings ends g good s.input m.0 m.1 in
-      some (found_said s f.0, record { found = f.0; are = f.1; is = refl })
+      some (found_said s g f.0, record { found = f.0; are = f.1; is = refl })

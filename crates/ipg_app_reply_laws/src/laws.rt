@@ -2,6 +2,7 @@
 
 ghost use Rattle.ipg_app_reply_laws.specs.Replies.{SomeReply};
 
+use ipg_app_values::laws::noted_somehow;
 use ipg_complete::laws::completed_is_formed;
 use ipg_core::laws::{holds_its_bytes, lies_within};
 use ipg_cover_leaves::laws::{all_put_comes_back, leaves_agree};
@@ -13,10 +14,10 @@ use ipg_mach_count_laws::laws::{
     all_where_none_kept, counts_over, keys_are_known, none_where_first_kept,
 };
 use ipg_mach_moves::laws::ends_as_meant;
-use ipg_names::laws::{faultless_is_formed, formed_is_readable};
+use ipg_names::laws::faultless_is_formed;
+use ipg_names_text::laws::read_is_readable;
+use ipg_order::laws::good_as_ordered;
 use ipg_proof::laws::{accepts_is_total, text_is_of_one};
-use ipg_read_canonical_laws::laws::{keeps_tokens, reads_formed};
-use ipg_read_syntax::laws::reads_exactly;
 use ipg_store::laws::held_is_total;
 
 /// To words that ask neither for a certificate nor for a table file it can't be that nothing is said, whatever is told of files, where
@@ -24,14 +25,13 @@ use ipg_store::laws::held_is_total;
 pub fn some_reply()
     ensures { SomeReply }
 {
-    reads_exactly();
-    reads_formed();
-    keeps_tokens();
-    formed_is_readable();
+    read_is_readable();
     faultless_is_formed();
     completed_is_formed();
+    good_as_ordered();
     conditions_are_parts();
     joint_is_part();
+    noted_somehow();
     accepts_is_total();
     held_is_total();
     text_is_of_one();

@@ -12,7 +12,6 @@ use Rattle.ipg_lin.specs.Form.{Form, Assignment, sum_at, value_at, terms_width, 
 use Rattle.ipg_lin.specs.Formula.{holds_at, holds_step, every, some, greatest, width, width_step, LiesIn, Solvable}
 use Rattle.ipg_lin.specs.declared.formula.Formula.{Formula}
 use Rattle.ipg_lin.specs.declared.formula.Formula.TheVariants as formula
-use Rattle.ipg_lin.specs.declared.formula.Formula.TheOpen.{Formula-F}
 use Rattle.ipg_lin.specs.declared.formula.Formula.TheFolds.{fold-Formula}
 use Rattle.ipg_lin.specs.declared.formula.Boxed.{Boxed}
 use Rattle.ipg_lin.specs.Members.{by_members, folds-Atom, folds-All, folds-Any}
@@ -24,11 +23,16 @@ use Rattle.ipg_cert.specs.Checks.{combines, is_choice, members_in, cases_of, ref
 use Rattle.ipg_solve.specs.declared.span.Span.{Span}
 use Rattle.ipg_solve.specs.Spans.{span_at, end_of, least}
 use Rattle.ipg_solve.specs.Closes.{entry_of, AreSpans}
-use Rattle.ipg_cover_refute_laws.proofs.Ends.{both_true, atom_combines}
+use Rattle.ipg_facts_laws.specs.Light.{is_light, light_step, AreOrdered}
+use Rattle.ipg_solve.specs.Laws.{EndsCombine}
 
 by : {A B C : Type 0} → A ⊎ B → (A → C) → (B → C) → C
 by (inl a) f g = f a
 by (inr b) f g = g b
+
+both_true : (a b : Bool) → (a && b) ≡ true → (a ≡ true) × (b ≡ true)
+both_true true b h = (refl, h)
+both_true false b h = absurd (cc)
 
 append_nil : {X : Type 0} (xs : List X) → xs ++ [] ≡ xs
 append_nil [] = refl
@@ -140,17 +144,6 @@ of_all fs = ap (λ (t : Told). t.facts) (folds-All Told told_step fs) ∙ facts_
 of_any : (fs : List Formula) → facts_of (formula.Any fs) ≡ Choice fs ∷ []
 of_any fs = ap (λ (t : Told). t.facts) (folds-Any Told told_step fs) ∙ ap (λ gs. Choice gs ∷ []) (wholes fs (all_whole fs))
 
--- ---- within the limits
-
-abbrev pub light_step : Formula-F Bool → Bool
-light_step (Formula-F.Atom form) = nat_le (length form.terms) 64 && are_coefficients form.terms
-light_step (Formula-F.All members) = every members
-light_step (Formula-F.Any members) = every members
-
--- each form has 64 terms at most, with factors of 2^40 in size at most, and none is 0
-abbrev pub is_light : Formula → Bool
-is_light = fold-Formula Bool light_step
-
 -- ---- where each variable has one value, some atom is ruled out
 
 abbrev at_pins : List Span → Assignment
@@ -177,7 +170,7 @@ or_false : (a b : Bool) → a || b ≡ false → (a ≡ false) × (b ≡ false)
 or_false true b e = absurd (cc)
 or_false false b e = (refl, e)
 
-module _ (vars : ℕ) (pins : List Span) (exact : AreExact pins) where
+module _ (ends : EndsCombine) (vars : ℕ) (pins : List Span) (exact : AreExact pins) where
   abbrev IsClosed : Formula → Type 0
   IsClosed f = (facts : List Fact) → AreSpans facts pins → is_light f ≡ true → width f ≤ length pins → holds_at (at_pins pins) f ≡ false
       → Have facts (facts_of f) → Refutable vars facts
@@ -190,7 +183,7 @@ module _ (vars : ℕ) (pins : List Span) (exact : AreExact pins) where
       let own = have (AtMost form) (0, ap (λ fs. slice_get fs 0) (of_atom form)) in
       let value = ap (λ z. z +ℤ form.constant) (least_is pins exact form.terms wide) in
       let over = ap (int_lt (pos 0)) value ∙ above (value_at (at_pins pins) form) (sym (folds-Atom Bool (holds_step (at_pins pins)) form) ∙ fails) in
-      combining vars facts ((1, own.0) ∷ map (entry_of pins) form.terms) (atom_combines facts pins own.0 form are wide few limits.1 own.1 over)
+      combining vars facts ((1, own.0) ∷ map (entry_of pins) form.terms) (ends facts pins own.0 form are wide few limits.1 own.1 over)
     where
       is_few : (n : ℕ) → nat_le n 64 ≡ true → n ≤ 64
       is_few n e = grind (arith, nat_tests)
@@ -241,10 +234,6 @@ module _ (vars : ℕ) (pins : List Span) (exact : AreExact pins) where
 
 -- ---- each variable has a value
 
--- the bounds of each variable are such
-abbrev pub AreOrdered : List (ℤ × ℤ) → Type 0
-AreOrdered bounds = (x : ℕ) (low high : ℤ) → slice_get bounds x ≡ Some (low, high) → low ≤ℤ high
-
 apart : (low high : ℤ) → low ≤ℤ high → (n : ℕ) × (low +ℤ pos n ≡ high)
 apart (pos a) (pos b) le = (b - a, omega (arith, ints, le))
 apart (pos a) (negsuc b) le = absurd (omega (arith, ints, le))
@@ -273,7 +262,7 @@ module _ (vars x : ℕ) (below : x < vars) (first : List Fact) (low high : ℤ) 
 
 -- ---- one variable after another, the last one first
 
-module _ (f : Formula) (box : Boxed) (ordered : AreOrdered box.bounds) (light : is_light f ≡ true) (within : width f ≤ length box.bounds)
+module _ (ends : EndsCombine) (f : Formula) (box : Boxed) (ordered : AreOrdered box.bounds) (light : is_light f ≡ true) (within : width f ≤ length box.bounds)
     (unsolved : ¬ Solvable f box) where
   abbrev vars : ℕ
   vars = length box.bounds
@@ -318,7 +307,7 @@ module _ (f : Formula) (box : Boxed) (ordered : AreOrdered box.bounds) (light : 
   all_pinned : (facts : List Fact) (pins : List Span) → Keeps facts root → ArePinned 0 facts pins → Refutable vars facts
   all_pinned facts pins keeps are =
       let size : length pins ≡ vars = (let c = are.count in omega (arith, c)) in
-      close vars pins are.exact f facts
+      close ends vars pins are.exact f facts
       (λ x lt. let s = are.stand x lt in let at : 0 + x ≡ x = omega arith in
       (s.0 ∙ ap (λ m. Some (at_least m (span_at pins x).low)) at, s.1 ∙ ap (λ m. Some (at_most m (span_at pins x).high)) at))
       light (let w = within in omega (arith, w, size)) (fails (holds_at (at_pins pins) f) refl)

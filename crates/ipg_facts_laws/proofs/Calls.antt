@@ -18,7 +18,7 @@ use Rattle.ipg_core.specs.Meaning.{kept, den, Call, Frame, State, Place, environ
 use Rattle.ipg_core.specs.Meaning.{symbol_on, slot_on, pick_on, item_end, item_on, many_on, repetition_on, times, items_on, term_on}
 use Rattle.ipg_core.specs.declared.grammar.Primitive.{Primitive}
 use Rattle.ipg_core.specs.declared.grammar.Primitive.TheVariants.{Bytes}
-use Rattle.ipg_facts_laws.proofs.Asks.{Asks, all_append, asks_finish, asks_stop, asks_value, asks_some, asks_bind, asks_chosen}
+use Rattle.ipg_facts_laws.proofs.Asks.{Asks, asks_finish, asks_stop, asks_value, asks_some, asks_after, asks_bind, asks_chosen}
 use Rattle.ipg_core.specs.Touch.{touches, ends_of}
 use Rattle.ipg_core.specs.declared.grammar.CoreTerm.{CoreTerm}
 use Rattle.ipg_core.specs.declared.grammar.CoreTerm.TheVariants.{Slot, Set, Test, Repeat, Many, Pick}
@@ -70,8 +70,7 @@ kept_go (Err Deep) items go k = asks_stop Deep
 
 kept_asks : {Q : Asked → Type 0} (item : Run Kid) (items : List Kid) (go : ℕ → List Kid → Run (List Kid)) → Asks Q item
     → ((one : Kid) → touches (ends_of one) ≡ true → Asks Q (go (ends_of one).end (items ++ one ∷ []))) → Asks Q (after item.asked (kept item.answer items go))
-unfolding after
-kept_asks {Q} item items go h k = record { each = all_append Q item.asked _ h.each (kept_go {Q = Q} item.answer items go k).each }
+kept_asks item items go h k = asks_after item.asked _ h.each (kept_go item.answer items go k)
 
 -- what the items of an array from a to b allow
 record ItemsAllow (call : Call) (f : Frame) (Q : Asked → Type 0) (term : ℕ) (state : State) (slot : CoreSlot) (a b : ℤ) : Type 0 where

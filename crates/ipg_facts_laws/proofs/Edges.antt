@@ -1,6 +1,6 @@
 -- Each call that a rule makes is an edge's; on the whole part, the edge is reached.
-use Rattle.std.proofs.Common.{◌≡◌, ℕ, zero, suc, ◌+◌, refl, sym, ap, ◌∙◌, subst, arith, List, [], ◌∷◌, ◌++◌, append_assoc, Option, Some, None, Result}
-use Rattle.std.proofs.Common.{Ok, Err, length}
+use Rattle.std.proofs.Common.{◌≡◌, ℕ, zero, suc, ◌+◌, refl, sym, ap, ◌∙◌, subst, arith, List, [], ◌∷◌, ◌++◌, append_assoc, Option, Some, None}
+use Rattle.std.proofs.Common.{Ok, length}
 use Rattle.std.specs.Prelude.{slice_get, unwrap_or, Contains}
 use Rattle.std.specs.List.{AllByRecursion}
 use Rattle.std.proofs.lemmas.Option.{slice_get_within, unwrap_or-slice_get}
@@ -10,14 +10,16 @@ use Rattle.ipg_core.specs.declared.grammar.CoreAlt.{CoreAlt}
 use Rattle.ipg_core.specs.declared.grammar.CoreRule.{CoreRule}
 use Rattle.ipg_core.specs.Grammar.{Grammar, rule_at}
 use Rattle.ipg_core.specs.Environment.{Values}
-use Rattle.ipg_core.specs.Run.{Stop, NoTree, Asked, Run, finish, stop, after, go_on, ◌>>=◌}
+use Rattle.ipg_core.specs.Run.{NoTree, Asked, Run, finish}
 use Rattle.ipg_core.specs.Meaning.{Call, Frame, State, term_on, terms_on, start, alt_on, alts_on, rule_run, rule_on, den}
 use Rattle.ipg_core.specs.Mention.{term_syms}
 use Rattle.ipg_core.specs.Good.{AltAt}
 use Rattle.ipg_graph.specs.declared.edge.Edge.{Edge}
 use Rattle.ipg_facts_edges.specs.Edges.{numbered, edges_of}
 use Rattle.ipg_facts_laws.specs.Ends.{IsEdgeCall, CallsAreEdges}
-use Rattle.ipg_facts_laws.proofs.Named.{Asks, IsNamed, asks_finish, asks_stop, asks_bind, asks_else, term_named}
+use Rattle.ipg_facts_laws.proofs.Runs.{went, goes}
+use Rattle.ipg_facts_laws.proofs.Asks.{Asks, asks_finish, asks_stop, asks_bind, asks_else}
+use Rattle.ipg_facts_laws.proofs.Named.{IsNamed, term_named}
 
 -- ---- where things stand in a list
 
@@ -120,25 +122,6 @@ module _ (g : Grammar) (h r a : ℕ) (s : List ℕ) (outer : Values) (rule : Cor
 
 -- ---- terms one after another
 
-bind_ok : {A B : Type 0} (run : Run A) (go : A → Run B) (a : A) → run.answer ≡ Ok a → (run >>= go).answer ≡ (go a).answer
-unfolding ◌>>=◌ after go_on
-bind_ok run go a e = rw e refl
-
-record Passed {A B : Type 0} (run : Run A) (go : A → Run B) (b : B) : Type 0 where
-  value : A
-  first : run.answer ≡ Ok value
-  rest : (go value).answer ≡ Ok b
-
-passed_go : {A B : Type 0} (answer : Result A Stop) (go : A → Run B) (b : B) → (go_on answer go).answer ≡ Ok b
-    → (a : A) × ((answer ≡ Ok a) × ((go a).answer ≡ Ok b))
-unfolding go_on stop
-passed_go (Ok a) go b e = (a, (refl, e))
-passed_go (Err why) go b e = absurd (cc)
-
-passed : {A B : Type 0} (run : Run A) (go : A → Run B) (b : B) → (run >>= go).answer ≡ Ok b → Passed run go b
-unfolding ◌>>=◌ after
-passed run go b e = let p = passed_go run.answer go b e in record { value = p.0; first = p.1.0; rest = p.1.1 }
-
 module _ (c : Call) (f : Frame) (terms : List CoreTerm) where
   same_state : (a b : State) → (finish a).answer ≡ Ok b → a ≡ b
   unfolding finish
@@ -146,7 +129,7 @@ module _ (c : Call) (f : Frame) (terms : List CoreTerm) where
 
   one_term : (u : ℕ) (state next : State) → (term_on c f state u (slice_get terms u)).answer ≡ Ok next → (terms_on c f terms (u ∷ []) state).answer ≡ Ok next
   unfolding terms_on finish
-  one_term u state next e = bind_ok (term_on c f state u (slice_get terms u)) _ next e
+  one_term u state next e = goes (term_on c f state u (slice_get terms u)) _ next e
 
   one_more : (before : List ℕ) (u : ℕ) (from state next : State) → (terms_on c f terms before from).answer ≡ Ok state
       → (term_on c f state u (slice_get terms u)).answer ≡ Ok next → (terms_on c f terms (before ++ u ∷ []) from).answer ≡ Ok next
@@ -154,8 +137,8 @@ module _ (c : Call) (f : Frame) (terms : List CoreTerm) where
   one_more [] u from state next h k =
       one_term u from next (subst (λ s. (term_on c f s u (slice_get terms u)).answer ≡ Ok next) (sym (same_state from state h)) k)
   one_more (v ∷ before) u from state next h k =
-      let p = passed (term_on c f from v (slice_get terms v)) _ state h in
-      bind_ok (term_on c f from v (slice_get terms v)) _ p.value p.first ∙ one_more before u p.value state next p.rest k
+      let p = went (term_on c f from v (slice_get terms v)) _ state h in
+      goes (term_on c f from v (slice_get terms v)) _ p.value p.first ∙ one_more before u p.value state next p.rest k
 
 module _ (g : Grammar) (h r a : ℕ) (s : List ℕ) (outer : Values) (rule : CoreRule) (alt : CoreAlt) (is : AltAt g rule alt (r, a)) where
   terms_call : (before order : List ℕ) (state : State) → alt.order ≡ before ++ order

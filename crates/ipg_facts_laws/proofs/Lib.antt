@@ -48,4 +48,6 @@ pub mod Live
 pub mod Totals
 pub mod Nesting
 pub mod Solving
+pub mod Stated
 pub mod Offers
+pub mod Light

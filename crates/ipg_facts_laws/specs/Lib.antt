@@ -32,3 +32,5 @@ pub mod Before
 pub mod Offers
 -- the variables of a gap's formula
 pub mod Gapped
+-- the limits of its forms
+pub mod Light

@@ -5,6 +5,7 @@ ghost use Rattle.ipg_facts_laws.specs.Before.{JointsSolveBefore, KeepsSolveBefor
 ghost use Rattle.ipg_facts_laws.specs.Bounded.{JointIsPart};
 ghost use Rattle.ipg_facts_laws.specs.Finished.{FinishedFit};
 ghost use Rattle.ipg_facts_laws.specs.Gapped.{GapsAreBounded};
+ghost use Rattle.ipg_facts_laws.specs.Light.{GapsAreLight, GapsAreOrdered};
 ghost use Rattle.ipg_facts_laws.specs.Missed.{AllMissedSolve};
 ghost use Rattle.ipg_facts_laws.specs.Offers.{ConditionsOffer, JointsOffer};
 ghost use Rattle.ipg_facts_laws.specs.Laws.{ConditionsAreParts, EdgesAreFew, EdgesAreInside, EdgesCall, FactsSolve, JointSolvesParts, MembersAreKnown};
@@ -150,4 +151,14 @@ pub fn joints_offer()
 /// The formula of a gap has bounds for each of its variables, of which the second is the place.
 pub fn gaps_are_bounded()
     ensures { GapsAreBounded }
+{}
+
+/// Each form in the formula of a gap has 64 terms at most, with factors of 2^40 in size at most, and none is 0.
+pub fn gaps_are_light()
+    ensures { GapsAreLight }
+{}
+
+/// No bound of a gap is empty: the least value of a variable is not above its greatest.
+pub fn gaps_are_ordered()
+    ensures { GapsAreOrdered }
 {}

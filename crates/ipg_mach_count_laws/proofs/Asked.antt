@@ -10,7 +10,8 @@ use Rattle.ipg_mach_moves.specs.Moves.{Key, OpenCall, at_hand, asked_part, asked
 use Rattle.ipg_mach_moves.specs.Laws.{IsRight}
 use Rattle.ipg_mach_count_laws.specs.Counts.{keys_in, direct}
 use Rattle.ipg_mach_count_laws.proofs.Once.{Asking, reply}
-use Rattle.ipg_mach_count_laws.proofs.Parts.{StandsAt, part_at, part_stands}
+use Rattle.ipg_mach_count_laws.specs.Standing.{StandsAt}
+use Rattle.ipg_mach_count_laws.proofs.Parts.{part_at, part_stands}
 
 module _ (s : List ℕ) (c : OpenCall) (one : Asking c.frame (λ call. at_hand call c)) (stands : StandsAt s c.from c.frame.bytes) where
   abbrev g : Grammar

@@ -17,7 +17,8 @@ use Rattle.ipg_mach_count_laws.proofs.Follows.{Holding, Steps, follows}
 use Rattle.ipg_mach_count_laws.proofs.Once.{Quiet, Asking, hand_once, reply}
 use Rattle.ipg_mach_count_laws.proofs.Settled.{NotDeep, IsLast, not_deep, is_last}
 use Rattle.ipg_mach_count_laws.proofs.Stays.{ends_once, Goes, here, goes_by, goes_on, Below, ended_low}
-use Rattle.ipg_mach_count_laws.proofs.Parts.{StandsAt, whole_stands}
+use Rattle.ipg_mach_count_laws.specs.Standing.{StandsAt}
+use Rattle.ipg_mach_count_laws.proofs.Parts.{whole_stands}
 use Rattle.ipg_mach_count_laws.proofs.Asked.{there, found_is, right_is}
 use Rattle.ipg_mach_count_laws.proofs.Found.{found_knows, found_right, keys_are_known}
 use Rattle.ipg_mach_count_laws.proofs.Nests.{nested_some, has_among, among_has, alike_nested}

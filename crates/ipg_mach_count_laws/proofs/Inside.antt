@@ -14,7 +14,8 @@ use Rattle.ipg_core.specs.Laws.{AskedFits, AsksWhatFits}
 use Rattle.ipg_mach_moves.specs.Moves.{Key}
 use Rattle.ipg_mach_count_laws.specs.Counts.{calls_of, key_of, key_or, keys_over, keys_in, direct, Has, first_key, IsChain}
 use Rattle.ipg_mach_count_laws.specs.Laws.{FreshLieInside}
-use Rattle.ipg_mach_count_laws.proofs.Parts.{StandsAt, part_at, part_stands, part_stands_there, whole_part}
+use Rattle.ipg_mach_count_laws.specs.Standing.{StandsAt}
+use Rattle.ipg_mach_count_laws.proofs.Parts.{part_at, part_stands, part_stands_there, whole_part}
 use Rattle.ipg_mach_count_laws.proofs.Grown.{has_either}
 
 part_long : (s : List ℕ) (from to : ℕ) → from ≤ to → to ≤ length s → length (part s from to) ≡ to - from

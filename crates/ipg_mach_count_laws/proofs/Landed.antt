@@ -9,7 +9,7 @@ use Rattle.ipg_mach_moves.specs.Moves.{Key, OpenCall, Highest, Holds, Known, Eva
 use Rattle.ipg_mach_count_laws.specs.Counts.{keys_in, Has}
 use Rattle.ipg_mach_count_laws.specs.Kept.{AreAmong}
 use Rattle.ipg_mach_count_laws.proofs.Stays.{Goes, goes_on}
-use Rattle.ipg_mach_count_laws.proofs.Parts.{StandsAt}
+use Rattle.ipg_mach_count_laws.specs.Standing.{StandsAt}
 use Rattle.ipg_mach_count_laws.proofs.Grown.{Reached, New, Grown, grown_both, Right, Fine, Learnt, learnt_none, learnt_both}
 
 abbrev pub evaluation : List OpenCall → Highest → Known → Tally → Evaluation

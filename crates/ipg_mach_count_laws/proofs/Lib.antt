@@ -1,10 +1,10 @@
 pub mod Follows
+pub mod Parts
 pub mod Plain
 pub mod Once
 pub mod Stays
 pub mod Settled
 pub mod Alone
-pub mod Parts
 pub mod Heights
 pub mod Asked
 pub mod Grown

@@ -1,6 +1,7 @@
 -- A call of a global rule is passed no attributes.
 use Rattle.std.proofs.Common.{◌≡◌, ℕ, suc, ◌+◌, ℤ, sym, ap, subst, List, [], ◌∷◌, ◌++◌, Option, Some, None, Result, Ok, Err, Bool, true, false}
 use Rattle.std.proofs.Common.{if◌then◌else◌, length}
+use Rattle.std.specs.Prelude.{slice_get}
 use Rattle.std.specs.List.{AllByRecursion}
 use Rattle.ipg_core.specs.declared.grammar.Primitive.{Primitive}
 use Rattle.ipg_core.specs.declared.grammar.Primitive.TheVariants.{Bytes}
@@ -9,16 +10,18 @@ use Rattle.ipg_core.specs.declared.grammar.Sym.TheVariants.{Text, Prim, Rule}
 use Rattle.ipg_core.specs.declared.grammar.CoreExpr.{CoreExpr}
 use Rattle.ipg_core.specs.declared.grammar.CoreSlot.{CoreSlot}
 use Rattle.ipg_core.specs.declared.grammar.CoreTerm.{CoreTerm}
-use Rattle.ipg_core.specs.declared.grammar.CoreTerm.TheVariants.{Slot, Repeat, Many, Pick}
+use Rattle.ipg_core.specs.declared.grammar.CoreTerm.TheVariants.{Slot, Set, Test, Repeat, Many, Pick}
 use Rattle.ipg_core.specs.Grammar.{Grammar, rule_at, holder_of}
 use Rattle.ipg_core.specs.Part.{interval}
 use Rattle.ipg_core.specs.Environment.{Values}
 use Rattle.ipg_core.specs.Eval.{eval, is_zero}
-use Rattle.ipg_core.specs.Run.{Stop, Asked, Run, finish, stop, after, go_on, ◌>>=◌}
+use Rattle.ipg_core.specs.Run.{Stop, NoTree, Asked, Run, finish, stop, after, go_on, ◌>>=◌}
 use Rattle.ipg_core.specs.Meaning.{Frame, State, Place, environment, value_in, outer_for, ask, token_on, number_on, primitive_on, symbol_on, slot_on}
 use Rattle.ipg_core.specs.Meaning.{item_end, item_on, pick_on}
-use Rattle.ipg_mach_moves.specs.Moves.{Entry, Outside, Items, Turns, silent, parsed}
+use Rattle.ipg_mach_moves.specs.Moves.{Entry, Outside, Items, Turns, OpenCall, silent, parsed, advance, first_left, at_hand}
+use Rattle.ipg_mach_count_laws.specs.Standing.{CallsSit}
 use Rattle.ipg_mach_count_laws.proofs.Follows.{value_asks, some_asks}
+use Rattle.ipg_mach_count_laws.proofs.Parts.{part_stands}
 
 abbrev pub IsPlain : Grammar → Asked → Type 0
 IsPlain g ask = holder_of (rule_at g ask.callee) ≡ None → ask.outer ≡ []
@@ -96,3 +99,27 @@ module _ (f : Frame) where
   pub plain_one : (state : State) (u : ℕ) (entry : Entry) (term : CoreTerm) (one : Asked) → (parsed silent f state u entry term).asked ≡ one ∷ []
       → IsPlain f.grammar one
   plain_one state u entry term one e = (subst (AllByRecursion (IsPlain f.grammar)) e (plain_parsed state u entry term).all).0
+
+  plain_advance : (state : State) (u : ℕ) (entry : Entry) (term : Option CoreTerm) → Plain (advance silent f state u entry term)
+  plain_advance state u entry None = plain_stop NoTree
+  plain_advance state u Outside (Some (Set attr e)) = plain_value state None e _ (λ z. plain_finish _)
+  plain_advance state u Outside (Some (Test e)) =
+      plain_value state None e _ (λ z. plain_chosen _ _ _ (plain_stop NoTree) (plain_finish _))
+  plain_advance state u Outside (Some (Repeat first last one from to)) =
+      plain_value state None first _ (λ a. plain_value state None last _ (λ b. plain_finish _))
+  plain_advance state u Outside (Some (Many one from to)) =
+      plain_value state None from _ (λ l. plain_value state None to _ (λ r.
+      plain_then _ _ (some_asks (interval (length f.bytes) l r)) (λ ends. plain_finish _)))
+  plain_advance state u entry (Some term) = record { all = (plain_parsed state u entry term).all }
+
+plain_left : (c : OpenCall) (left : List ℕ) → AllByRecursion (IsPlain c.frame.grammar) (first_left silent c left).asked
+unfolding stop
+plain_left c [] = tt
+plain_left c (u ∷ left) = (plain_advance c.frame c.state u c.entry (slice_get c.terms u)).all
+
+-- each call that the term at hand makes
+plain_hand : (c : OpenCall) (ask : Asked) (more : List Asked) → (at_hand silent c).asked ≡ ask ∷ more → IsPlain c.frame.grammar ask
+plain_hand c ask more e = (subst (AllByRecursion (IsPlain c.frame.grammar)) e (plain_left c c.left)).0
+
+pub calls_sit : CallsSit
+calls_sit s c ask more stands asked = (part_stands s c.from ask.from ask.to c.frame.bytes stands, plain_hand c ask more asked)

@@ -13,7 +13,8 @@ use Rattle.ipg_mach_moves.specs.Laws.{ParsesByOneCall}
 use Rattle.ipg_mach_count_laws.specs.Counts.{calls_of, key_of, key_or, keys_over, keys_in, direct, Has, first_key, IsChain, calls_by}
 use Rattle.ipg_mach_count_laws.specs.Kept.{IsFresh}
 use Rattle.ipg_mach_count_laws.specs.Laws.{FreshAtAnyHeight}
-use Rattle.ipg_mach_count_laws.proofs.Parts.{StandsAt, part_at, part_stands, part_stands_there, whole_part}
+use Rattle.ipg_mach_count_laws.specs.Standing.{StandsAt}
+use Rattle.ipg_mach_count_laws.proofs.Parts.{part_at, part_stands, part_stands_there, whole_part}
 use Rattle.ipg_mach_count_laws.proofs.Heights.{IsMade, calls_made, keys_agree}
 use Rattle.ipg_mach_count_laws.proofs.Grown.{has_either}
 

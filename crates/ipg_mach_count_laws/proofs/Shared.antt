@@ -14,7 +14,7 @@ use Rattle.ipg_mach_count_laws.proofs.Follows.{Holding, Steps, follows}
 use Rattle.ipg_mach_count_laws.proofs.Once.{Quiet, Asking, hand_once, reply}
 use Rattle.ipg_mach_count_laws.proofs.Settled.{NotDeep, IsLast, not_deep, is_last}
 use Rattle.ipg_mach_count_laws.proofs.Stays.{Goes, here, goes_by, goes_on}
-use Rattle.ipg_mach_count_laws.proofs.Parts.{StandsAt}
+use Rattle.ipg_mach_count_laws.specs.Standing.{StandsAt}
 use Rattle.ipg_mach_count_laws.proofs.Heights.{keys_are}
 use Rattle.ipg_mach_count_laws.proofs.Asked.{there, den_is, direct_is, found_is, right_is}
 use Rattle.ipg_mach_count_laws.proofs.Grown.{Reached, Grown, grown_none, grown_both, grown_hit, grown_opened, keys_with, TooDeep, learnt_none, learnt_back}

@@ -3,6 +3,7 @@ use Rattle.std.proofs.Common.{◌≡◌, ℕ, zero, suc, ◌+◌, refl, sym, ap,
 use Rattle.ipg_core.specs.Tree.{Tree}
 use Rattle.ipg_core.specs.Run.{Stop, NoTree, OutOfRange, Deep}
 use Rattle.ipg_mach_moves.specs.Moves.{Key, OpenCall, Highest, Works, Holds, Evaluation, move_by, move, moves, ended_by, ended}
+use Rattle.ipg_mach_count_laws.specs.Laws.{EndedStays}
 
 stays_by : (e : Evaluation) (highest : Highest) (lower : List OpenCall) (answer : Result Tree Stop) → e.lower ≡ lower → ended_by lower highest ≡ Some answer
     → move_by e highest ≡ e
@@ -16,7 +17,7 @@ stays_by e (Holds key (Err NoTree)) (c ∷ lower) answer is ends = absurd (cc)
 stays_by e (Holds key (Err Deep)) [] answer is ends = rw is refl
 stays_by e (Holds key (Err Deep)) (c ∷ lower) answer is ends = absurd (cc)
 
-stays : (n : ℕ) (e : Evaluation) (answer : Result Tree Stop) → ended e ≡ Some answer → moves n e ≡ e
+pub stays : EndedStays
 unfolding moves move
 stays zero e answer ends = refl
 stays (suc n) e answer ends = ap (moves n) (stays_by e e.highest e.lower answer refl ends) ∙ stays n e answer ends

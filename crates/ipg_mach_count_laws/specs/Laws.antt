@@ -6,7 +6,7 @@ use Rattle.ipg_core.specs.Grown.{IsInput}
 use Rattle.ipg_core.specs.Tree.{Tree}
 use Rattle.ipg_core.specs.Run.{Stop, OutOfRange, Deep}
 use Rattle.ipg_core.specs.Meaning.{den}
-use Rattle.ipg_mach_moves.specs.Moves.{Key, Known, find, moves, opening, ended}
+use Rattle.ipg_mach_moves.specs.Moves.{Key, Evaluation, Known, find, moves, opening, ended}
 use Rattle.ipg_mach_moves.specs.Laws.{AreRight}
 use Rattle.ipg_mach_count_laws.specs.Counts.{count, nest, Has, first_key, IsReach, calls_by}
 use Rattle.ipg_mach_count_laws.specs.Depth.{nested}
@@ -91,3 +91,7 @@ OneReach = (g : Grammar) (s : List ℕ) (h : ℕ) (keys same : List Key) → IsR
 abbrev pub FreshLieInside : Type 0
 FreshLieInside = (g : Grammar) (s : List ℕ) (h : ℕ) (kept keys : List Key) → Good g → IsInput s → IsFresh g s h kept keys
     → (key : Key) → Has keys key → (key.from ≤ key.to) × (key.to ≤ length s)
+
+-- one that has ended stays
+abbrev pub EndedStays : Type 0
+EndedStays = (n : ℕ) (e : Evaluation) (answer : Result Tree Stop) → ended e ≡ Some answer → moves n e ≡ e

@@ -6,3 +6,5 @@ pub mod Kept
 pub mod Depth
 -- what its tally comes to
 pub mod Laws
+-- bytes that stand in the input
+pub mod Standing

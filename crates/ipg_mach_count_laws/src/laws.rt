@@ -1,8 +1,9 @@
 //! Laws of what an evaluation counts, each the contract of a function that calls at most the laws it stands on.
 
-ghost use Rattle.ipg_mach_count_laws.specs.Laws.{AllWhereNoneKept, CountsOver, CountsWithMemo, CountsWithoutMemo, DeepestOver};
+ghost use Rattle.ipg_mach_count_laws.specs.Laws.{AllWhereNoneKept, CountsOver, CountsWithMemo, CountsWithoutMemo, DeepestOver, EndedStays};
 ghost use Rattle.ipg_mach_count_laws.specs.Laws.{FewerWhereMoreKept, FreshAtAnyHeight, FreshLieInside, KeysAreKnown};
 ghost use Rattle.ipg_mach_count_laws.specs.Laws.{KnownAtEnd, NoneWhereFirstKept, OneFresh, OneReach};
+ghost use Rattle.ipg_mach_count_laws.specs.Standing.{CallsSit, StandsThere};
 
 use ipg_core::laws::{asks_what_fits, heights_agree, turns_suffice};
 use ipg_mach_moves::laws::parses_by_one_call;
@@ -100,3 +101,18 @@ pub fn one_reach()
     all_where_none_kept();
     one_fresh();
 }
+
+/// Bytes that stand in the input are its part there.
+pub fn stands_there()
+    ensures { StandsThere }
+{}
+
+/// What an open call calls is on bytes that stand in the input where its own do; and a global rule is passed no attributes.
+pub fn calls_sit()
+    ensures { CallsSit }
+{}
+
+/// An evaluation that has ended stays as it is, however often it is moved.
+pub fn ended_stays()
+    ensures { EndedStays }
+{}

@@ -1,13 +1,13 @@
 -- An evaluation with a memo beside one without: at each call to which the first comes the second does, and they tell the same.
-use Rattle.std.proofs.Common.{◌≡◌, ℕ, zero, suc, ◌+◌, refl, sym, ap, ◌∙◌, subst, List, [], Option, Some, None}
+use Rattle.std.proofs.Common.{◌≡◌, append-nil, ℕ, zero, suc, ◌+◌, refl, sym, ap, ◌∙◌, subst, List, [], Option, Some, None}
 use Rattle.ipg_core.specs.Grammar.{Grammar}
 use Rattle.ipg_mach_moves.specs.Moves.{OpenCall, Highest, Known, Evaluation, Tally, move, moves, opening, ended}
 use Rattle.ipg_mach_failures.specs.declared.story.Story.{Story}
 use Rattle.ipg_mach_failures.specs.Chain.{calls_in}
-use Rattle.ipg_mach_failures.specs.Furthest.{Furthest, highest_fails, story_with, stories, none_met, furthest_with, furthest_from, furthest}
+use Rattle.ipg_mach_failures.specs.Furthest.{Furthest, highest_fails, highest_reads, story_with, stories, none_met, furthest_with, furthest_from, furthest}
 use Rattle.ipg_mach_failures.specs.Laws.{NoneBehindEnd}
 use Rattle.ipg_mach_failure_laws.specs.Laws.{IsToldAs, ToldAlikeByMemo}
-use Rattle.ipg_mach_failure_laws.proofs.Parts.{whole_stands}
+use Rattle.ipg_mach_count_laws.specs.Standing.{CallsSit, StandsThere}
 use Rattle.ipg_mach_failure_laws.proofs.Settled.{same_told, both_told, others_told, from_front, from_both}
 use Rattle.ipg_mach_failure_laws.proofs.Stays.{moves_more, stories_more, met_once}
 use Rattle.ipg_mach_failure_laws.proofs.Leads.{bare, Leads, leads_stay}
@@ -35,7 +35,7 @@ module _ (g : Grammar) (s : List ℕ) where
   module _ (f other : Furthest) (lower : List OpenCall) (highest : Highest) (known : Known) (tally before : Tally)
       (step : Steps g s f lower highest known tally) where
     abbrev x : Option Story
-    x = story_with (calls_in lower) (highest_fails highest)
+    x = story_with (calls_in lower) (highest_reads highest) (highest_fails highest)
 
     -- the first move without a memo, and those behind it
     abbrev first : (later : Tally) × (move (bare lower highest before) ≡ bare step.mid step.middle later)
@@ -95,10 +95,10 @@ module _ (g : Grammar) (s : List ℕ) where
     alike_after : IsToldAs f other → IsToldAs (furthest_with f x) so_far
     alike_after alike = others_told (stories leads.count middle) (furthest_with f x) (furthest_with other x) leads.met (both_told f other x alike)
 
-  follows : (n : ℕ) (f other : Furthest) (lower : List OpenCall) (highest : Highest) (known : Known) (tally before : Tally) → Stands g s f lower highest known
+  follows : CallsSit → StandsThere → (n : ℕ) (f other : Furthest) (lower : List OpenCall) (highest : Highest) (known : Known) (tally before : Tally) → Stands g s f lower highest known
       → IsToldAs f other → Follows n f other lower highest known tally before
   unfolding moves stories
-  follows zero f other lower highest known tally before stands alike = record {
+  follows sit there zero f other lower highest known tally before stands alike = record {
     low = lower;
     next = highest;
     later = known;
@@ -111,10 +111,10 @@ module _ (g : Grammar) (s : List ℕ) where
     found = f;
     stands = stands;
   }
-  follows (suc n) f other lower highest known tally before stands alike =
-      let step = steps g s f lower highest known tally stands in
+  follows sit there (suc n) f other lower highest known tally before stands alike =
+      let step = steps g s sit there f lower highest known tally stands in
       follows_one f other lower highest known tally before step n
-      (follows n _ _ step.low step.next step.later step.counted _ step.stands (alike_after f other lower highest known tally before step alike))
+      (follows sit there n _ _ step.low step.next step.later step.counted _ step.stands (alike_after f other lower highest known tally before step alike))
 
   -- ---- from the first rule on the whole input
 
@@ -122,7 +122,7 @@ module _ (g : Grammar) (s : List ℕ) where
   whole = record { rule = 0; from = 0; bytes = s; outer = [] }
 
   whole_sits : Sits g s whole
-  whole_sits = record { stands = whole_stands s; plain = λ global. refl }
+  whole_sits = record { stands = record { rest = []; is = append-nil s }; plain = λ global. refl }
 
   opens : Stands g s none_met [] (begun g s whole) []
   opens = record {
@@ -137,13 +137,13 @@ module _ (g : Grammar) (s : List ℕ) where
   abbrev pub one : Tally
   one = record { bodies = 1; hits = 0; deepest = 1 }
 
-  pub beside : (n : ℕ) → Follows n none_met none_met [] (begun g s whole) [] one one
-  beside n = follows n none_met none_met [] (begun g s whole) [] one one opens (same_told none_met)
+  pub beside : CallsSit → StandsThere → (n : ℕ) → Follows n none_met none_met [] (begun g s whole) [] one one
+  beside sit there n = follows sit there n none_met none_met [] (begun g s whole) [] one one opens (same_told none_met)
 
-pub told_alike_by_memo : NoneBehindEnd → ToldAlikeByMemo
+pub told_alike_by_memo : CallsSit → StandsThere → NoneBehindEnd → ToldAlikeByMemo
 unfolding opening
-told_alike_by_memo none g s n m answer other ends also =
-    let it = beside g s n in
+told_alike_by_memo sit there none g s n m answer other ends also =
+    let it = beside g s sit there n in
     let so : ended (moves it.count (opening g s None)) ≡ Some answer = ap ended it.is ∙ sym (ap ended it.goes) ∙ ends in
     subst (λ met. IsToldAs (furthest (stories n (opening g s (Some [])))) (furthest met)) (met_once none it.count m (opening g s None) answer other so also)
     it.alike

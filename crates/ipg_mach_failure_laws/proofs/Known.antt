@@ -10,7 +10,7 @@ use Rattle.ipg_core.specs.Run.{Stop, NoTree, OutOfRange, Deep, Asked}
 use Rattle.ipg_mach_moves.specs.Moves.{Key, OpenCall, Highest, Holds, Known, same_key, find, learned, opened, asked_part}
 use Rattle.ipg_mach_failures.specs.declared.story.Story.{Story}
 use Rattle.ipg_mach_failures.specs.Furthest.{Furthest, furthest_with}
-use Rattle.ipg_mach_failure_laws.proofs.Parts.{StandsAt, part_at}
+use Rattle.ipg_mach_count_laws.specs.Standing.{StandsAt, StandsThere}
 use Rattle.ipg_mach_failure_laws.proofs.Leads.{LeadsTo, leads_more}
 
 -- a call of a rule on bytes that begin at `from` in the input
@@ -38,12 +38,7 @@ same_by : (a b : Key) → same_key a b ≡ true → a ≡ b
 same_by a b e =
     let outer = and_parts _ _ e in
     let inner = and_parts _ _ outer.0 in
-    let rule : a.rule ≡ b.rule = eqb-true _ _ inner.0 in
-    let from : a.from ≡ b.from = eqb-true _ _ inner.1 in
-    let to : a.to ≡ b.to = eqb-true _ _ outer.1 in
-    ap (λ r. record { rule = r; from = a.from; to = a.to }) rule
-    ∙ ap (λ l. record { rule = b.rule; from = l; to = a.to }) from
-    ∙ ap (λ r. record { rule = b.rule; from = b.from; to = r }) to
+    (λ i. record { rule = eqb-true a.rule b.rule inner.0 i; from = eqb-true a.from b.from inner.1 i; to = eqb-true a.to b.to outer.1 i })
 
 module _ (g : Grammar) (s : List ℕ) where
   abbrev pub begun : Start → Highest
@@ -58,9 +53,9 @@ module _ (g : Grammar) (s : List ℕ) where
     pub stands : StandsAt s a.from a.bytes
     pub plain : holder_of (rule_at g a.rule) ≡ None → a.outer ≡ []
 
-  pub start_same : (a : Start) → Sits a → holder_of (rule_at g a.rule) ≡ None → start_at (key_of a) ≡ a
-  start_same a sits global =
-      ap (λ (bytes : List ℕ). record { rule = a.rule; from = a.from; bytes = bytes; outer = [] }) (part_at s a.from a.bytes sits.stands)
+  pub start_same : StandsThere → (a : Start) → Sits a → holder_of (rule_at g a.rule) ≡ None → start_at (key_of a) ≡ a
+  start_same there a sits global =
+      ap (λ (bytes : List ℕ). record { rule = a.rule; from = a.from; bytes = bytes; outer = [] }) (there s a.from a.bytes sits.stands)
       ∙ ap (λ (outer : Values). record { rule = a.rule; from = a.from; bytes = a.bytes; outer = outer }) (sym (sits.plain global))
 
   -- from its opening an evaluation without a memo comes to this, above whatever calls, and meets only failures that are settled
@@ -106,14 +101,14 @@ module _ (g : Grammar) (s : List ℕ) where
   learned_by f (Some holder) known key answer knows more = knows
 
   -- the answer of a call that has come to it
-  pub knows_learned : (f : Furthest) (a : Start) (known : Known) (key : Key) (answer : Result Tree Stop) → KnowsAll f known → Sits a → key ≡ key_of a
+  pub knows_learned : StandsThere → (f : Furthest) (a : Start) (known : Known) (key : Key) (answer : Result Tree Stop) → KnowsAll f known → Sits a → key ≡ key_of a
       → GoesDown answer → Began f a (Holds key answer) → KnowsAll f (learned (holder_of (rule_at g key.rule)) known key answer)
-  knows_learned f a known key answer knows sits is down began =
+  knows_learned stands f a known key answer knows sits is down began =
       learned_by f (holder_of (rule_at g key.rule)) known key answer knows (λ global. record { global = global; down = down; began = there global })
     where
       there : holder_of (rule_at g key.rule) ≡ None → Began f (start_at key) (Holds key answer)
       there global =
           let rule : key.rule ≡ a.rule = ap (λ (k : Key). k.rule) is in
           let same : a ≡ start_at key =
-          sym (ap start_at is ∙ start_same a sits (subst (λ r. holder_of (rule_at g r) ≡ None) rule global)) in
+          sym (ap start_at is ∙ start_same stands a sits (subst (λ r. holder_of (rule_at g r) ≡ None) rule global)) in
           subst (λ b. Began f b (Holds key answer)) same began

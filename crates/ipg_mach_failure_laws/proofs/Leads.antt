@@ -4,8 +4,9 @@ use Rattle.ipg_mach_moves.specs.Moves.{OpenCall, Highest, Evaluation, Tally, mov
 use Rattle.ipg_mach_failures.specs.declared.failure.Failure.{Failure}
 use Rattle.ipg_mach_failures.specs.declared.story.Call.{Call}
 use Rattle.ipg_mach_failures.specs.declared.story.Story.{Story}
+use Rattle.ipg_mach_failures.specs.declared.values.Valued.{Valued}
 use Rattle.ipg_mach_failures.specs.Chain.{calls_in}
-use Rattle.ipg_mach_failures.specs.Furthest.{Furthest, highest_fails, story_with, in_front, stories, furthest_with}
+use Rattle.ipg_mach_failures.specs.Furthest.{Furthest, highest_fails, highest_reads, story_with, in_front, stories, furthest_with}
 use Rattle.ipg_mach_failure_laws.proofs.Settled.{IsSettledIfAny, AreSettled, all_stay, all_both, settles_itself}
 use Rattle.ipg_mach_failure_laws.proofs.Stays.{moves_more, stories_more}
 
@@ -50,19 +51,20 @@ leads_both f lower highest mid middle low next first second tally =
           (all_both f _ _ one.met two.met);
     }
 
-front_settled : (f : Furthest) (calls : List Call) (failure : Option Failure) → IsSettledIfAny f failure
-    → AreSettled f (in_front (story_with calls failure) [])
-front_settled f calls None h = tt
-front_settled f calls (Some failure) h = (h, tt)
+front_settled : (f : Furthest) (calls : List Call) (read : Failure → List Valued) (failure : Option Failure) → IsSettledIfAny f failure
+    → AreSettled f (in_front (story_with calls read failure) [])
+front_settled f calls read None h = tt
+front_settled f calls read (Some failure) h = (h, tt)
 
 -- one move
 pub leads_by : (f : Furthest) (lower : List OpenCall) (highest : Highest) (low : List OpenCall) (next : Highest) → MovesTo lower highest low next
     → IsSettledIfAny f (highest_fails highest) → LeadsTo f lower highest low next
 unfolding moves stories
 leads_by f lower highest low next goes settled tally =
-    record { count = 1; later = (goes tally).0; is = (goes tally).1; met = front_settled f (calls_in lower) (highest_fails highest) settled }
+    record { count = 1; later = (goes tally).0; is = (goes tally).1; met = front_settled f (calls_in lower) (highest_reads highest) (highest_fails highest) settled }
 
 -- what a highest call meets is settled from then on
-pub settled_now : (f : Furthest) (calls : List Call) (failure : Option Failure) → IsSettledIfAny (furthest_with f (story_with calls failure)) failure
-settled_now f calls None = tt
-settled_now f calls (Some failure) = settles_itself f _
+pub settled_now : (f : Furthest) (calls : List Call) (read : Failure → List Valued) (failure : Option Failure)
+    → IsSettledIfAny (furthest_with f (story_with calls read failure)) failure
+settled_now f calls read None = tt
+settled_now f calls read (Some failure) = settles_itself f _

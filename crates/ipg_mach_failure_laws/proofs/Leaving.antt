@@ -12,7 +12,9 @@ use Rattle.ipg_mach_moves.specs.Moves.{turned, silent, asked_key, at_hand, move,
 use Rattle.ipg_mach_moves.specs.Laws.{ParsesByOneCall}
 use Rattle.ipg_mach_failures.specs.Furthest.{Furthest}
 use Rattle.ipg_mach_failure_laws.specs.Laws.{new_memo, RangeLeftAlikeByMemo}
-use Rattle.ipg_mach_failure_laws.proofs.Stays.{moves_more, stays}
+use Rattle.ipg_mach_count_laws.specs.Laws.{EndedStays}
+use Rattle.ipg_mach_count_laws.specs.Standing.{CallsSit, StandsThere}
+use Rattle.ipg_mach_failure_laws.proofs.Stays.{moves_more}
 use Rattle.ipg_mach_failure_laws.proofs.Leads.{bare}
 use Rattle.ipg_mach_failure_laws.proofs.Known.{GoesDown, found}
 use Rattle.ipg_mach_failure_laws.proofs.Range.{hand_down}
@@ -91,21 +93,21 @@ order (suc n) (suc m) = later (order n m)
     later (inr (inl h)) = let e = h.1 in inr (inl (h.0, omega (arith, e)))
     later (inr (inr h)) = let e = h.1 in inr (inr (h.0, omega (arith, e)))
 
-never_later : (e : Evaluation) (c : OpenCall) (n m d : ℕ) → ended (moves (n + 1) e) ≡ Some (Err OutOfRange) → (moves m e).highest ≡ Works c
+never_later : EndedStays → (e : Evaluation) (c : OpenCall) (n m d : ℕ) → ended (moves (n + 1) e) ≡ Some (Err OutOfRange) → (moves m e).highest ≡ Works c
     → m ≡ (n + 1) + d → ⊥
-never_later e c n m d leaves works is =
+never_later stays e c n m d leaves works is =
     let same : moves m e ≡ moves (n + 1) e = ap (λ k. moves k e) is ∙ moves_more (n + 1) d e ∙ stays d (moves (n + 1) e) _ leaves in
     works_on (moves m e) c _ works (ap ended same ∙ leaves)
 
-once : (e : Evaluation) (c other : OpenCall) (n m : ℕ) → (moves n e).highest ≡ Works c → ended (moves (n + 1) e) ≡ Some (Err OutOfRange)
+once : EndedStays → (e : Evaluation) (c other : OpenCall) (n m : ℕ) → (moves n e).highest ≡ Works c → ended (moves (n + 1) e) ≡ Some (Err OutOfRange)
     → (moves m e).highest ≡ Works other → ended (moves (m + 1) e) ≡ Some (Err OutOfRange) → n ≡ m
-once e c other n m works leaves also too =
+once stays e c other n m works leaves also too =
     elim (order n m) [
       | inl same ↦ same
       | inr apart ↦
           elim apart [
-            | inl more ↦ absurd (never_later e other n m more.0 leaves also more.1)
-            | inr less ↦ absurd (never_later e c m n less.0 too works less.1)
+            | inl more ↦ absurd (never_later stays e other n m more.0 leaves also more.1)
+            | inr less ↦ absurd (never_later stays e c m n less.0 too works less.1)
           ]
     ]
 
@@ -118,10 +120,10 @@ next_is n e = moves_more n 1 e
 same_call : (c other : OpenCall) → Works c ≡ Works other → c ≡ other
 same_call c other e = cc
 
-pub range_left : ParsesByOneCall → RangeLeftAlikeByMemo
+pub range_left : CallsSit → StandsThere → EndedStays → ParsesByOneCall → RangeLeftAlikeByMemo
 unfolding opening
-range_left one g s n m c other lower below memo without =
-    let it = beside g s n in
+range_left sit there stay one g s n m c other lower below memo without =
+    let it = beside g s sit there n in
     let e = opening g s None in
     let works : it.next ≡ Works c = sym (ap (λ (x : Evaluation). x.highest) it.goes) ∙ memo.works in
     let above : it.low ≡ lower = sym (ap (λ (x : Evaluation). x.lower) it.goes) ∙ memo.above in
@@ -136,7 +138,7 @@ range_left one g s n m c other lower below memo without =
     let too : ended (moves (it.count + 1) e) ≡ Some (Err OutOfRange) =
     ap ended (next_is it.count e) ∙ ap (λ x. ended (move x)) here
     ∙ does g s one it.found c lower it.later it.counted it.behind stands leaves in
-    let same : it.count ≡ m = once e c other it.count m (ap (λ (x : Evaluation). x.highest) here) too without.works without.leaves in
+    let same : it.count ≡ m = once stay e c other it.count m (ap (λ (x : Evaluation). x.highest) here) too without.works without.leaves in
     let met : bare lower (Works c) it.behind ≡ moves m e = sym here ∙ ap (λ k. moves k e) same in (
       same_call c other (ap (λ (x : Evaluation). x.highest) met ∙ without.works),
       ap (λ (x : Evaluation). x.lower) met ∙ without.above,

@@ -1,5 +1,3 @@
-pub mod Parts
-pub mod Plain
 pub mod Settled
 pub mod Stays
 pub mod Leads

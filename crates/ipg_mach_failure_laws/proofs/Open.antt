@@ -8,8 +8,7 @@ use Rattle.ipg_mach_moves.specs.Moves.{Outside, OpenCall, Highest, Works, Holds,
 use Rattle.ipg_mach_moves.specs.Moves.{key_at, runs_on, begins, alts_of, turned, silent, at_hand}
 use Rattle.ipg_mach_failures.specs.declared.story.Story.{Story}
 use Rattle.ipg_mach_failures.specs.Furthest.{Furthest, furthest_with}
-use Rattle.ipg_mach_failure_laws.proofs.Parts.{StandsAt, part_stands}
-use Rattle.ipg_mach_failure_laws.proofs.Plain.{plain_hand}
+use Rattle.ipg_mach_count_laws.specs.Standing.{StandsAt, CallsSit}
 use Rattle.ipg_mach_failure_laws.proofs.Leads.{LeadsTo, leads_more}
 use Rattle.ipg_mach_failure_laws.proofs.Known.{Start, key_of, start_of, begun, Sits}
 
@@ -48,12 +47,14 @@ module _ (g : Grammar) (s : List ℕ) where
       begins_is a (record { grammar = g; rule = a.rule; alt = 0; bytes = a.bytes; outer = a.outer }) a.from (alts_of (rule_at g a.rule)) refl refl sits.stands
 
   -- what an open call makes sits in the input too
-  pub asked_sits : (a : Start) (c : OpenCall) (ask : Asked) (more : List Asked) → IsCall a c → (at_hand silent c).asked ≡ ask ∷ more
+  pub asked_sits : CallsSit → (a : Start) (c : OpenCall) (ask : Asked) (more : List Asked) → IsCall a c → (at_hand silent c).asked ≡ ask ∷ more
       → Sits g s (start_of c ask)
-  asked_sits a c ask more is asked = record {
-    stands = part_stands s c.from ask.from ask.to c.frame.bytes is.stands;
-    plain = λ global. plain_hand c ask more asked (ap (λ h. holder_of (rule_at h ask.callee)) is.grammar ∙ global);
-  }
+  asked_sits sit a c ask more is asked =
+      let callee = sit s c ask more is.stands asked in
+      record {
+        stands = callee.0;
+        plain = λ global. callee.1 (ap (λ h. holder_of (rule_at h ask.callee)) is.grammar ∙ global);
+      }
 
   -- ---- the calls below
 

@@ -2,6 +2,8 @@
 use Rattle.std.proofs.Common.{◌≡◌, ℕ, suc, ℤ, refl, sym, ap, ◌∙◌, subst, List, [], ◌∷◌, ◌++◌, Option, Some, None, Result, Ok, Err, Bool, true, false, length}
 use Rattle.std.proofs.Common.{if◌then◌else◌}
 use Rattle.std.specs.Prelude.{slice_get}
+use Rattle.ipg_num.specs.declared.op.Answer.{Answer}
+use Rattle.ipg_num.specs.declared.op.Answer.TheVariants.{Val, Fail, Range}
 use Rattle.ipg_core.specs.declared.grammar.Sym.{Sym}
 use Rattle.ipg_core.specs.declared.grammar.CoreExpr.{CoreExpr}
 use Rattle.ipg_core.specs.declared.grammar.CoreTerm.{CoreTerm}
@@ -9,12 +11,11 @@ use Rattle.ipg_core.specs.declared.grammar.CoreTerm.TheVariants.{Slot, Set, Test
 use Rattle.ipg_core.specs.Part.{interval}
 use Rattle.ipg_core.specs.Tree.{Tree, Kid}
 use Rattle.ipg_core.specs.Eval.{eval, is_zero}
-use Rattle.ipg_core.specs.Run.{Stop, NoTree, OutOfRange, Deep, Asked, Run, finish, stop, after, go_on, ◌>>=◌}
+use Rattle.ipg_core.specs.Run.{Stop, NoTree, OutOfRange, Deep, Asked, Run, finish, stop, after, go_on, ◌>>=◌, value_of, some_of}
 use Rattle.ipg_core.specs.Meaning.{Frame, State, environment, value_in}
 use Rattle.ipg_mach_moves.specs.Moves.{Entry, Outside, Items, Turns, OpenCall, Advance, lifted, repeated, parsed, taken, silent, always, advance}
 use Rattle.ipg_mach_moves.specs.Moves.{first_left, at_hand}
 use Rattle.ipg_mach_moves.specs.Laws.{ByCalls, ParsesByOneCall}
-use Rattle.ipg_mach_failure_laws.proofs.Plain.{value_asks, some_asks}
 use Rattle.ipg_mach_failure_laws.proofs.Known.{GoesDown}
 
 -- ---- what a term makes of its child
@@ -38,6 +39,19 @@ taken_down state u Outside (Pick cases other) kid down = lifted_down _ kid down
 taken_down state u (Items (suc n) i items) (Repeat first last one from to) kid down = lifted_down _ kid down
 taken_down state u (Turns p r items) (Many one from to) kid down = repeated_down state u one r items kid down
 taken_down state u entry term kid down = tt
+
+-- ---- what makes no call
+
+value_asks : (a : Answer) → (value_of a).asked ≡ []
+unfolding finish stop
+value_asks (Val z) = refl
+value_asks Fail = refl
+value_asks Range = refl
+
+some_asks : {A : Type 0} (found : Option A) → (some_of found).asked ≡ []
+unfolding finish stop
+some_asks None = refl
+some_asks (Some a) = refl
 
 -- ---- terms that make no call
 

@@ -1,10 +1,9 @@
 -- Failures that change nothing of what is told.
 use Rattle.std.proofs.Common.{◌≡◌, ◌⊎◌, inl, inr, ℕ, ◌+◌, ◌<◌, ◌≤◌, refl, subst, arith, List, [], ◌∷◌, ◌++◌, Option, Some, None, Bool}
 use Rattle.std.proofs.Common.{true, false, length}
-use Rattle.std.specs.Prelude.{nat_eq, nat_lt, if◌then◌else◌, ◌||◌}
+use Rattle.std.specs.Prelude.{nat_lt, if◌then◌else◌, ◌||◌}
 use Rattle.std.specs.List.{AllByRecursion}
-use Rattle.std.proofs.lemmas.Bool.{ltb-true, ltb-false}
-use Rattle.std.proofs.lemmas.Bool.Decides.{nat_tests}
+use Rattle.std.proofs.lemmas.Bool.{eq-eqb, ltb-true, ltb-false}
 use Rattle.ipg_mach_failures.specs.declared.failure.Failure.{Failure}
 use Rattle.ipg_mach_failures.specs.declared.story.Story.{Story}
 use Rattle.ipg_mach_failures.specs.Furthest.{Furthest, alike, is_told, only, with_one, furthest_with, furthest_from, in_front}
@@ -28,12 +27,8 @@ AreSettled f met = AllByRecursion (λ (one : Story). IsSettled f one.failure) me
 
 -- ---- what is told
 
-same_nat : (n : ℕ) → nat_eq n n ≡ true
-same_nat n = grind (arith, nat_tests)
-
 alike_self : (x : Failure) → alike x x ≡ true
-alike_self x =
-    let a = same_nat x.rule in let b = same_nat x.alt in let c = same_nat x.term in let d = same_nat x.branch in rw a (rw b (rw c d))
+alike_self x = rw (eq-eqb x.rule x.rule refl) (rw (eq-eqb x.alt x.alt refl) (rw (eq-eqb x.term x.term refl) (eq-eqb x.branch x.branch refl)))
 
 or_true : (b : Bool) → b || true ≡ true
 or_true true = refl

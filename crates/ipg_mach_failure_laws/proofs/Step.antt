@@ -8,7 +8,9 @@ use Rattle.ipg_mach_moves.specs.Moves.{always, silent, at_hand, asked_part, aske
 use Rattle.ipg_mach_failures.specs.declared.story.Story.{Story}
 use Rattle.ipg_mach_failures.specs.Chain.{calls_in}
 use Rattle.ipg_mach_failures.specs.Failing.{call_fails}
-use Rattle.ipg_mach_failures.specs.Furthest.{Furthest, highest_fails, story_with, furthest_with}
+use Rattle.ipg_mach_failures.specs.Values.{values_of}
+use Rattle.ipg_mach_failures.specs.Furthest.{Furthest, highest_fails, highest_reads, story_with, furthest_with}
+use Rattle.ipg_mach_count_laws.specs.Standing.{CallsSit, StandsThere}
 use Rattle.ipg_mach_failure_laws.proofs.Leads.{bare, MovesTo, LeadsTo, leads_stay, leads_more, leads_both, leads_by, settled_now}
 use Rattle.ipg_mach_failure_laws.proofs.Known.{Start, start_of, start_at, start_same, GoesDown, begun, Sits, Began, KnowsAll, knows_more, found}
 use Rattle.ipg_mach_failure_laws.proofs.Known.{knows_learned}
@@ -92,7 +94,7 @@ module _ (g : Grammar) (s : List ℕ) where
     pub knows : KnowsAll g s f known
 
   abbrev pub with_now : Furthest → List OpenCall → Highest → Furthest
-  with_now f lower highest = furthest_with f (story_with (calls_in lower) (highest_fails highest))
+  with_now f lower highest = furthest_with f (story_with (calls_in lower) (highest_reads highest) (highest_fails highest))
 
   -- behind a move with the memo; a move without it, and others that meet only failures that are settled, come to the same
   pub record Steps (f : Furthest) (lower : List OpenCall) (highest : Highest) (known : Known) (tally : Tally) : Type 0 where
@@ -107,7 +109,7 @@ module _ (g : Grammar) (s : List ℕ) where
     pub leads : LeadsTo (with_now f lower highest) mid middle low next
     pub stands : Stands (with_now f lower highest) low next later
 
-  module _ (f : Furthest) where
+  module _ (sit : CallsSit) (there : StandsThere) (f : Furthest) where
     -- a call that goes on in its place
     began_on : (a : Start) (f : Furthest) (highest next : Highest) → Began g s f a highest → ((lower : List OpenCall) → LeadsTo f lower highest lower next)
         → Began g s f a next
@@ -118,7 +120,7 @@ module _ (g : Grammar) (s : List ℕ) where
 
     module _ (c : OpenCall) (lower : List OpenCall) (known : Known) (tally : Tally) (stands : Stands f lower (Works c) known) where
       abbrev x : Option Story
-      x = story_with (calls_in lower) (call_fails c)
+      x = story_with (calls_in lower) (values_of c) (call_fails c)
 
       -- a term at hand that makes no call
       quiet_steps : (at_hand silent c).asked ≡ [] → Steps f lower (Works c) known tally
@@ -138,7 +140,7 @@ module _ (g : Grammar) (s : List ℕ) where
           is = turned_is g s stands.start c _ stands.is;
           began =
               began_on stands.start (furthest_with f x) (Works c) _ (began_more stands.start x (Works c) stands.began)
-              (λ l. leads_by _ l (Works c) l _ (quiet_bare c l none) (settled_now f (calls_in lower) (call_fails c)));
+              (λ l. leads_by _ l (Works c) l _ (quiet_bare c l none) (settled_now f (calls_in lower) (values_of c) (call_fails c)));
           stack = stack_more g s f x stands.start lower stands.stack;
           knows = knows_more g s f x known stands.knows;
         };
@@ -149,13 +151,13 @@ module _ (g : Grammar) (s : List ℕ) where
         callee = start_of c ask
 
         callee_sits : Sits g s callee
-        callee_sits = asked_sits g s stands.start c ask more stands.is asked
+        callee_sits = asked_sits g s sit stands.start c ask more stands.is asked
 
         -- above whatever calls, it comes to the opening of what it calls
         rises : (l : List OpenCall) → LeadsTo (furthest_with f x) l (begun g s stands.start) (c ∷ l) (begun g s callee)
         rises l =
             leads_both (furthest_with f x) l _ l (Works c) (c ∷ l) _ (began_more stands.start x (Works c) stands.began l)
-            (leads_by _ l (Works c) (c ∷ l) _ (opens_bare c l ask more asked stands.is.grammar) (settled_now f (calls_in lower) (call_fails c)))
+            (leads_by _ l (Works c) (c ∷ l) _ (opens_bare c l ask more asked stands.is.grammar) (settled_now f (calls_in lower) (values_of c) (call_fails c)))
 
         open_steps : find known (asked_key c ask) ≡ None → Steps f lower (Works c) known tally
         open_steps new =
@@ -192,7 +194,7 @@ module _ (g : Grammar) (s : List ℕ) where
           comes : (l : List OpenCall) → LeadsTo f_now (c ∷ l) (begun g s callee) l (told c answer)
           comes l =
               let entry = found g s f known (asked_key c ask) answer stands.knows has in
-              let same : start_at g s (asked_key c ask) ≡ callee = start_same g s callee callee_sits entry.global in
+              let same : start_at g s (asked_key c ask) ≡ callee = start_same g s there callee callee_sits entry.global in
               leads_both f_now (c ∷ l) _ (c ∷ l) (Holds (asked_key c ask) answer) l _
               (subst (λ a. LeadsTo f_now (c ∷ l) (begun g s a) (c ∷ l) (Holds (asked_key c ask) answer)) same
               (leads_more f x (c ∷ l) _ (c ∷ l) _ (entry.began (c ∷ l))))
@@ -255,7 +257,7 @@ module _ (g : Grammar) (s : List ℕ) where
             stack = stands.stack.2;
             knows =
                 subst (λ h. KnowsAll g s f (learned (holder_of (rule_at h key.rule)) known key answer)) (sym waits.is.grammar)
-                (knows_learned g s f stands.start known key answer stands.knows stands.sits stands.is down stands.began);
+                (knows_learned g s there f stands.start known key answer stands.knows stands.sits stands.is down stands.began);
           };
         }
 

@@ -1,7 +1,8 @@
-//! Laws of failures, each the contract of a function that calls the law it stands on.
+//! Laws of failures, each the contract of a function that calls the laws it stands on.
 
 ghost use Rattle.ipg_mach_failure_laws.specs.Laws.{RangeLeftAlikeByMemo, ToldAlikeByMemo};
 
+use ipg_mach_count_laws::laws::{calls_sit, ended_stays, stands_there};
 use ipg_mach_failures::laws::none_behind_end;
 use ipg_mach_moves::laws::parses_by_one_call;
 
@@ -9,6 +10,8 @@ use ipg_mach_moves::laws::parses_by_one_call;
 pub fn told_alike_by_memo()
     ensures { ToldAlikeByMemo }
 {
+    calls_sit();
+    stands_there();
     none_behind_end();
 }
 
@@ -17,5 +20,8 @@ pub fn told_alike_by_memo()
 pub fn range_left_alike_by_memo()
     ensures { RangeLeftAlikeByMemo }
 {
+    calls_sit();
+    stands_there();
+    ended_stays();
     parses_by_one_call();
 }

@@ -1,8 +1,8 @@
 -- A text has no more tokens than bytes, and what it reads as no more tokens than it.
 use Rattle.std.specs.Prelude.{IfOk, MatchResult}
 use Rattle.std.specs.List.{AllByRecursion}
-use Rattle.std.proofs.Common.{◌≡◌, ℕ, zero, suc, ◌+◌, ◌-◌, ◌^◌, ◌<◌, ◌≤◌, Bool, true, false, List, [], ◌∷◌, length, Result, Ok, Err, refl, sym, ap}
-use Rattle.std.proofs.Common.{◌∙◌, cond, nat_lt, arith}
+use Rattle.std.proofs.Common.{◌≡◌, ℕ, zero, suc, ◌+◌, ◌-◌, ◌^◌, ◌≤◌, Bool, true, false, List, [], ◌∷◌, length, Result, Ok, Err, refl, ap}
+use Rattle.std.proofs.Common.{cond, nat_lt, arith}
 use Rattle.std.proofs.lemmas.Bool.Decides.{nat_tests}
 use Rattle.ipg_ast.specs.declared.grammar.Grammar.{Grammar}
 use Rattle.ipg_ast.specs.declared.grammar.Rule.{out-Rule}
@@ -11,12 +11,11 @@ use Rattle.ipg_ast.specs.Spelling.{grammar_tokens}
 use Rattle.ipg_ast.specs.Shape.{IsFormed, IsFormedRule, IsFormedAlt, IsFormedLocal, IsFormedLocalAlt, IsFlat, IsFlatRule, IsFlatAlt, IsFlatLocal}
 use Rattle.ipg_ast.specs.Shape.{IsFlatLocalAlt}
 use Rattle.ipg_read_tokens.specs.declared.token.Token.{Token}
-use Rattle.ipg_read_tokens.specs.declared.fault.ReadFault.{ReadFault}
 use Rattle.ipg_read_tokens.specs.declared.fault.ReadFault.TheVariants.{TooLong, Lex, Number, Syntax, Limit, Memory}
 use Rattle.ipg_read_tokens.specs.declared.front.Front.{Front}
 use Rattle.ipg_read_tokens.specs.declared.front.Front.TheVariants.{Nothing, Blank, Large, Token as Begins}
 use Rattle.ipg_read_tokens.specs.Lexical.{Lexed, token_first, large_first, beginning, front_at, lexed, tokens_of}
-use Rattle.ipg_read_syntax.specs.Reading.{Reads, ReadsWithin}
+use Rattle.ipg_read_syntax.specs.Reading.{ReadsWithin}
 use Rattle.ipg_read_canonical_laws.specs.Laws.{kinds, KeepsTokens}
 
 large_none : (at : ℕ) (r : Lexed) (ts : List Token) → large_first at r ≡ Ok ts → ⊥

@@ -6,10 +6,12 @@ ghost use Rattle.ipg_ast.specs.Shape.{IsFlat};
 ghost use Rattle.ipg_read_syntax.specs.Reading.{read_of};
 ghost use Rattle.ipg_names.specs.Readable.{IsReadable};
 
+pub mod laws;
+
+use crate::laws::read_is_readable;
 use ipg_ast::Grammar;
-use ipg_names::laws::formed_is_readable;
 use ipg_read::{ReadFault, read};
-use ipg_read_canonical_laws::laws::{keeps_tokens, reads_formed};
+use ipg_read_canonical_laws::laws::reads_formed;
 use ipg_read_syntax::laws::{reads_exactly, refused_exactly};
 use std::alloc::Global;
 
@@ -22,7 +24,6 @@ pub fn grammar_in(alloc: Global, text: &[u8]) -> Result<Grammar, ReadFault>
     reads_exactly();
     refused_exactly();
     reads_formed();
-    keeps_tokens();
-    formed_is_readable();
+    read_is_readable();
     read(alloc, text)
 }

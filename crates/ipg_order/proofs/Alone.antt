@@ -20,11 +20,11 @@ use Rattle.ipg_order.specs.Answer.{alt_alone, rule_alone, without_orders}
 use Rattle.ipg_order.proofs.Members.{in_map, to_map}
 use Rattle.ipg_order.proofs.Telling.{written}
 
-all_more : {X : Type 0} (P Q : X → Type 0) (xs : List X) → ((x : X) → P x → Q x) → AllByRecursion P xs → AllByRecursion Q xs
+pub all_more : {X : Type 0} (P Q : X → Type 0) (xs : List X) → ((x : X) → P x → Q x) → AllByRecursion P xs → AllByRecursion Q xs
 all_more P Q [] f h = tt
 all_more P Q (x ∷ xs) f h = (f x h.0, all_more P Q xs f h.1)
 
-each_more : (P Q : Sym → Type 0) (term : CoreTerm) → ((s : Sym) → P s → Q s) → EachSym P term → EachSym Q term
+pub each_more : (P Q : Sym → Type 0) (term : CoreTerm) → ((s : Sym) → P s → Q s) → EachSym P term → EachSym Q term
 each_more P Q (Slot slot) f h = f slot.sym h
 each_more P Q (Set attr e) f h = tt
 each_more P Q (Test e) f h = tt
@@ -51,7 +51,7 @@ module _ (g : Grammar) where
   abbrev alone : Grammar
   alone = without_orders g
 
-  rule_is : (r : ℕ) → rule_at alone r ≡ option_map rule_alone (rule_at g r)
+  pub rule_is : (r : ℕ) → rule_at alone r ≡ option_map rule_alone (rule_at g r)
   rule_is r = slice_get-map rule_alone g.rules r
 
   pub holder_is : (r : ℕ) → holder_of (rule_at alone r) ≡ holder_of (rule_at g r)
@@ -132,7 +132,7 @@ module _ (g : Grammar) where
       let w = of_alone h.0 h.1 at h.2 in
       (w.rule_there, w.alt_there, w.there, sym (ap (λ (r : CoreRule). r.holder) w.same_rule) ∙ h.3)
 
-  slots : slots_of alone ≡ slots_of g
+  pub slots : slots_of alone ≡ slots_of g
   slots = sum_of_map (λ rule. sum_by (λ alt. sum_by slots_in alt.terms) rule.alts) rule_alone (λ rule. sum_by (λ alt. sum_by slots_in alt.terms) rule.alts)
       (λ rule. sum_of_map (λ alt. sum_by slots_in alt.terms) alt_alone (λ alt. sum_by slots_in alt.terms) (λ alt. refl) rule.alts) g.rules
 

@@ -8,6 +8,7 @@ pub mod Provided
 pub mod Sequences
 pub mod Alternatives
 pub mod Alone
+pub mod Formed
 pub mod Outcome
 pub mod Stuck
 pub mod Once

@@ -6,10 +6,10 @@ use Rattle.ipg_core.specs.declared.grammar.CoreTerm.{CoreTerm}
 use Rattle.ipg_core.specs.declared.grammar.CoreAlt.{CoreAlt}
 use Rattle.ipg_core.specs.declared.grammar.CoreRule.{CoreRule}
 use Rattle.ipg_core.specs.Grammar.{Grammar}
-use Rattle.ipg_core.specs.Order.{is_taken, IsNext, InOrder, Provides}
+use Rattle.ipg_core.specs.Order.{InOrder, Provides}
 use Rattle.ipg_core.specs.Good.{Good, AltAt}
 use Rattle.ipg_order.specs.Stuck.{IsEnd, EndsAt}
-use Rattle.ipg_order.specs.Answer.{alt_alone, rule_alone, without_orders, HasOrder, IsBefore, IsFirstStuck}
+use Rattle.ipg_order.specs.Answer.{alt_alone, rule_alone, without_orders, IsBefore, IsFirstStuck}
 use Rattle.ipg_order.specs.Laws.{OrdersOnce, GoodIsNotStuck, StuckOnce}
 use Rattle.ipg_order.proofs.Alone.{of_alone, provides_to, provides_from}
 use Rattle.ipg_order.proofs.Sequences.{order_to}

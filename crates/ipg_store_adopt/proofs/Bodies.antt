@@ -8,11 +8,10 @@ use Rattle.ipg_core.specs.Grammar.{Grammar}
 use Rattle.ipg_core.specs.Good.{WellFormed}
 use Rattle.ipg_complete.specs.Unordered as unordered
 use Rattle.ipg_order.specs.Answer.{without_orders, IsFirstStuck}
-use Rattle.ipg_order.specs.Laws.{OrdersOnce, GoodIsNotStuck}
+use Rattle.ipg_order.specs.Laws.{OrdersOnce, GoodIsNotStuck, FormedWithout}
 use Rattle.ipg_store_body.specs.declared.body.Body.{Body}
 use Rattle.ipg_store_body.specs.Fits.{bare, FitsAlt, FitsRule, FitsBody}
 use Rattle.ipg_store_adopt.specs.Adopted.{IsGrammarOf, HasNoGrammar, completed_alt, completed_rule, completed, grammar_in}
-use Rattle.ipg_store_adopt.proofs.Alone.{alone_well_formed}
 
 -- ---- a body that fits has no orders
 
@@ -49,8 +48,8 @@ to_alone body g is = ap grammar_in is
 pub one_grammar : (once : OrdersOnce) (body : Body) (g h : Grammar) → IsGrammarOf body g → IsGrammarOf body h → g ≡ h
 one_grammar once body g h is_g is_h = once g h is_g.0 is_h.0 (to_alone body g is_g.1 ∙ sym (to_alone body h is_h.1))
 
-pub none_ill : (body : Body) → ¬ WellFormed (grammar_in body) → HasNoGrammar body
-none_ill body ill g is = ill (subst WellFormed (to_alone body g is.1) (alone_well_formed g is.0.well_formed))
+pub none_ill : (without : FormedWithout) (body : Body) → ¬ WellFormed (grammar_in body) → HasNoGrammar body
+none_ill without body ill g is = ill (subst WellFormed (to_alone body g is.1) (without g is.0.well_formed))
 
 pub none_stuck : (never : GoodIsNotStuck) (body : Body) (at : ℕ × ℕ) (u : ℕ) → IsFirstStuck (grammar_in body) at u → HasNoGrammar body
 none_stuck never body at u stuck g is = never g at u is.0 (subst (λ h. IsFirstStuck h at u) (sym (to_alone body g is.1)) stuck)

@@ -6,5 +6,4 @@ pub mod Appended
 pub mod Sums
 pub mod Names
 pub mod Turns
-pub mod Alone
 pub mod Bodies

@@ -13,7 +13,7 @@ use ipg_complete::completed::{Completed, CompletedAlt, CompletedRule};
 use ipg_core::accepted::Core;
 use ipg_core::grammar::{CoreAlt, CoreRule};
 use ipg_num::List;
-use ipg_order::laws::{good_is_not_stuck, orders_once};
+use ipg_order::laws::{formed_without_orders, good_is_not_stuck, orders_once};
 use ipg_order::{OrderFault, order};
 use ipg_store_body::Body;
 use ipg_store_body::laws::body_is_shallow;
@@ -89,6 +89,7 @@ pub fn adopt(alloc: Global, body: Body) -> Result<Core, AdoptFault>
 {
     orders_once();
     good_is_not_stuck();
+    formed_without_orders();
     body_is_shallow();
     if !is_well_formed(alloc, body.rules.as_slice(), body.names.as_slice())? {
         return Err(AdoptFault::NotGood);

@@ -1,4 +1,3 @@
-use Rattle.std.specs.Prelude.{MatchResult}
 use Rattle.std.proofs.Common.{◌≡◌, ◌⊎◌, inl, inr, Ok, Err}
 use Rattle.ipg_read_tokens.specs.declared.fault.ReadFault.{ReadFault}
 use Rattle.ipg_read_tokens.specs.declared.fault.ReadFault.TheVariants.{Memory}
@@ -6,7 +5,7 @@ use Rattle.ipg_ast.specs.Shape.{IsFlat}
 use Rattle.ipg_read_syntax.specs.Laws.{Refused, RefusedExactly}
 use Rattle.ipg_read_syntax.specs.Reading.{ReadsWithin, read_of}
 use Rattle.ipg_names.specs.Readable.{IsReadable}
-use Rattle.ipg_names_text.proofs.Short.{grammar_short, if_ok, by_words, formed_flat}
+use Rattle.ipg_names_text.proofs.Short.{if_ok, by_words, formed_flat}
 use Rattle.ipg_names_text.proofs.grammar_in.Goals as goal
 
 refused : RefusedExactly → (text : _) (fault : ReadFault) → (fault ≡ Memory) ⊎ Refused text fault → (fault ≡ Memory) ⊎ (read_of text ≡ Err fault)
@@ -24,7 +23,7 @@ pub returns-clause-readable : goal.returns-clause-readable
 returns-clause-readable c =
     let text = c.args.text.now in
     if_ok c.read.result (ReadsWithin text) IsReadable (λ fault. (fault ≡ Memory) ⊎ Refused text fault) c.read.ensures
-    (λ g reads. c.formed_is_readable.ensures g (c.reads_formed.ensures text g reads) (grammar_short c.keeps_tokens.ensures text g reads))
+    (λ g reads. c.read_is_readable.ensures text g ((c.reads_exactly.ensures text g).1 reads))
 
 pub returns-clause-flat : goal.returns-clause-flat
 returns-clause-flat c =

@@ -3,14 +3,13 @@ use Rattle.ipg_app_reply_laws.proofs.laws.some_reply.Goals as goal
 
 pub returns : goal.returns
 returns c = replying.some_reply (record {
-  exactly = c.reads_exactly.ensures;
-  formed = c.reads_formed.ensures;
-  keeps = c.keeps_tokens.ensures;
-  readable = c.formed_is_readable.ensures;
+  readable = c.read_is_readable.ensures;
   faultless = c.faultless_is_formed.ensures;
   completing = c.completed_is_formed.ensures;
+  as_ordered = c.good_as_ordered.ensures;
   are_parts = c.conditions_are_parts.ensures;
   is_part = c.joint_is_part.ensures;
+  noted = c.noted_somehow.ensures;
   accepts = c.accepts_is_total.ensures;
   held = c.held_is_total.ensures;
   of_one = c.text_is_of_one.ensures;

@@ -6,13 +6,13 @@ use Rattle.ipg_store_adopt.proofs.adopting.adopt.Goals as goal
 
 pub returns-then-not-branch-clause-is : goal.returns-then-not-branch-clause-is
 returns-then-not-branch-clause-is c =
-    none_ill c.args.body (ill_formed _ c.as_slice.result.now c.as_slice-2.result.now c.args.body c.in_ok-is_well_formed.ensures c.as_slice.ensures
-    c.as_slice-2.ensures c.if-not-branch.true)
+    none_ill c.formed_without_orders.ensures c.args.body (ill_formed _ c.as_slice.result.now c.as_slice-2.result.now c.args.body
+    c.in_ok-is_well_formed.ensures c.as_slice.ensures c.as_slice-2.ensures c.if-not-branch.true)
 
 pub returns-then-not-branch-clause-back : goal.returns-then-not-branch-clause-back
 returns-then-not-branch-clause-back c g is =
-    absurd (none_ill c.args.body (ill_formed _ c.as_slice.result.now c.as_slice-2.result.now c.args.body c.in_ok-is_well_formed.ensures c.as_slice.ensures
-    c.as_slice-2.ensures c.if-not-branch.true) g is)
+    absurd (none_ill c.formed_without_orders.ensures c.args.body (ill_formed _ c.as_slice.result.now c.as_slice-2.result.now c.args.body
+    c.in_ok-is_well_formed.ensures c.as_slice.ensures c.as_slice-2.ensures c.if-not-branch.true) g is)
 
 pub returns-in-Ok-clause-is : goal.returns-in-Ok-clause-is
 returns-in-Ok-clause-is c =

@@ -1,14 +1,14 @@
-use Rattle.std.proofs.Common.{◌≡◌, ◌∷◌, [], refl, ap, ◌∙◌, append_assoc, length, map, arith}
+use Rattle.std.proofs.Common.{refl, ap, ◌∙◌, length, map, arith}
 use Rattle.std.specs.Vec.Iter.{into_iter_items}
 use Rattle.ipg_store_adopt.specs.Adopted.{completed_alt}
-use Rattle.ipg_store_adopt.proofs.Turns.{map_turn, all_came}
+use Rattle.ipg_store_adopt.proofs.Turns.{map_turn, all_came, one_came}
 use Rattle.ipg_store_adopt.proofs.adopting.completed_alts.Goals as goal
 
 pub loop-alt-preserved : goal.loop-alt-preserved
 loop-alt-preserved c =
     let at = c.loop-alt in
-    let steps : into_iter_items at.alt-iterator ≡ c.in-Some.alt ∷ into_iter_items c.next.new.self = c.in-Some.ensures.steps.0 in (
-      append_assoc at.yielded (c.in-Some.alt ∷ []) _ ∙ rw (← steps) at.invariant.0,
+    let steps = c.in-Some.ensures.steps.0 in (
+      one_came c.in-Some.alt at.yielded _ _ _ steps at.invariant.0,
       let was = at.invariant.1 in
           let gone = c.in-Some.ensures.steps.1 in
           let short = ap length steps in

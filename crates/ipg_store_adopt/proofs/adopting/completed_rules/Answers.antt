@@ -1,9 +1,9 @@
-use Rattle.std.proofs.Common.{◌≡◌, ◌∷◌, ℕ, Option, List, [], ap, ◌∙◌, append_assoc, length, map, arith}
+use Rattle.std.proofs.Common.{ℕ, Option, List, ap, ◌∙◌, length, map, arith}
 use Rattle.std.specs.Vec.Iter.{into_iter_items}
 use Rattle.ipg_complete.specs.declared.completed.CompletedAlt.{CompletedAlt}
 use Rattle.ipg_complete.specs.declared.completed.CompletedRule.{CompletedRule}
 use Rattle.ipg_store_adopt.specs.Adopted.{completed_rule}
-use Rattle.ipg_store_adopt.proofs.Turns.{map_turn, all_came}
+use Rattle.ipg_store_adopt.proofs.Turns.{map_turn, all_came, one_came}
 use Rattle.ipg_store_adopt.proofs.adopting.completed_rules.Goals as goal
 
 abbrev rule_with : List ℕ → Option (ℕ × ℕ) → List CompletedAlt → CompletedRule
@@ -12,8 +12,8 @@ rule_with name holder alts = record { name = name; holder = holder; alts = alts 
 pub loop-rule-preserved : goal.loop-rule-preserved
 loop-rule-preserved c =
     let at = c.loop-rule in
-    let steps : into_iter_items at.rule-iterator ≡ c.in-Some.rule ∷ into_iter_items c.next.new.self = c.in-Some.ensures.steps.0 in (
-      append_assoc at.yielded (c.in-Some.rule ∷ []) _ ∙ rw (← steps) at.invariant.0,
+    let steps = c.in-Some.ensures.steps.0 in (
+      one_came c.in-Some.rule at.yielded _ _ _ steps at.invariant.0,
       let was = at.invariant.1 in
           let gone = c.in-Some.ensures.steps.1 in
           let short = ap length steps in
