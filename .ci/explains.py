@@ -4,7 +4,8 @@
 
 Each case is a grammar, the line that refuses it and where: places as strings of the text, found by their number. Beside the
 cases below, each grammar of .ci/vectors/texts.json that is refused with a place is explained. Behind them are inputs, worked out by
-hand: what each comes to, and for each of the furthest failures the line of why, what comes of it, and the calls that led there.
+hand: what each comes to, and for each of the furthest failures the line of why, behind it what was read where no bytes are to blame,
+what comes of it, and the calls that led there.
 Ends with status 1 where one differs.
 """
 
@@ -53,14 +54,22 @@ def word_at(text, at):
     return "".join(chr(b) if 32 <= b <= 126 else " " if b == 9 else "." for b in byte)
 
 
-def explained(text, refusal, places):
+def noted(refusal, values):
+    """On what length the calls of a cycle can go round, and a line for each call that has values."""
+    length = re.search(r" EOI=(\d+)", refusal)
+    if not length:
+        return ""
+    return f"They can go round where EOI = {length[1]}.\n" + "".join(f"Then in {line}.\n" for line in values)
+
+
+def explained(text, refusal, places, values=()):
     words = re.match(r"refused (G\d+ (?:Limit )?\w+)", refusal)[1]
     wrong, advice = SENTENCES[words]
     word = word_at(text, places[0]) if places else ""
     if words == "G4 Syntax" and not word:
         wrong = "The text ends here, and its grammar doesn't."
     wrong = re.sub(r"^NAME", lambda _: f"`{word}`", wrong)
-    return refusal + "\n" + "".join(spot(text, at) for at in places) + wrong + "\n" + advice + "\n"
+    return refusal + "\n" + "".join(spot(text, at) for at in places) + noted(refusal, values) + wrong + "\n" + advice + "\n"
 
 
 def call(command, words, text, name=NAME, data=None):
@@ -85,7 +94,8 @@ def nth(text, part, n):
     return at
 
 
-# a text, the refusal of `check` but for a place that is its own last word, and the places as a part of the text and which of those
+# a text, the refusal of `check` but for a place that is its own last word, the places as a part of the text and which of those, and for a
+# cycle the values that always go with its calls, worked out by hand
 CASES = [
     (b"\x01", "G2 Lex", [(b"\x01", 0)]),
     (b'S -> "a\n', "G2 Lex", [(b'"', 0)]),
@@ -122,19 +132,26 @@ CASES = [
     (b"S -> U8 where { L -> many Bytes ; } ;", "G14 NoTouch L 0 0", [(b"many", 0)]),
     (b"S -> S ;", "G13 MayLoop EOI=0 S/0/0/0", [(b"S ;", 0)]),
     (b"S -> A ;\nA -> B ;\nB -> U8 / A ;", "G13 MayLoop EOI=0 A/0/0/0 B/1/0/0", [(b"B ;", 0), (b"A ;", 1)]),
-    (b"S -> U8 / {x = 1} switch { case (EOI > 9) U8 case (EOI > 3) S else \"\" } ;", "G13 MayLoop EOI=4 S/1/1/1", [(b"S else", 0)]),
+    (b"S -> U8 / {x = 1} switch { case (EOI > 9) U8 case (EOI > 3) S else \"\" } ;", "G13 MayLoop EOI=4 S/1/1/1", [(b"S else", 0)],
+     ["S: x = 1"]),
     (b"S -> U8 / switch { case (EOI > 3) U8 else S } ;", "G13 MayLoop EOI=0 S/1/0/1", [(b"S }", 0)]),
-    (b"S -> for i = 0 to 1 do A[0, EOI] ; A -> U8 / S ;", "G13 MayLoop EOI=0 S/0/0/0 A/1/0/0", [(b"A[", 0), (b"S ;", 0)]),
+    (b"S -> for i = 0 to 1 do A[0, EOI] ; A -> U8 / S ;", "G13 MayLoop EOI=0 S/0/0/0 A/1/0/0", [(b"A[", 0), (b"S ;", 0)], ["S: i = 0"]),
     (b"S -> L where { L -> switch { case (EOI) L else U8 } / U8 ; } ;", "G13 MayLoop EOI=1 L/0/0/0", [(b"L else", 0)]),
+    (b'List -> Item Rest ; Item -> Bytes[0] ; Rest -> ?(EOI > 3) List / "" ;', "G13 MayLoop EOI=4 List/0/1/0 Rest/0/1/0",
+     [(b"Rest", 0), (b"List", 1)], ["List: Item.start = 4, Item.end = 0"]),
+    (b'S -> {n = EOI - 3} ?(n == 2) S[n - 2, EOI] / "" ;', "G13 MayLoop EOI=5 S/0/2/0", [(b"S[", 0)], ["S: n = 2"]),
+    (b'S -> "" {n = EOI} ?(n > 1) T[2 * n - 4, EOI] / "" ; T -> U8[0, 1] {m = U8.val} ?(m == 7) S[0, EOI] / "" ;', "G13 MayLoop EOI=2 S/0/3/0 T/0/3/0",
+     [(b"T[", 0), (b"S[", 0)], ['S: "".start = 0, "".end = 0, n = 2', "T: U8.start = 0, U8.end = 1, U8.val = 7, m = 7"]),
+    (b'S -> {n = EOI - 5} L where { L -> ?(n == 1) L / "" ; } ;', "G13 MayLoop EOI=0 L/0/1/0", [(b"L /", 0)], ["L: EOI of S = 6, n of S = 1"]),
 ]
 
 
 def wrong_cases(command):
     differ = 0
-    for text, words, parts in CASES:
+    for text, words, parts, *values in CASES:
         places = [len(text) if n is None else nth(text, part, n) for part, n in parts]
         refusal = f"refused {words}" + (f" {places[0]}" if re.match(r"G([2-9]|1[01]) ", words) else "")
-        due = explained(text, refusal, places)
+        due = explained(text, refusal, places, *values)
         status, said = call(command, ["explain"], text)
         if (status, said) != (2, due):
             differ += 1
@@ -208,25 +225,61 @@ INPUTS = [
     (b"S -> U8 ;", b"", NO_PARSE, "0, the end of the input", 0, [
         (("U8", 0), "Wanted: U8 on [0, 1], in a part of 0 bytes.", "S has no tree here.", [], "S 0..0")]),
     (b"S -> U8 U16LE ;", b"a", NO_PARSE, "1, the end of the input", 0, [
-        (("U16LE", 0), "Wanted: U16LE on [1, 3], in a part of 1 byte.", "S has no tree here.", [], "S 0..1")]),
+        (("U16LE", 0), "Wanted: U16LE on [1, 3], in a part of 1 byte.\nU8.end = 1.", "S has no tree here.", [], "S 0..1")]),
     (b"S -> U8 U16LE[1, 2] ;", b"ab", NO_PARSE, "2, the end of the input", 0, [
         (("U16LE", 0), "Wanted at byte 1: U16LE, 2 bytes. Left: 1 byte.", "S has no tree here.", [], "S 0..2")]),
     (b"S -> U64BE[0, 3] ;", b"abcd", NO_PARSE, "3", 0, [
         (("U64BE", 0), "Wanted at byte 0: U64BE, 8 bytes. Left: 3 bytes.", "S has no tree here.", [], "S 0..4")]),
     # intervals that are none
     (b"S -> U8 Bytes[U8.val - 5] ;", b"\x01", NO_PARSE, "1, the end of the input", 0, [
-        (("Bytes", 0), "Wanted: Bytes on [1, -3], in a part of 1 byte.", "S has no tree here.", [], "S 0..1")]),
+        (("Bytes", 0), "Wanted: Bytes on [1, -3], in a part of 1 byte.\nU8.end = 1, U8.val = 1.", "S has no tree here.", [], "S 0..1")]),
     (b"S -> U8 A[1, 9] ;\nA -> U8 ;", b"ab", NO_PARSE, "1", 0, [
         (("A[", 0), "Wanted: A on [1, 9], in a part of 2 bytes.", "S has no tree here.", [], "S 0..2")]),
     (b"S -> U8 many A[U8.val, 9] ;\nA -> U8 ;", b"\x01", NO_PARSE, "1, the end of the input", 0, [
-        (("A[", 0), "Wanted: A on [1, 9], in a part of 1 byte.", "S has no tree here.", [], "S 0..1")]),
+        (("A[", 0), "Wanted: A on [1, 9], in a part of 1 byte.\nU8.val = 1.", "S has no tree here.", [], "S 0..1")]),
     # tests, and expressions without a value
     (b"S -> U8 ?(U8.val == 1) ;", b"\x02", NO_PARSE, "1, the end of the input", 0, [
-        (("?", 0), "The test is 0.", "S has no tree here.", [], "S 0..1")]),
+        (("?", 0), "The test is 0.\nU8.val = 2.", "S has no tree here.", [], "S 0..1")]),
     (b"S -> U8 {n = 4 / U8.val} ;", b"\x00z", NO_PARSE, "1", 0, [
-        (("n =", 0), "An expression of this term has no value.", "S has no tree here.", [], "S 0..2")]),
+        (("n =", 0), "An expression of this term has no value.\nU8.val = 0.", "S has no tree here.", [], "S 0..2")]),
     (b"S -> U8 for i = 0 to 1 / U8.val do U8[1, 2] ;", b"\x00a", NO_PARSE, "1", 0, [
-        (("U8[", 0), "An expression of this term has no value.", "S has no tree here.", [], "S 0..2")]),
+        (("U8[", 0), "An expression of this term has no value.\nU8.val = 0.", "S has no tree here.", [], "S 0..2")]),
+    # names with their values: each once, an attribute by its name, EOI, what is passed over
+    (b"S -> U8 {n = U8.val} ?(n > 1 && n * n == EOI + n) ;", b"\x01", NO_PARSE, "1, the end of the input", 0, [
+        (("?", 0), "The test is 0.\nn = 1, EOI = 1.", "S has no tree here.", [], "S 0..1")]),
+    (b"S -> U8 ?(U8.val ? 0 : EOI - U8.end) ;", b"\x07", NO_PARSE, "1, the end of the input", 0, [
+        (("?", 0), "The test is 0.\nU8.val = 7, EOI = 1, U8.end = 1.", "S has no tree here.", [], "S 0..1")]),
+    (b"S -> {a = -1} ?(a + 1) ;", b"", NO_PARSE, "0, the end of the input", 0, [
+        (("?", 0), "The test is 0.\na = -1.", "S has no tree here.", [], "S 0..0")]),
+    (b"S -> U8 ?(0) ;", b"a", NO_PARSE, "1, the end of the input", 0, [
+        (("?", 0), "The test is 0.", "S has no tree here.", [], "S 0..1")]),
+    # eight of nine
+    (b"S -> " + b" ".join(b"{a%d = %d}" % (n, n) for n in range(9)) + b" ?(" + b" * ".join(b"a%d" % n for n in range(9)) + b") ;", b"", NO_PARSE,
+     "0, the end of the input", 0, [
+        (("?", 0), "The test is 0.\n" + ", ".join(f"a{n} = {n}" for n in range(8)) + ".", "S has no tree here.", [], "S 0..0")]),
+    # a string's end, one with bytes that aren't plain, that of a switch, whatever it took
+    (b'S -> "ab" U16LE ;', b"abc", NO_PARSE, "2", 0, [
+        (("U16LE", 0), 'Wanted: U16LE on [2, 4], in a part of 3 bytes.\n"ab".end = 2.', "S has no tree here.", [], "S 0..3")]),
+    (b'S -> "\\x1b[" U16LE ;', b"\x1b[c", NO_PARSE, "2", 0, [
+        (("U16LE", 0), 'Wanted: U16LE on [2, 4], in a part of 3 bytes.\n".[".end = 2.', "S has no tree here.", [], "S 0..3")]),
+    (b'S -> U8 switch { case (U8.val == 1) "ab" else "c" } U16LE ;', b"\x02cx", NO_PARSE, "2", 0, [
+        (("U16LE", 0), "Wanted: U16LE on [2, 4], in a part of 3 bytes.\nswitch.end = 2.", "S has no tree here.", [], "S 0..3")]),
+    # a branch of a switch with its condition, and the one behind `else`, which has none
+    (b'S -> U8 switch { case (U8.val == 1) Bytes[5] else "c" } ;', b"\x01", NO_PARSE, "1, the end of the input", 0, [
+        (("Bytes", 0), "Wanted: Bytes on [1, 6], in a part of 1 byte.\nU8.val = 1, U8.end = 1.", "S has no tree here.", [], "S 0..1")]),
+    (b'S -> U8 switch { case (U8.val == 1) "c" else Bytes[5] } ;', b"\x02", NO_PARSE, "1, the end of the input", 0, [
+        (("Bytes", 0), "Wanted: Bytes on [1, 6], in a part of 1 byte.\nU8.end = 1.", "S has no tree here.", [], "S 0..1")]),
+    # a field of a branch that wasn't taken has no value; the fields of a rule, and its start
+    (b"S -> U8 switch { case (U8.val == 1) A else B } {n = A.size} ;\nA -> U8 {size = U8.val} ;\nB -> U8 ;", b"\x02x", NO_PARSE,
+     "2, the end of the input", 0, [
+        (("n =", 0), "An expression of this term has no value.\nA.size has no value.", "S has no tree here.", [], "S 0..2")]),
+    (b"S -> U8 A[1, 3] ?(A.size < A.start) ;\nA -> U8 {size = U8.val} Bytes ;", b"a\x05b", NO_PARSE, "3, the end of the input", 0, [
+        (("?", 0), "The test is 0.\nA.size = 5, A.start = 1.", "S has no tree here.", [], "S 0..3")]),
+    # an item's field isn't told, and the names of its index are; a loop's own name
+    (b"S -> U8 for k = 0 to 2 do A[k, k + 1] ?(A(U8.val).x == 9) ;\nA -> U8 {x = U8.val} ;", b"\x01b", NO_PARSE, "2, the end of the input", 0, [
+        (("?", 0), "The test is 0.\nU8.val = 1.", "S has no tree here.", [], "S 0..2")]),
+    (b"S -> U8 for turn = 1 to 4 do A[turn, turn * U8.val] ;\nA -> U8 ;", b"\x02ab", NO_PARSE, "2", 0, [
+        (("A[", 0), "Wanted: A on [2, 4], in a part of 3 bytes.\nturn = 2, U8.val = 2.", "S has no tree here.", [], "S 0..3, item 1")]),
     # alternatives: the one that came further; two at one place; more than eight
     (b'S -> "ab" / "xy" ;', b"ac", NO_PARSE, "1", 0, [
         (('"ab"', 0), 'Wanted at byte 0: "ab" (6162). There stands "ac" (6163), with 1 byte in common.', "The next alternative of S is tried.", [],
@@ -245,7 +298,7 @@ INPUTS = [
          "S 0..2")]),
     # repetitions that ended: by a rule, by the last of its alternatives, by a number
     (b'S -> many A Bytes ;\nA -> "a" U8 ?(U8.val == 98) ;', b"abac", PARSED, "4, the end of the input", 0, [
-        (("?", 0), "The test is 0.", "A has no tree here, and the repetition ends.", [("S 0..4", "many", 0)], "A 2..4")]),
+        (("?", 0), "The test is 0.\nU8.val = 99.", "A has no tree here, and the repetition ends.", [("S 0..4", "many", 0)], "A 2..4")]),
     (b'S -> many I Bytes ;\nI -> "a" "b" / "a" "c" ;', b"abad", PARSED, "3", 0, [
         (('"b"', 0), 'Wanted at byte 3: "b" (62). There stands "d" (64), with 0 bytes in common.', "The next alternative of I is tried.",
          [("S 0..4", "many", 0)], "I 2..4"),
@@ -255,17 +308,17 @@ INPUTS = [
         (("U16LE", 0), "Wanted at byte 2: U16LE, 2 bytes. Left: 1 byte.", "The repetition ends here.", [], "S 0..3, item 1")]),
     # a chunk whose head is nine bytes short: no chunk is in the tree, and the parse goes well
     (PNG, b"\x89PNG\x00\x00\x00\x0dIHDR\x00\x00\x00\x01", PARSED, "12", 0, [
-        (("Bytes[size]", 0), "Wanted: Bytes on [8, 21], in a part of 12 bytes.", "Chunk has no tree here, and the repetition ends.",
-         [("Png 0..16", "many", 0)], "Chunk 4..16")]),
+        (("Bytes[size]", 0), "Wanted: Bytes on [8, 21], in a part of 12 bytes.\nBytes.end = 8, size = 13.",
+         "Chunk has no tree here, and the repetition ends.", [("Png 0..16", "many", 0)], "Chunk 4..16")]),
     # a packet that became raw bytes, since its total is beyond its part
     (FRAME, b"\x04\x45\x09....", PARSED, "3", 0, [
-        (("?(total", 0), "The test is 0.", "The next alternative of Packet is tried.", [("Frame 0..7", "switch", 0)], "Packet 1..7")]),
+        (("?(total", 0), "The test is 0.\ntotal = 9, EOI = 6.", "The next alternative of Packet is tried.", [("Frame 0..7", "switch", 0)], "Packet 1..7")]),
     # arrays: a rule at an item, and an item that has no interval
     (b'S -> U8 for i = 0 to U8.val do A[1 + i, 2 + i] ;\nA -> "x" ;', b"\x02xy", NO_PARSE, "2", 0, [
         (('"x"', 0), 'Wanted at byte 2: "x" (78). There stands "y" (79), with 0 bytes in common.', "A has no tree here.", [("S 0..3", "i = 0", 0)],
          "A 2..3")]),
     (b"S -> U8 for i = 0 to 2 do U8[1 + i, 2 + i] ;", b"ab", NO_PARSE, "2, the end of the input", 0, [
-        (("U8[", 0), "Wanted: U8 on [2, 3], in a part of 2 bytes.", "S has no tree here.", [], "S 0..2, item 1")]),
+        (("U8[", 0), "Wanted: U8 on [2, 3], in a part of 2 bytes.\ni = 1.", "S has no tree here.", [], "S 0..2, item 1")]),
     # branches of a switch, the last one too
     (b'S -> U8 switch { case (U8.val == 1) "a" case (U8.val == 2) "b" else "c" } ;', b"\x02x", NO_PARSE, "1", 0, [
         (('"b"', 0), 'Wanted at byte 1: "b" (62). There stands "x" (78), with 0 bytes in common.', "S has no tree here.", [], "S 0..2")]),
@@ -273,7 +326,7 @@ INPUTS = [
         (('"c"', 0), 'Wanted at byte 1: "c" (63). There stands "x" (78), with 0 bytes in common.', "S has no tree here.", [], "S 0..2")]),
     # local rules count where their holder's alternative stands
     (b"S -> U8 {n = U8.val} L where { L -> U8 ?(U8.val < n) ; } ;", b"\x01\x05", NO_PARSE, "2, the end of the input", 0, [
-        (("?", 0), "The test is 0.", "L has no tree here.", [("S 0..2", "L where", 0)], "L 1..2")]),
+        (("?", 0), "The test is 0.\nU8.val = 5, n = 1.", "L has no tree here.", [("S 0..2", "L where", 0)], "L 1..2")]),
     (b'S -> L A where { L -> U8 ; } ;\nA -> "q" ;', b"az", NO_PARSE, "1", 0, [
         (('"q"', 0), 'Wanted at byte 1: "q" (71). There stands "z" (7a), with 0 bytes in common.', "A has no tree here.", [("S 0..2", "A where", 0)],
          "A 1..2")]),
@@ -301,10 +354,11 @@ INPUTS = [
          "Blocks 13..13")]),
     # an object whose second section header is cut
     ("@elf", ELF_CUT, NO_PARSE, "128", 0, [
-        (("Sh[", 0), "Wanted: Sh on [128, 192], in a part of 138 bytes.", "Elf has no tree here.", [], "Elf 0..138, item 1")]),
+        (("Sh[", 0), "Wanted: Sh on [128, 192], in a part of 138 bytes.\nHead.shoff = 64, i = 1, Head.shsize = 64.",
+         "Elf has no tree here.", [], "Elf 0..138, item 1")]),
     # a datagram of four bytes, which are told as raw ones, behind the last packet of a capture
     ("@pcap", UDP_CUT, PARSED, "78, the end of the input", 0, [
-        (("U16BE {length", 0), "Wanted: U16BE on [4, 6], in a part of 4 bytes.", "The next alternative of Udp is tried.",
+        (("U16BE {length", 0), "Wanted: U16BE on [4, 6], in a part of 4 bytes.\nU16BE.end = 4.", "The next alternative of Udp is tried.",
          [("Pcap 0..78", "many Rec", 0), ("Rec 24..78", "switch { case (link", 0), ("Eth 40..78", "switch { case (type", 0),
           ("Ip 54..78", "switch { case ((frag", 0)], "Udp 74..78"),
         (("U32LE", 0), "Wanted: U32LE on [0, 4], in a part of 0 bytes.", "The next alternative of Word is tried.",

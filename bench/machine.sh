@@ -41,12 +41,13 @@ same() {
 # arena SIZE: enough for a file of so many bytes
 arena() { if [ "$1" -gt 1000000 ]; then echo 2048; else echo 512; fi; }
 
-# against KIND MEMO SIZE GOAL..: the program and the one by hand on a file of so many bytes
+# against KIND MEMO SIZE TIMES BYTES GOAL..: the program and the one by hand on a file of so many bytes, with the goals for how
+# many times as long it takes and for the bytes of memory for each line
 against() {
-  local kind=$1 memo=$2 size=$3 hand=$1
-  shift 3
+  local kind=$1 memo=$2 size=$3 times=$4 bytes=$5 hand=$1
+  shift 5
   if [ "$memo" = on ]; then hand=$kind-memo; fi
-  python3 bench/turns.py "$@" --goal 1.5 --per-line 70 "$kind of $size, memo $memo" "$ipg" parse "$work/$kind.ipg" "$work/$size" \
+  python3 bench/turns.py "$@" --goal "$times" --per-line "$bytes" "$kind of $size, memo $memo" "$ipg" parse "$work/$kind.ipg" "$work/$size" \
     --memo "$memo" --arena "$(arena "$size")" -- "$work/baseline" "$hand" "$work/$size"
 }
 
@@ -59,11 +60,13 @@ twice() {
 for kind in array many calls behind list; do same "$kind"; done
 
 echo "what | ipg | memory | for each line | by hand | memory | ratio"
-for kind in array many; do against "$kind" on 1000000; done
-for kind in calls behind list; do
-  for memo in off on; do against "$kind" "$memo" 1000000; done
+for kind in array many; do against "$kind" on 1000000 1.1 70; done
+for memo in off on; do against calls "$memo" 1000000 1.1 70; done
+for memo in off on; do against behind "$memo" 1000000 1.2 70; done
+for size in 1000000 4000000; do
+  against list off "$size" 1.2 95 --most-ms 3000 --most-mib 954
+  against list on "$size" 1.2 120 --most-ms 3000 --most-mib 954
 done
-for memo in off on; do against list "$memo" 4000000 --most-ms 3000 --most-mib 954; done
 
 echo "what | on twice as much | memory | on once | memory | ratio"
 for kind in array many calls behind; do twice "$kind" 1000000 "$kind" 2000000; done
