@@ -10,4 +10,4 @@ output_with (Some written) held = Some (record { written = written; held = held 
 
 -- what went out to the writer, where that is told, and what is held
 abbrev pub gathered : {W : Type 0} → (W → Option (List ℕ)) → StdSink W → Option Output
-gathered contents sink = output_with (contents sink.out) sink.held.items
+gathered contents sink = output_with (contents sink.out) sink.held

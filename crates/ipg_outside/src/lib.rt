@@ -11,6 +11,7 @@ mod std_sink;
 mod stored;
 mod sure_files;
 mod sure_sink;
+mod waiting;
 
 pub use disk::DiskFiles;
 pub use files::{FileFault, Files};

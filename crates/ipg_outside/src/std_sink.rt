@@ -6,16 +6,14 @@ ghost use Rattle.ipg_outside.specs.Gathered.{gathered};
 ghost use Rattle.ipg_outside.specs.Sink.{AppendsPart, Tells, Takes, HandsOn, Breaks};
 
 use crate::sink::{Sink, SinkFault};
-use arrayvec::ArrayVec;
+use crate::waiting::Waiting;
 use std::io;
-
-const ROOM: usize = 1 << 14;
 
 /// Gathers pieces and hands them to a writer in large ones. It tells what the writer tells.
 #[derive(Drop)]
 pub struct StdSink<W: io::Write + Drop> {
     out: W,
-    held: ArrayVec<u8, ROOM>,
+    held: Waiting,
     faults: u64,
 }
 
@@ -23,12 +21,12 @@ impl<W: io::Write + Drop> StdSink<W> {
     /// A sink over a writer. It holds nothing, and no writing has failed yet.
     pub fn new(out: W) -> StdSink<W>
         ensures out { result.out ≡ out }
-        ensures held { result.held.items ≡ [] }
+        ensures held { result.held ≡ [] }
         ensures faults { result.faults ≡ 0 }
     {
         StdSink {
             out,
-            held: ArrayVec::new(),
+            held: Waiting::new(),
             faults: 0,
         }
     }
@@ -48,7 +46,7 @@ impl<W: io::Write + Drop> StdSink<W> {
     fn hand_on(&mut self) -> Result<(), SinkFault>
         ensures handed_on { OnOk result (Tells (gathered W.contents self.old) (gathered W.contents self.new) HandsOn) }
         ensures broken { OnErr result (Tells (gathered W.contents self.old) (gathered W.contents self.new) (Breaks [])) }
-        ensures none_held { self.new.held.items ≡ [] }
+        ensures none_held { self.new.held ≡ [] }
         ensures failed { OnErr result (Rose self.old.faults self.new.faults) }
         ensures counts { self.old.faults ≤ self.new.faults }
     {
@@ -79,7 +77,7 @@ impl<W: io::Write + Drop> Sink for StdSink<W> {
 
     #[inline]
     fn write(&mut self, piece: &[u8]) -> Result<(), SinkFault> {
-        match self.held.try_extend_from_slice(piece) {
+        match self.held.add(piece) {
             Ok(()) => Ok(()),
             Err(_) => self.write_past(piece),
         }

@@ -6,5 +6,6 @@ pub mod Found
 pub mod Runs
 pub mod Stacks
 pub mod Turning
+pub mod Handing
 pub mod Decoded
 pub mod OneGrammar

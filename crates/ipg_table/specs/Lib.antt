@@ -8,3 +8,4 @@ pub mod Laws
 pub mod Grows
 pub mod Running
 pub mod Stack
+pub mod Hand

@@ -1,8 +1,10 @@
 //! Flat tables compiled from a checked grammar.
 #![tactic(auto)]
 
+mod answers;
 mod draft;
 mod emit;
+mod in_hand;
 pub mod laws;
 mod look;
 pub mod results;

@@ -10,6 +10,8 @@ ghost use Rattle.ipg_table.specs.Running.{computed, on_top, run};
 ghost use Rattle.ipg_table.specs.Running as running;
 ghost use Rattle.ipg_table.specs.Stack.{stacked, Turns, StackWithin, Puts};
 
+use crate::answers::{found, kept, truth, whole};
+use crate::in_hand::{alone, in_hand, lone, pair};
 use crate::look::past;
 use crate::results::Results;
 use crate::row::Op;
@@ -28,34 +30,6 @@ pub(crate) enum Turn {
 struct Taken {
     value: i64,
     top: usize,
-}
-
-/// A number is within its type.
-fn kept(answer: Answer) -> Answer
-    ensures { result ≡ spec.on_value answer limited }
-{
-    answer
-}
-
-fn found(value: Option<i64>) -> Answer
-    ensures { result ≡ spec.found value }
-{
-    match value {
-        Some(value) => Answer::Val(value),
-        None => Answer::Fail,
-    }
-}
-
-fn truth(holds: bool) -> Answer
-    ensures { result ≡ flag holds }
-{
-    Answer::Val(if holds { 1 } else { 0 })
-}
-
-fn whole(number: u32) -> Answer
-    ensures { result ≡ Answer.Val (pos number) }
-{
-    Answer::Val(i64::from(number))
 }
 
 /// 1 for 0, else 0.
@@ -305,147 +279,6 @@ fn step<R: Results>(op: &Op, results: &R, area: &mut [i64], top: usize) -> Turn
         Op::Else { skip } => Turn::On { skip: *skip, top },
         Op::Close => Turn::On { skip: 0, top },
     }
-}
-
-/// The number that an answer is, if it is one.
-fn number(answer: Answer) -> Option<i64>
-    ensures { IfSome result (λ z. on_value answer limited ≡ Answer.Val z) }
-{
-    match kept(answer) {
-        Answer::Val(value) => Some(value),
-        _ => None,
-    }
-}
-
-/// The number that a row is.
-#[inline(always)]
-fn literal(op: &Op) -> Option<i64>
-    ensures { (env : Environment) (room : ℕ) → IfSome result (Puts env room op.now) }
-{
-    match op {
-        Op::Num(value) => number(Answer::Val(*value)),
-        _ => None,
-    }
-}
-
-/// The number that a row puts on the stack where it is a number or the loop variable.
-#[inline(always)]
-fn plain<R: Results>(op: &Op, results: &R) -> Option<i64>
-    ensures { (env : Environment) (room : ℕ) → R.stands results.now env → IfSome result (Puts env room op.now) }
-{
-    match op {
-        Op::Loop => number(found(results.item())),
-        _ => literal(op),
-    }
-}
-
-/// The number that a row puts on the stack where it takes nothing off it, if it puts one.
-#[inline(always)]
-fn single<R: Results>(op: &Op, results: &R) -> Option<i64>
-    ensures { (env : Environment) (room : ℕ) → R.stands results.now env → IfSome result (Puts env room op.now) }
-{
-    match op {
-        Op::Eoi => number(whole(results.eoi())),
-        Op::Own(attr) => number(found(results.own(*attr))),
-        Op::Outer(attr) => number(found(results.outer(*attr))),
-        Op::Seen { term, sym, field } => number(found(results.seen(*term, sym, *field))),
-        _ => plain(op, results),
-    }
-}
-
-/// What an operator makes of two numbers, where that is a number: a sum or a difference at once.
-#[inline(always)]
-fn applied(op: Op2, a: i64, b: i64) -> Option<i64>
-    ensures { IfSome result (λ z. on_value (apply_of op a b) limited ≡ Answer.Val z) }
-{
-    if op == Op2::Add {
-        a.checked_add(b)
-    } else if op == Op2::Sub {
-        a.checked_sub(b)
-    } else {
-        number(apply(op, a, b))
-    }
-}
-
-/// The number that a plain row computes on its own, where there is room for it: no stack is needed then.
-#[inline(always)]
-fn lone<R: Results>(ops: &[Op], results: &R, room: usize) -> Option<i64>
-    ensures { (env : Environment) → R.stands results.now env → IfSome result (λ z. run env room 0 ops.now [] ≡ Answer.Val z) }
-{
-    if ops.len() != 1 {
-        return None;
-    }
-    if room == 0 {
-        return None;
-    }
-    plain(&ops[0], results)
-}
-
-/// The number that a plain row, a number and their operator compute, where there is room for both.
-#[inline(always)]
-fn pair<R: Results>(ops: &[Op], results: &R, room: usize) -> Option<i64>
-    ensures { (env : Environment) → R.stands results.now env → IfSome result (λ z. run env room 0 ops.now [] ≡ Answer.Val z) }
-{
-    if ops.len() != 3 {
-        return None;
-    }
-    if room < 2 {
-        return None;
-    }
-    match &ops[2] {
-        Op::Two(op) => {
-            let a = plain(&ops[0], results)?;
-            let b = literal(&ops[1])?;
-            applied(*op, a, b)
-        }
-        _ => None,
-    }
-}
-
-/// The number that a single row computes, where it takes nothing off the stack.
-#[inline(always)]
-fn alone<R: Results>(ops: &[Op], results: &R) -> Option<i64>
-    ensures { (env : Environment) (room : ℕ) → R.stands results.now env → 1 ≤ room → IfSome result (λ z. run env room 0 ops.now [] ≡ Answer.Val z) }
-{
-    if ops.len() == 1 {
-        single(&ops[0], results)
-    } else {
-        None
-    }
-}
-
-/// What the operator behind a row makes of a number and that row's, where it is a number.
-#[inline(always)]
-fn joined<R: Results>(a: i64, rows: &[Op], results: &R) -> Option<i64>
-    requires { 2 ≤ length rows.now }
-    ensures { (env : Environment) (room : ℕ) → R.stands results.now env → 2 ≤ room
-        → IfSome result (λ z. run env room 0 rows.now (a ∷ []) ≡ run env room 0 (drop 2 rows.now) (z ∷ [])) }
-{
-    match &rows[1] {
-        Op::Two(op) => {
-            let b = single(&rows[0], results)?;
-            applied(*op, a, b)
-        }
-        _ => None,
-    }
-}
-
-/// The number that rows compute which need no stack: a row that takes nothing off it, and behind that such rows, each with
-/// its operator.
-#[inline]
-fn in_hand<R: Results>(ops: &[Op], results: &R) -> Option<i64>
-    ensures { (env : Environment) (room : ℕ) → R.stands results.now env → 2 ≤ room → IfSome result (λ z. run env room 0 ops.now [] ≡ Answer.Val z) }
-{
-    if ops.is_empty() {
-        return None;
-    }
-    let mut value = single(&ops[0], results)?;
-    let mut left = past(ops, 1);
-    while left.len() >= 2 {
-        value = joined(value, left, results)?;
-        left = past(left, 2);
-    }
-    if left.is_empty() { Some(value) } else { None }
 }
 
 /// What rows compute, row by row on the stack.

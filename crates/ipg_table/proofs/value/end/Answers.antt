@@ -5,19 +5,8 @@ use Rattle.ipg_core.specs.Environment.{done_at, items_so_far}
 use Rattle.ipg_core.specs.Eval.{found, greatest_end}
 use Rattle.ipg_table.specs.Running.{Next, put, put_end}
 use Rattle.ipg_table.specs.Stack.{stacked, Turns}
+use Rattle.ipg_table.proofs.Handing.{an_end, no_end}
 use Rattle.ipg_table.proofs.value.end.Goals as goal
-
--- an end is put whether it is read as a place or as a number
-an_end : (room : ℕ) (end : Option ℕ) (o : Option ℤ) (z : ℤ) (answer : Answer) (skip : ℕ) (stack : List ℤ)
-    → o ≡ option_map pos end → o ≡ Some z → answer ≡ found o → put_end room end skip stack ≡ put room answer skip stack
-an_end room None o z answer skip stack e is h = absurd (none-some z (sym e ∙ is))
-an_end room (Some n) o z answer skip stack e is h = ap (λ a. put room a skip stack) (sym (h ∙ ap found e))
-
--- no number, no place: the next row follows
-no_end : (room : ℕ) (end : Option ℕ) (o : Option ℤ) (skip : ℕ) (stack : List ℤ) → o ≡ option_map pos end → o ≡ None
-    → (next : Next) → put_end room end skip stack next ≡ next 0 stack
-no_end room None o skip stack e is next = refl
-no_end room (Some n) o skip stack e is next = absurd (none-some (pos n) (sym is ∙ e))
 
 pub returns-in-Some-clause-turn : goal.returns-in-Some-clause-turn
 returns-in-Some-clause-turn g c = λ env stands.

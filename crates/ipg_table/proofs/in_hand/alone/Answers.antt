@@ -1,5 +1,5 @@
 use Rattle.ipg_table.proofs.Turning.{one_run}
-use Rattle.ipg_table.proofs.value.alone.Goals as goal
+use Rattle.ipg_table.proofs.in_hand.alone.Goals as goal
 
 pub returns-then-ops-eq1 : goal.returns-then-ops-eq1
 returns-then-ops-eq1 g c env room stands within =

@@ -1,6 +1,6 @@
 use Rattle.std.proofs.Common.{◌≤◌, arith}
 use Rattle.ipg_table.proofs.Turning.{one_run}
-use Rattle.ipg_table.proofs.value.lone.Goals as goal
+use Rattle.ipg_table.proofs.in_hand.lone.Goals as goal
 
 pub returns : goal.returns
 returns g c env stands =

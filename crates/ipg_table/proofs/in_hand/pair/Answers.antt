@@ -3,7 +3,7 @@ use Rattle.ipg_num.specs.Number.{limited, apply_of}
 use Rattle.ipg_num.specs.declared.op.Answer.TheVariants.{Val}
 use Rattle.ipg_core.specs.Eval.{on_value}
 use Rattle.ipg_table.proofs.Turning.{pair_run}
-use Rattle.ipg_table.proofs.value.pair.Goals as goal
+use Rattle.ipg_table.proofs.in_hand.pair.Goals as goal
 
 pub returns-in_ok-b-in-Two : goal.returns-in_ok-b-in-Two
 returns-in_ok-b-in-Two g c env stands =
