@@ -119,8 +119,6 @@ fn first_call<'m, A: Allocator + Clone + Drop>(
 #[derive(Drop)]
 pub struct Machine<'m, A: Allocator> {
     pub work: Work<'m, A>,
-    pub tables: &'m Tables,
-    pub input: &'m [u8],
     /// Memory ran out in the midst of a move.
     pub is_spoiled: bool,
 }
@@ -134,8 +132,7 @@ impl<'m, A: Allocator + Clone + Drop> Machine<'m, A> {
         remember: Remember,
     ) -> Result<Machine<'m, A>, AllocError>
         requires { length input.now ≤ 2 ^ 30 }
-        ensures given { IfOk result (λ machine. (machine.tables.now ≡ tables.now) × (machine.input.now ≡ input.now)) }
-        ensures opened { IfOk result (λ machine. (g : Grammar) → StandFor tables.now g
+        ensures { IfOk result (λ machine. (g : Grammar) → StandFor tables.now g
             → IsAt (source tables.now input.now) (staged machine.work) (opening g input.now (known_at remember))) }
     {
         let kept = Kept::new(alloc.clone()?, remember)?;
@@ -150,8 +147,7 @@ impl<'m, A: Allocator + Clone + Drop> Machine<'m, A> {
         kept: Kept<A>,
     ) -> Result<Machine<'m, A>, AllocError>
         requires { length input.now ≤ 2 ^ 30 }
-        ensures given { IfOk result (λ machine. (machine.tables.now ≡ tables.now) × (machine.input.now ≡ input.now)) }
-        ensures opened { IfOk result (λ machine. (g : Grammar) (known : Option Known) → StandFor tables.now g
+        ensures { IfOk result (λ machine. (g : Grammar) (known : Option Known) → StandFor tables.now g
             → IsKnown (source tables.now input.now) kept.store kept.memo known
             → IsAt (source tables.now input.now) (staged machine.work) (opening g input.now known)) }
     {
@@ -171,8 +167,6 @@ impl<'m, A: Allocator + Clone + Drop> Machine<'m, A> {
         };
         Ok(Machine {
             work,
-            tables,
-            input,
             is_spoiled: false,
         })
     }
@@ -181,8 +175,6 @@ impl<'m, A: Allocator + Clone + Drop> Machine<'m, A> {
     pub fn go(&mut self, most: u64) -> Result<Turn, AllocError>
         ensures gone { (src : Source) (e : Evaluation) → IsAt src (staged self.old.work) e
             → IfOk result (λ turn. HasGone src (staged self.new.work) e most turn) }
-        ensures tables { self.new.tables ≡ self.old.tables }
-        ensures input { self.new.input ≡ self.old.input }
         ensures spoiled { OnErr result (self.new.is_spoiled ≡ true) }
         ensures stays { self.old.is_spoiled ≡ true → IsErr result }
     {

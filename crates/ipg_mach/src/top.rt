@@ -16,6 +16,7 @@ ghost use Rattle.ipg_mach_nodes.specs.Stored.{Source, IsMark};
 ghost use Rattle.ipg_table.specs.Rows.{Rows, Each, HoldsAlt, HoldsInstr};
 ghost use Rattle.ipg_mach_term.specs.Advance.{IsAdvance, IsItem};
 ghost use Rattle.ipg_mach_slot.specs.Now.{IsDone};
+ghost use Rattle.ipg_mach_node.specs.Items.{together};
 ghost use Rattle.ipg_mach.specs.Piled.{IsBase, below};
 ghost use Rattle.ipg_mach_term.specs.declared.entry.Entry.TheVariants.{Outside};
 ghost use Rattle.ipg_mach.specs.Calls.{shown, IsAtWork, IsWorking, IsHolding, IsHighest, IsReady, Keeps, items_in, term_at_hand};
@@ -29,7 +30,7 @@ use crate::piles::Piles;
 use ipg_mach_node::laws::{
     before_before, items_stay, none_has_run, one_more, result_set, results_stay,
 };
-use ipg_mach_node::{Closing, Scratch, array, close, repetition};
+use ipg_mach_node::{Closing, Scratch, Several, close, past_items};
 use ipg_mach_nodes::{Kid, Mark, RunId, Store};
 use ipg_mach_slot::Done;
 use ipg_mach_term::{Advance, Entry};
@@ -97,21 +98,21 @@ fn behind(alt: u32) -> Result<u32, AllocError>
 
 impl<'m, A: Allocator + Clone + Drop> Top<'m, A> {
     /// An attribute has its value.
-    fn add_value(&mut self, tables: &Tables, attr: u32, value: i64) -> Result<(), AllocError>
-        ensures work { (src : Source) (frames : List Frame) (lower : List OpenCall) (items : List tree.Kid) (c : OpenCall)
-            → IsAtWork tables.now src (shown self.old) frames lower items c
-            → OnOk result (IsAtWork tables.now src (shown self.new) frames lower items (record c { state = with_value c.state attr value })) }
+    fn add_value(&mut self, attr: u32, value: i64) -> Result<(), AllocError>
+        ensures work { (t : Rows) (src : Source) (frames : List Frame) (lower : List OpenCall) (items : List tree.Kid) (c : OpenCall)
+            → IsAtWork t src (shown self.old) frames lower items c
+            → OnOk result (IsAtWork t src (shown self.new) frames lower items (record c { state = with_value c.state attr value })) }
         ensures keeps { IsMark self.old.store self.old.floor → OnOk result (Keeps (shown self.old) (shown self.new)) }
     {
         self.piles.add_own(attr, value)
     }
 
     /// The term at hand has its result.
-    fn set_result(&mut self, tables: &Tables, done: Done)
-        ensures work { (src : Source) (frames : List Frame) (lower : List OpenCall) (items : List tree.Kid) (c : OpenCall) (one : core.Done)
-            → IsAtWork tables.now src (shown self.old) frames lower items c
+    fn set_result(&mut self, done: Done)
+        ensures work { (t : Rows) (src : Source) (frames : List Frame) (lower : List OpenCall) (items : List tree.Kid) (c : OpenCall) (one : core.Done)
+            → IsAtWork t src (shown self.old) frames lower items c
             → IsDone src self.old.store self.old.frame.from (calls.size_of self.old.frame) done one
-            → IsAtWork tables.now src (shown self.new) frames lower items
+            → IsAtWork t src (shown self.new) frames lower items
             (record c { state = with_kid c.state (term_at_hand c.left) one.is_switch one.kid }) }
         ensures keeps { IsMark self.old.store self.old.floor → Keeps (shown self.old) (shown self.new) }
     {
@@ -121,11 +122,11 @@ impl<'m, A: Allocator + Clone + Drop> Top<'m, A> {
     }
 
     /// One item more.
-    fn add_item(&mut self, tables: &Tables, item: Kid) -> Result<(), AllocError>
-        ensures work { (src : Source) (frames : List Frame) (lower : List OpenCall) (items : List tree.Kid) (c : OpenCall) (one : tree.Kid)
-            → IsAtWork tables.now src (shown self.old) frames lower items c
+    fn add_item(&mut self, item: Kid) -> Result<(), AllocError>
+        ensures work { (t : Rows) (src : Source) (frames : List Frame) (lower : List OpenCall) (items : List tree.Kid) (c : OpenCall) (one : tree.Kid)
+            → IsAtWork t src (shown self.old) frames lower items c
             → IsItem src self.old.store self.old.frame.from (calls.size_of self.old.frame) item one
-            → OnOk result (IsAtWork tables.now src (shown self.new) frames lower (items ++ one ∷ []) c) }
+            → OnOk result (IsAtWork t src (shown self.new) frames lower (items ++ one ∷ []) c) }
         ensures keeps { IsMark self.old.store self.old.floor → OnOk result (Keeps (shown self.old) (shown self.new)) }
         ensures frame { self.new.frame ≡ self.old.frame }
     {
@@ -133,33 +134,19 @@ impl<'m, A: Allocator + Clone + Drop> Top<'m, A> {
         self.piles.add_item(item)
     }
 
-    /// The items so far are the array of the term at hand.
-    fn set_array(&mut self, tables: &Tables, sym: u32) -> Result<(), AllocError>
-        ensures work { (src : Source) (frames : List Frame) (lower : List OpenCall) (items : List tree.Kid) (c : OpenCall) (one : Sym)
-            → IsAtWork tables.now src (shown self.old) frames lower items c → slice_get src.syms sym ≡ Some one
-            → OnOk result (IsAtWork tables.now src (shown self.new) frames lower items
-            (record c { state = with_kid c.state (term_at_hand c.left) false (tree.Array one (kids_of items)) })) }
+    /// The items so far are together the result of the term at hand.
+    fn set_items(&mut self, several: Several, sym: u32) -> Result<(), AllocError>
+        ensures work { (t : Rows) (src : Source) (frames : List Frame) (lower : List OpenCall) (items : List tree.Kid) (c : OpenCall) (one : Sym)
+            → IsAtWork t src (shown self.old) frames lower items c → slice_get src.syms sym ≡ Some one
+            → OnOk result (IsAtWork t src (shown self.new) frames lower items
+            (record c { state = with_kid c.state (term_at_hand c.left) false (together several one (kids_of items)) })) }
         ensures keeps { IsMark self.old.store self.old.floor → OnOk result (Keeps (shown self.old) (shown self.new)) }
     {
         items_stay();
         results_stay();
-        let done = array(&mut self.store, sym, self.piles.items(self.frame.base))?;
-        self.set_result(tables, done);
-        Ok(())
-    }
-
-    /// The items so far are the repetition of the term at hand.
-    fn set_repetition(&mut self, tables: &Tables, sym: u32) -> Result<(), AllocError>
-        ensures work { (src : Source) (frames : List Frame) (lower : List OpenCall) (items : List tree.Kid) (c : OpenCall) (one : Sym)
-            → IsAtWork tables.now src (shown self.old) frames lower items c → slice_get src.syms sym ≡ Some one
-            → OnOk result (IsAtWork tables.now src (shown self.new) frames lower items
-            (record c { state = with_kid c.state (term_at_hand c.left) false (tree.Many one (kids_of items)) })) }
-        ensures keeps { IsMark self.old.store self.old.floor → OnOk result (Keeps (shown self.old) (shown self.new)) }
-    {
-        items_stay();
-        results_stay();
-        let done = repetition(&mut self.store, sym, self.piles.items(self.frame.base))?;
-        self.set_result(tables, done);
+        let items = self.piles.items(self.frame.base);
+        let done = past_items(&mut self.store, several, sym, items)?;
+        self.set_result(done);
         Ok(())
     }
 
@@ -231,7 +218,7 @@ impl<'m, A: Allocator + Clone + Drop> Top<'m, A> {
             → OnOk result (IsHighest tables.now src (shown self.new) frames lower (turned c (Ok (Past (with_value c.state attr value))))) }
         ensures keeps { IsMark self.old.store self.old.floor → OnOk result (Keeps (shown self.old) (shown self.new)) }
     {
-        self.add_value(tables, attr, value)?;
+        self.add_value(attr, value)?;
         self.pass(tables)
     }
 
@@ -244,31 +231,19 @@ impl<'m, A: Allocator + Clone + Drop> Top<'m, A> {
             (turned c (Ok (Past (with_kid c.state (term_at_hand c.left) one.is_switch one.kid))))) }
         ensures keeps { IsMark self.old.store self.old.floor → OnOk result (Keeps (shown self.old) (shown self.new)) }
     {
-        self.set_result(tables, done);
+        self.set_result(done);
         self.pass(tables)
     }
 
-    /// The items so far are the array of the term at hand, which is past.
-    fn pass_array(&mut self, tables: &Tables, sym: u32) -> Result<(), AllocError>
+    /// The items so far are together the result of the term at hand, which is past.
+    fn pass_items(&mut self, tables: &Tables, several: Several, sym: u32) -> Result<(), AllocError>
         ensures highest { (src : Source) (frames : List Frame) (lower : List OpenCall) (items : List tree.Kid) (c : OpenCall) (one : Sym)
             → IsAtWork tables.now src (shown self.old) frames lower items c → slice_get src.syms sym ≡ Some one
             → OnOk result (IsHighest tables.now src (shown self.new) frames lower
-            (turned c (Ok (Past (with_kid c.state (term_at_hand c.left) false (tree.Array one (kids_of items))))))) }
+            (turned c (Ok (Past (with_kid c.state (term_at_hand c.left) false (together several one (kids_of items))))))) }
         ensures keeps { IsMark self.old.store self.old.floor → OnOk result (Keeps (shown self.old) (shown self.new)) }
     {
-        self.set_array(tables, sym)?;
-        self.pass(tables)
-    }
-
-    /// The items so far are the repetition of the term at hand, which is past.
-    fn pass_repetition(&mut self, tables: &Tables, sym: u32) -> Result<(), AllocError>
-        ensures highest { (src : Source) (frames : List Frame) (lower : List OpenCall) (items : List tree.Kid) (c : OpenCall) (one : Sym)
-            → IsAtWork tables.now src (shown self.old) frames lower items c → slice_get src.syms sym ≡ Some one
-            → OnOk result (IsHighest tables.now src (shown self.new) frames lower
-            (turned c (Ok (Past (with_kid c.state (term_at_hand c.left) false (tree.Many one (kids_of items))))))) }
-        ensures keeps { IsMark self.old.store self.old.floor → OnOk result (Keeps (shown self.old) (shown self.new)) }
-    {
-        self.set_repetition(tables, sym)?;
+        self.set_items(several, sym)?;
         self.pass(tables)
     }
 
@@ -324,18 +299,18 @@ impl<'m, A: Allocator + Clone + Drop> Top<'m, A> {
             Advance::Value { attr, value } => self.pass_value(tables, attr, value),
             Advance::Passed => self.pass(tables),
             Advance::Result(done) => self.pass_result(tables, done),
-            Advance::Array { sym } => self.pass_array(tables, sym),
+            Advance::Array { sym } => self.pass_items(tables, Several::Array, sym),
             Advance::Last { sym, item } => {
-                self.add_item(tables, item)?;
-                self.pass_array(tables, sym)
+                self.add_item(item)?;
+                self.pass_items(tables, Several::Array, sym)
             }
-            Advance::Many { sym } => self.pass_repetition(tables, sym),
+            Advance::Many { sym } => self.pass_items(tables, Several::Repetition, sym),
             Advance::Inside(entry) => {
                 self.frame.entry = entry;
                 Ok(())
             }
             Advance::Item { item, entry } => {
-                self.add_item(tables, item)?;
+                self.add_item(item)?;
                 self.frame.entry = entry;
                 Ok(())
             }

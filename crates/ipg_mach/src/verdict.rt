@@ -50,9 +50,7 @@ pub enum Verdict<A: Allocator> {
 fn run_to_end<'m, A: Allocator + Clone + Drop>(
     machine: &mut Machine<'m, A>,
 ) -> Result<(), AllocError>
-    ensures ends { (src : Source) (e : Evaluation) → IsAt src (staged machine.old.work) e → OnOk result (Ends src (staged machine.new.work) e) }
-    ensures tables { machine.new.tables ≡ machine.old.tables }
-    ensures input { machine.new.input ≡ machine.old.input }
+    ensures { (src : Source) (e : Evaluation) → IsAt src (staged machine.old.work) e → OnOk result (Ends src (staged machine.new.work) e) }
 {
     match machine.go(u64::MAX)? {
         Turn::Done => Ok(()),

@@ -6,11 +6,12 @@ use Rattle.ipg_core.specs.Tree as tree
 use Rattle.ipg_core.specs.Tree.{kids_of}
 use Rattle.ipg_region.specs.declared.region.RunId.{RunId}
 use Rattle.ipg_mach_nodes.specs.declared.kid.Kid.{Kid}
-use Rattle.ipg_mach_nodes.specs.declared.kid.Kid.TheVariants as row
 use Rattle.ipg_mach_nodes.specs.Stored.{Stored, Source, with_list}
 use Rattle.ipg_mach_nodes.specs.Laws.{Grows}
 use Rattle.ipg_mach_slot.specs.Now.{IsDone}
-use Rattle.ipg_mach_node.specs.Items.{HasItems}
+use Rattle.ipg_mach_node.specs.declared.results.Several.{Several}
+use Rattle.ipg_mach_node.specs.declared.results.Several.TheVariants.{Array, Repetition}
+use Rattle.ipg_mach_node.specs.Items.{HasItems, row_of, together}
 use Rattle.ipg_mach_node.specs.Laws.{ItemsStay, GrowsByList}
 
 pub last_of : {A : Type 0} (xs : List A) (a : A) → slice_get (xs ++ a ∷ []) (length xs) ≡ Some a
@@ -30,18 +31,16 @@ module _ (stay : ItemsStay) (grows : GrowsByList) (src : Source) (st more : Stor
     stays : HasItems src more at n rows items
     stays = stay src st more at n rows items (subst (Grows st) (sym is) (grows st rows)) has
 
-    pub array : IsDone src more at n (record { is_switch = false; kid = row.Array number id })
-        (record { is_switch = false; kid = tree.Array one (kids_of items) })
-    array = record {
+    -- they are its result, whichever of the two it is
+    pub past_items : (several : Several) → IsDone src more at n (record { is_switch = false; kid = row_of several number id })
+        (record { is_switch = false; kid = together several one (kids_of items) })
+    past_items Array = record {
       switch = refl;
       stands = (number, id, rows, refl, known, list_there st more rows id is place, stays.stand);
       within = has.within;
       flat = has.single;
     }
-
-    pub repetition : IsDone src more at n (record { is_switch = false; kid = row.Many number id })
-        (record { is_switch = false; kid = tree.Many one (kids_of items) })
-    repetition = record {
+    past_items Repetition = record {
       switch = refl;
       stands = (number, id, rows, refl, known, list_there st more rows id is place, stays.stand);
       within = has.within;

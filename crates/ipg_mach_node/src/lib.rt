@@ -9,5 +9,5 @@ mod scratch;
 mod tests;
 
 pub use closing::{Closing, close};
-pub use results::{array, repetition};
+pub use results::{Several, past_items};
 pub use scratch::Scratch;

@@ -1,5 +1,5 @@
 use crate::scratch::{put_attrs, put_kids};
-use crate::{array, repetition};
+use crate::{Several, past_items};
 use ipg_mach_nodes::{Head, Kid, Store};
 use ipg_mach_slot::Done;
 use std::test::Fail;
@@ -26,7 +26,7 @@ fn rows_of_a_node(rt: HostRuntime) -> Result<(), Fail> {
         is_switch: false,
         kid: raw,
     };
-    let many = repetition(&mut store, 5, &[node, node])?;
+    let many = past_items(&mut store, Several::Repetition, 5, &[node, node])?;
     assert!(rt; matches!(many.kid, Kid::Many { sym: 5, .. }));
     let mut kids = Vec::new(rt.alloc());
     put_kids(
@@ -37,7 +37,7 @@ fn rows_of_a_node(rt: HostRuntime) -> Result<(), Fail> {
     let mut attrs = Vec::new(rt.alloc());
     put_attrs(&mut attrs, &[4, 9, 7], &[(7, -1), (4, 6)])?;
     assert!(rt; attrs.as_slice() == [(4, 6), (7, -1)].as_slice());
-    let empty = array(&mut store, 5, &[])?;
+    let empty = past_items(&mut store, Several::Array, 5, &[])?;
     assert!(rt; !empty.is_switch);
     Ok(())
 }

@@ -6,9 +6,9 @@ use Rattle.ipg_mach.specs.Known.{IsKnown}
 use Rattle.ipg_mach.specs.Stage.{source}
 use Rattle.ipg_mach.proofs.machine.Machine.over.Goals as goal
 
-pub returns-clause-opened : goal.returns-clause-opened
+pub returns : goal.returns
 unfolding opening
-returns-clause-opened g c grammar known stand knows =
+returns g c grammar known stand knows =
     let src = source c.args.tables.now c.args.input.now in
     record {
       input = refl;

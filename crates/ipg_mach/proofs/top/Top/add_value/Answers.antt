@@ -9,11 +9,11 @@ use Rattle.ipg_mach.proofs.top.Top.add_value.Goals as goal
 
 pub returns-clause-work : goal.returns-clause-work
 unfolding with_value
-returns-clause-work g c src frames lower items call work =
+returns-clause-work g c t src frames lower items call work =
     let s = shown c.args.self.now in
     let own = above s.piles s.frame.base in
     on_ok_weaker c.add_own.result
-    (λ turns. working.turns_to c.args.tables.now src s frames lower items call work c.add_own.new.self _ _ items turns
+    (λ turns. working.turns_to t src s frames lower items call work c.add_own.new.self _ _ items turns
     work.is_open.count (ap (λ vs. vs ++ (c.args.attr, c.args.value) ∷ []) work.is_open.attrs) work.is_open.done work.is_open.have)
     (subst (λ z. OnOk c.add_own.result (Turns s.piles c.add_own.new.self s.frame.base (record own { own = own.own ++ (c.args.attr, z) ∷ [] })))
     (to_z-of_z w64 c.args.value c.ranges.value)

@@ -14,4 +14,4 @@ returns-clause-highest g c src frames lower items call work =
     (c.pass.ensures.highest src frames lower items (record call { state = with_value call.state c.args.attr c.args.value })
     (subst (λ z. IsAtWork t src (shown c.add_value.new.self) frames lower items (record call { state = with_value call.state c.args.attr z }))
     (to_z-of_z w64 c.args.value c.ranges.value)
-    (c.in_ok-add_value.ensures.work src frames lower items call work)))
+    (c.in_ok-add_value.ensures.work t src frames lower items call work)))

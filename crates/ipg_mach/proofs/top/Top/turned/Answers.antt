@@ -35,8 +35,8 @@ returns-in-Array-clause-highest g c src frames lower call answer floor work adv 
     let s = shown c.args.self.now in
     let is = subst (λ a. IsAdvance src s.store s.frame.from (size_of s.frame) (term_at_hand call.left) call.state (items_in call.entry) a answer)
     c.in-Array.is adv in
-    subst (λ a. OnOk c.pass_array.result (IsHighest t src (shown c.pass_array.new.self) frames lower (turned call a))) (sym is.2)
-    (c.pass_array.ensures.highest src frames lower (items_in call.entry) call is.0 work.at_work is.1)
+    subst (λ a. OnOk c.pass_items.result (IsHighest t src (shown c.pass_items.new.self) frames lower (turned call a))) (sym is.2)
+    (c.pass_items.ensures.highest src frames lower (items_in call.entry) call is.0 work.at_work is.1)
 
 pub returns-in_ok-add_item-in-Last-clause-highest : goal.returns-in_ok-add_item-in-Last-clause-highest
 returns-in_ok-add_item-in-Last-clause-highest g c src frames lower call answer floor work adv =
@@ -44,9 +44,9 @@ returns-in_ok-add_item-in-Last-clause-highest g c src frames lower call answer f
     let s = shown c.args.self.now in
     let is = subst (λ a. IsAdvance src s.store s.frame.from (size_of s.frame) (term_at_hand call.left) call.state (items_in call.entry) a answer)
     c.in-Last.is adv in
-    subst (λ a. OnOk c.pass_array-in-Last.result (IsHighest t src (shown c.pass_array-in-Last.new.self) frames lower (turned call a))) (sym is.4)
-    (c.pass_array-in-Last.ensures.highest src frames lower (items_in call.entry ++ is.2 ∷ []) call is.0
-    (c.in_ok-add_item-in-Last.ensures.work src frames lower (items_in call.entry) call is.2 work.at_work is.3) is.1)
+    subst (λ a. OnOk c.pass_items-in-Last.result (IsHighest t src (shown c.pass_items-in-Last.new.self) frames lower (turned call a))) (sym is.4)
+    (c.pass_items-in-Last.ensures.highest src frames lower (items_in call.entry ++ is.2 ∷ []) call is.0
+    (c.in_ok-add_item-in-Last.ensures.work t src frames lower (items_in call.entry) call is.2 work.at_work is.3) is.1)
 
 pub returns-in-Many-clause-highest : goal.returns-in-Many-clause-highest
 returns-in-Many-clause-highest g c src frames lower call answer floor work adv =
@@ -54,8 +54,8 @@ returns-in-Many-clause-highest g c src frames lower call answer floor work adv =
     let s = shown c.args.self.now in
     let is = subst (λ a. IsAdvance src s.store s.frame.from (size_of s.frame) (term_at_hand call.left) call.state (items_in call.entry) a answer)
     c.in-Many.is adv in
-    subst (λ a. OnOk c.pass_repetition.result (IsHighest t src (shown c.pass_repetition.new.self) frames lower (turned call a))) (sym is.2)
-    (c.pass_repetition.ensures.highest src frames lower (items_in call.entry) call is.0 work.at_work is.1)
+    subst (λ a. OnOk c.pass_items-in-Many.result (IsHighest t src (shown c.pass_items-in-Many.new.self) frames lower (turned call a))) (sym is.2)
+    (c.pass_items-in-Many.ensures.highest src frames lower (items_in call.entry) call is.0 work.at_work is.1)
 
 pub returns-in_ok-add_item-in-Item-clause-highest : goal.returns-in_ok-add_item-in-Item-clause-highest
 returns-in_ok-add_item-in-Item-clause-highest g c src frames lower call answer floor work adv =
@@ -63,6 +63,6 @@ returns-in_ok-add_item-in-Item-clause-highest g c src frames lower call answer f
     let s = shown c.args.self.now in
     let is = subst (λ a. IsAdvance src s.store s.frame.from (size_of s.frame) (term_at_hand call.left) call.state (items_in call.entry) a answer)
     c.in-Item.is adv in
-    let more = c.in_ok-add_item-in-Item.ensures.work src frames lower (items_in call.entry) call is.0 work.at_work is.1 in
+    let more = c.in_ok-add_item-in-Item.ensures.work t src frames lower (items_in call.entry) call is.0 work.at_work is.1 in
     working.inside t src (shown c.add_item-in-Item.new.self) frames lower (items_in call.entry ++ is.0 ∷ []) call more c.in-Item.entry is.2 answer is.4
     (subst (λ (f : Frame). IsEntry (size_of f) c.in-Item.entry (items_in call.entry ++ is.0 ∷ []) is.2) (sym c.add_item-in-Item.ensures.frame) is.3)

@@ -3,9 +3,9 @@ use Rattle.std.proofs.lemmas.Result.{on_ok_weaker}
 use Rattle.ipg_mach_moves.specs.Moves.{Past}
 use Rattle.ipg_mach.specs.Calls.{shown, IsHighest}
 use Rattle.ipg_mach.proofs.Working as working
-use Rattle.ipg_mach.proofs.top.Top.pass_repetition.Goals as goal
+use Rattle.ipg_mach.proofs.top.Top.pass_items.Goals as goal
 
 pub returns-clause-highest : goal.returns-clause-highest
 returns-clause-highest g c src frames lower items call one work is =
     on_ok_weaker c.pass.result (subst (IsHighest c.args.tables.now src (shown c.pass.new.self) frames lower) (working.as_past call _ (Ok (Past _)) refl))
-    (c.pass.ensures.highest src frames lower items _ (c.in_ok-set_repetition.ensures.work src frames lower items call one work is))
+    (c.pass.ensures.highest src frames lower items _ (c.in_ok-set_items.ensures.work c.args.tables.now src frames lower items call one work is))
