@@ -12,7 +12,7 @@ use Rattle.ipg_solve_sure.specs.Laws.{TellsOnce}
 use Rattle.ipg_solve_sure.specs.Sure.{Tells}
 use Rattle.ipg_app_explain.specs.Named.{rule_name}
 use Rattle.ipg_app_values.specs.Laws.{NotedOnce, NotedSomehow}
-use Rattle.ipg_app_values.specs.Names.{Site, name_of}
+use Rattle.ipg_app_values.specs.Names.{CallSite, name_of}
 use Rattle.ipg_app_values.specs.Notes.{valued, IsNamed, IsValueOn, IsEdgeLine, IsLine, on_length, values_line, length_line}
 use Rattle.ipg_app_values.proofs.Turns.{once, somehow}
 
@@ -25,7 +25,7 @@ module _ (tells_once : TellsOnce) where
       → IsEdgeLine g core marks eoi edge one → IsEdgeLine g core marks eoi edge other → one ≡ other
   one_line g core marks eoi None one other h k = h ∙ sym k
   one_line g core marks eoi (Some edge) one other (values, each, h) (others, all, k) =
-      let site : Site = record { written = g; core = core; edge = edge } in
+      let site : CallSite = record { written = g; core = core; edge = edge } in
       let part = keep core marks edge in
       let same = once (IsValueOn site part eoi) (λ n key s t. one_value part.0 (on_length part.1 eoi) n (name_of site key) s t) 0 (variables core marks edge)
       values others each all
@@ -51,7 +51,7 @@ some_line : (g : written.Grammar) (core : Grammar) (marks : Marks) (eoi : ℤ) (
     → ((text : List ℕ) → IsEdgeLine g core marks eoi edge text → ⊥) → ⊥
 some_line g core marks eoi None none = none [] refl
 some_line g core marks eoi (Some edge) none =
-    let site : Site = record { written = g; core = core; edge = edge } in
+    let site : CallSite = record { written = g; core = core; edge = edge } in
     let part = keep core marks edge in
     somehow (IsValueOn site part eoi) (λ n key. some_value part.0 (on_length part.1 eoi) n (name_of site key)) 0 (variables core marks edge)
     (λ values each. none (values_line (rule_name g edge.caller) values) (values, each, refl))

@@ -11,13 +11,13 @@ use Rattle.ipg_facts.specs.declared.key.Key.{Key}
 use Rattle.ipg_app_explain.specs.Named.{cut, label_at, loop_name, rule_name}
 
 -- where a call stands, in a grammar as it is written and in its core grammar
-pub record Site : Type 0 where
+pub record CallSite : Type 0 where
   pub written : written.Grammar
   pub core : Grammar
   pub edge : Edge
 
 -- the alternative that makes the call, or the one that holds its rule
-abbrev pub alternative : Site → Side → Option (ℕ × ℕ)
+abbrev pub alternative : CallSite → Side → Option (ℕ × ℕ)
 alternative site Caller = Some (site.edge.caller, site.edge.alt)
 alternative site Holder = holder_of (rule_at site.core site.edge.caller)
 alternative site Point = None
@@ -31,7 +31,7 @@ abbrev pub field_of : List ℕ → List ℕ → List ℕ
 field_of [] field = []
 field_of (b ∷ label) field = b ∷ (label ++ 46 ∷ field)
 
-abbrev pub result_field : Site → Side → ℕ → List ℕ → List ℕ
+abbrev pub result_field : CallSite → Side → ℕ → List ℕ → List ℕ
 result_field site side term field = field_of (label_in site.written (alternative site side) term) field
 
 -- the caller's EOI is told once for all calls
@@ -41,12 +41,12 @@ whole_name Holder = codes "EOI"
 whole_name Point = []
 
 -- only the call itself may stand in an array
-abbrev pub turn_name : Site → Side → List ℕ
+abbrev pub turn_name : CallSite → Side → List ℕ
 turn_name site Caller = loop_name site.written site.edge.caller site.edge.alt site.edge.term
 turn_name site Holder = []
 turn_name site Point = []
 
-abbrev pub known_name : Site → Side → Known → List ℕ
+abbrev pub known_name : CallSite → Side → Known → List ℕ
 known_name site side Whole = whole_name side
 known_name site side (Attribute a) = cut (name_at site.core.names a)
 known_name site side Loop = turn_name site side
@@ -60,7 +60,7 @@ rule_in g None = []
 rule_in g (Some at) = rule_name g at.0
 
 -- whose it is, where it isn't the caller's own
-abbrev pub owner : Site → Side → List ℕ
+abbrev pub owner : CallSite → Side → List ℕ
 owner site Caller = []
 owner site Holder = codes " of " ++ rule_in site.written (alternative site Holder)
 owner site Point = []
@@ -69,5 +69,5 @@ abbrev pub owned : List ℕ → List ℕ → List ℕ
 owned [] whose = []
 owned (b ∷ name) whose = b ∷ (name ++ whose)
 
-abbrev pub name_of : Site → Key → List ℕ
+abbrev pub name_of : CallSite → Key → List ℕ
 name_of site key = owned (known_name site key.side key.of) (owner site key.side)

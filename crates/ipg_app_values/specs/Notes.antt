@@ -13,7 +13,7 @@ use Rattle.ipg_facts_edges.specs.Edges.{edges_of}
 use Rattle.ipg_solve_sure.specs.Narrowed.{narrowed}
 use Rattle.ipg_solve_sure.specs.Sure.{Tells}
 use Rattle.ipg_app_explain.specs.Named.{rule_name}
-use Rattle.ipg_app_values.specs.Names.{Site, name_of}
+use Rattle.ipg_app_values.specs.Names.{CallSite, name_of}
 use Rattle.ipg_app_values.specs.Turn.{InTurn}
 
 -- ---- a variable
@@ -28,7 +28,7 @@ abbrev pub IsNamed : Formula → Boxed → ℕ → List ℕ → List ℕ → Typ
 IsNamed formula box x [] text = text ≡ []
 IsNamed formula box x (b ∷ name) text = (value : Option ℤ) × Tells formula box x value × (text ≡ valued (b ∷ name) value)
 
-abbrev pub IsValue : Site → Formula → Boxed → ℕ → Key → List ℕ → Type 0
+abbrev pub IsValue : CallSite → Formula → Boxed → ℕ → Key → List ℕ → Type 0
 IsValue site formula box x key text = IsNamed formula box x (name_of site key) text
 
 -- ---- a call
@@ -37,7 +37,7 @@ IsValue site formula box x key text = IsNamed formula box x (name_of site key) t
 abbrev pub on_length : Boxed → ℤ → Boxed
 on_length box eoi = narrowed box 0 eoi eoi
 
-abbrev pub IsValueOn : Site → Formula × Boxed → ℤ → ℕ → Key → List ℕ → Type 0
+abbrev pub IsValueOn : CallSite → Formula × Boxed → ℤ → ℕ → Key → List ℕ → Type 0
 IsValueOn site part eoi = IsValue site part.0 (on_length part.1 eoi)
 
 -- a line, where there are such values
@@ -45,7 +45,7 @@ abbrev pub values_line : List ℕ → List ℕ → List ℕ
 values_line rule [] = []
 values_line rule (b ∷ values) = codes "Then in " ++ (rule ++ 58 ∷ (values ++ codes ".\n"))
 
-abbrev pub IsSiteLine : Site → Marks → ℤ → List ℕ → Type 0
+abbrev pub IsSiteLine : CallSite → Marks → ℤ → List ℕ → Type 0
 IsSiteLine site marks eoi text =
     (values : List ℕ)
     × InTurn (IsValueOn site (keep site.core marks site.edge) eoi) 0 (variables site.core marks site.edge) values

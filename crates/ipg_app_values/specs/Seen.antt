@@ -4,12 +4,12 @@ use Rattle.ipg_lin.specs.Formula.{width, Solvable}
 use Rattle.ipg_lin.specs.declared.formula.Formula.{Formula}
 use Rattle.ipg_lin.specs.declared.formula.Boxed.{Boxed}
 use Rattle.ipg_solve.specs.Decides.{Solves}
-use Rattle.ipg_app_values.specs.declared.names.Site as code
+use Rattle.ipg_app_values.specs.declared.names.CallSite as code
 use Rattle.ipg_app_values.specs.declared.values.Conditions.{Conditions}
-use Rattle.ipg_app_values.specs.Names.{Site}
+use Rattle.ipg_app_values.specs.Names.{CallSite}
 use Rattle.ipg_app_values.specs.Notes.{on_length}
 
-abbrev pub site_of : code.Site → Site
+abbrev pub site_of : code.CallSite → CallSite
 site_of s = record { written = s.written.now; core = s.core.now; edge = s.edge }
 
 -- values that solve the formula, or that there are none

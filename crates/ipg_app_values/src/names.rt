@@ -17,7 +17,7 @@ use std::alloc::{AllocError, Global};
 
 /// Where a call stands, in a grammar as it is written and in its core grammar.
 #[derive(Clone, Copy)]
-pub struct Site<'a> {
+pub struct CallSite<'a> {
     pub written: &'a Grammar,
     pub core: &'a Core,
     pub edge: Edge,
@@ -32,7 +32,7 @@ fn holder_at(core: &Core, rule: u32) -> Option<(u32, u32)>
     }
 }
 
-fn alternative(site: Site, side: Side) -> Option<(u32, u32)>
+fn alternative(site: CallSite, side: Side) -> Option<(u32, u32)>
     ensures { result ≡ alternative (site_of site.entry) side }
 {
     match side {
@@ -71,7 +71,7 @@ fn field_of(label: Vec<u8>, field: &[u8]) -> Result<Vec<u8>, AllocError>
 
 fn result_field(
     alloc: Global,
-    site: Site,
+    site: CallSite,
     side: Side,
     term: u32,
     field: &[u8],
@@ -91,7 +91,7 @@ fn whole_name(side: Side) -> &'static [u8]
     }
 }
 
-fn turn_name<'a>(site: Site<'a>, side: Side) -> &'a [u8]
+fn turn_name<'a>(site: CallSite<'a>, side: Side) -> &'a [u8]
     ensures { result.now ≡ turn_name (site_of site.entry) side }
 {
     let at = TermAt {
@@ -114,7 +114,7 @@ fn attribute_name(core: &Core, attr: u32) -> &[u8]
     }
 }
 
-fn known_name(alloc: Global, site: Site, side: Side, of: &Known) -> Result<Vec<u8>, AllocError>
+fn known_name(alloc: Global, site: CallSite, side: Side, of: &Known) -> Result<Vec<u8>, AllocError>
     ensures { IfOk result (λ name. name.items ≡ known_name (site_of site.entry) side of.now) }
 {
     match of {
@@ -138,7 +138,7 @@ fn rule_in(g: &Grammar, at: Option<(u32, u32)>) -> &[u8]
 }
 
 /// Appends whose it is, where it isn't the caller's own.
-fn add_owner(out: &mut Vec<u8>, site: Site, side: Side) -> Result<(), AllocError>
+fn add_owner(out: &mut Vec<u8>, site: CallSite, side: Side) -> Result<(), AllocError>
     ensures { OnOk result (out.new.items ≡ out.old.items ++ owner (site_of site.entry) side) }
 {
     match side {
@@ -151,7 +151,7 @@ fn add_owner(out: &mut Vec<u8>, site: Site, side: Side) -> Result<(), AllocError
 }
 
 /// What the variable is called; nothing where it has no name in the text.
-pub fn name_of(alloc: Global, site: Site, key: &Key) -> Result<Vec<u8>, AllocError>
+pub fn name_of(alloc: Global, site: CallSite, key: &Key) -> Result<Vec<u8>, AllocError>
     ensures { IfOk result (λ name. name.items ≡ spec.name_of (site_of site.entry) key.now) }
 {
     let mut name = known_name(alloc, site, key.side, &key.of)?;

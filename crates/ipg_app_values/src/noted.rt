@@ -8,7 +8,7 @@ ghost use Rattle.ipg_app_values.specs.Notes as spec;
 ghost use Rattle.ipg_app_values.specs.Notes.{AreNotes, IsEdgeLine, IsLine, IsSiteLine};
 ghost use Rattle.ipg_app_values.specs.Turn.{InTurn};
 
-use crate::names::Site;
+use crate::names::CallSite;
 use crate::values::{conditions_of, values};
 use ipg_app_explain::rule_name;
 use ipg_ast::Grammar;
@@ -52,7 +52,7 @@ fn site_line(alloc: Global, ground: Ground, number: u32, edge: Edge) -> Result<V
     ensures { IfOk result (λ text. IsSiteLine (record { written = ground.entry.written.now; core = ground.entry.calls.grammar.now; edge = edge })
         ground.entry.calls.marks.now ground.entry.eoi text.items) }
 {
-    let site = Site {
+    let site = CallSite {
         written: ground.written,
         core: ground.calls.grammar,
         edge,

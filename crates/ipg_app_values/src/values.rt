@@ -11,7 +11,7 @@ ghost use Rattle.ipg_app_values.specs.Notes.{IsValue};
 ghost use Rattle.ipg_app_values.specs.Seen.{AreOf, AreSound, IsFound, site_of};
 ghost use Rattle.ipg_app_values.specs.Turn.{InTurn};
 
-use crate::names::{Site, name_of};
+use crate::names::{CallSite, name_of};
 use ipg_facts::Key;
 use ipg_lin::{Boxed, Formula};
 use ipg_num::List;
@@ -90,7 +90,7 @@ fn valued(alloc: Global, name: &[u8], value: Option<i64>) -> Result<Vec<u8>, All
 /// What is told of a variable.
 fn told(
     alloc: Global,
-    site: Site,
+    site: CallSite,
     c: &Conditions,
     x: usize,
     key: &Key,
@@ -110,7 +110,7 @@ fn told(
 /// What is told of the variables, in the order of their numbers.
 pub fn values(
     alloc: Global,
-    site: Site,
+    site: CallSite,
     c: &Conditions,
     keys: &[Key],
 ) -> Result<Vec<u8>, AllocError>

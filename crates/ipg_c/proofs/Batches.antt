@@ -2,14 +2,14 @@
 use Rattle.std.proofs.Common.{◌≡◌, ℕ, ◌+◌, ◌<◌, refl, sym, ap, ◌∙◌, subst, List, [], ◌∷◌, ◌++◌, map, take, length, get_or, append_assoc, append-nil}
 use Rattle.std.proofs.lemmas.List.{take_more, map-append}
 use Rattle.ipg_core.specs.Grammar.{Grammar}
-use Rattle.ipg_tree_rows.specs.declared.row.Row.{Row}
+use Rattle.ipg_tree_rows.specs.declared.row.TreeRow.{TreeRow}
 use Rattle.ipg_c_trees.specs.declared.answering.Answer.{Answer}
 use Rattle.ipg_c_trees.specs.Comes.{IsAnswer, AllCome}
 use Rattle.ipg_c.specs.declared.words.Word.{Word}
 use Rattle.ipg_c.specs.Handed.{words_of}
 
 -- one input more
-behind : (g : Grammar) (inputs : List (List ℕ)) (answers : List Answer) (rows : List Row) (input : List ℕ) (answer : Answer) (own : List Row)
+behind : (g : Grammar) (inputs : List (List ℕ)) (answers : List Answer) (rows : List TreeRow) (input : List ℕ) (answer : Answer) (own : List TreeRow)
     → AllCome g inputs answers rows → IsAnswer g input answer own → AllCome g (inputs ++ input ∷ []) (answers ++ answer ∷ []) (rows ++ own)
 behind g [] [] rows input answer own none is = (own, [], is, refl, ap (λ these. these ++ own) none ∙ sym (append-nil own))
 behind g (first ∷ inputs) (told ∷ answers) rows input answer own all is = (
@@ -28,7 +28,7 @@ one_more : (words : List Word) (i : ℕ) (d : Word) → i < length words
 one_more words i d less =
     ap words_of (take_more words i d less) ∙ map-append (λ (word : Word). word.bytes.now) (take i words) (get_or words i d ∷ [])
 
-pub go_on : (g : Grammar) (words : List Word) (i : ℕ) (d : Word) (answers told : List Answer) (rows all own : List Row) (answer : Answer) → i < length words
+pub go_on : (g : Grammar) (words : List Word) (i : ℕ) (d : Word) (answers told : List Answer) (rows all own : List TreeRow) (answer : Answer) → i < length words
     → AllCome g (words_of (take i words)) answers rows → IsAnswer g (get_or words i d).bytes.now answer own → all ≡ rows ++ own
     → told ≡ answers ++ answer ∷ [] → AllCome g (words_of (take (i + 1) words)) told all
 go_on g words i d answers told rows all own answer less come is made put =

@@ -9,14 +9,14 @@ use crate::showing::show;
 use crate::words::Word;
 use ipg_app::status::Status;
 use ipg_c_trees::{Answer, Format, format_of, names};
-use ipg_tree_rows::Row;
+use ipg_tree_rows::TreeRow;
 use std::alloc::{AllocError, Global};
 
 /// What inputs come to: an answer for each, and all rows.
 #[derive(Drop)]
 struct Batch {
     answers: Vec<Answer>,
-    rows: Vec<Row>,
+    rows: Vec<TreeRow>,
 }
 
 fn answered(alloc: Global, format: &Format, inputs: &[Word<'_>]) -> Result<Batch, AllocError>
@@ -52,7 +52,7 @@ pub extern "C" fn ipg_trees(
     grammar: &[u8],
     inputs: &[Word<'_>],
     answers: &mut [Answer],
-    rows: &mut [Row],
+    rows: &mut [TreeRow],
     length: &mut u64,
 ) -> u8
     ensures { Rowed grammar.now (words_of inputs.now) answers.old answers.new rows.old rows.new length.new result }

@@ -8,7 +8,7 @@ use Rattle.ipg_mach.specs.Outcome.{IsParse}
 use Rattle.ipg_mach.specs.Stage.{source}
 use Rattle.ipg_table.specs.Rows.{Rows}
 use Rattle.ipg_tree_walk.specs.Parse.{Walked}
-use Rattle.ipg_tree_rows.specs.declared.row.Row.{Row}
+use Rattle.ipg_tree_rows.specs.declared.row.TreeRow.{TreeRow}
 use Rattle.ipg_tree_rows.specs.Rows.{rows_of}
 use Rattle.ipg_tree_rows.specs.Sees.{IsTree}
 use Rattle.ipg_app.specs.declared.status.Status.{Status}
@@ -26,8 +26,8 @@ pub if_ok : {A E : Type 0} {P Q : A → Type 0} (r : Result A E) → ((a : A) �
 if_ok (Ok a) f p = f a p
 if_ok (Err e) f p = p
 
-module _ (g : Grammar) (input : List ℕ) {s : Status} {rows : List Row} where
-  by_same : (t : Status) (own : List Row) → s ≡ t → rows ≡ own → Comes g input t own → Comes g input s rows
+module _ (g : Grammar) (input : List ℕ) {s : Status} {rows : List TreeRow} where
+  by_same : (t : Status) (own : List TreeRow) → s ≡ t → rows ≡ own → Comes g input t own → Comes g input s rows
   by_same t own es er h = subst (λ s. Comes g input s rows) (sym es) (subst (λ rows. Comes g input t rows) (sym er) h)
 
   pub a_tree : (answer : Result Tree Stop) (one : Tree) → Means g input answer → answer ≡ Ok one → s ≡ status.Done → rows ≡ rows_of one → Comes g input s rows

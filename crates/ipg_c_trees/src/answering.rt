@@ -2,7 +2,7 @@
 ghost use Rattle.std.specs.Prelude.{◌≡◌, ◌++◌, ◌≤◌, ◌^◌, [], length, IfOk, List};
 ghost use Rattle.ipg_core.specs.Tree.{Tree};
 ghost use Rattle.ipg_mach_nodes.specs.Stored.{Source};
-ghost use Rattle.ipg_tree_rows.specs.declared.row.Row.{Row as AnyRow};
+ghost use Rattle.ipg_tree_rows.specs.declared.row.TreeRow.{TreeRow as AnyRow};
 ghost use Rattle.ipg_tree_rows.specs.Rows.{rows_of};
 ghost use Rattle.ipg_tree_rows.specs.Sees.{IsTree};
 ghost use Rattle.ipg_app.specs.declared.status.Status.TheVariants as status;
@@ -12,7 +12,7 @@ use crate::format::Format;
 use ipg_app::has_answer;
 use ipg_app::status::Status;
 use ipg_mach::{Outcome, Parsed, Remember, parse};
-use ipg_tree_rows::{Row, add_rows};
+use ipg_tree_rows::{TreeRow, add_rows};
 use linked_list_allocator::LocalHeap;
 use std::alloc::{AllocError, Allocator, Global};
 
@@ -33,16 +33,16 @@ pub struct Answer {
 
 /// What an input comes to: the rows of its tree, if it has one.
 #[derive(Drop)]
-struct Found {
+struct InputRows {
     status: Status,
-    rows: Vec<Row>,
+    rows: Vec<TreeRow>,
 }
 
-fn without_rows(alloc: Global, status: Status) -> Found
+fn without_rows(alloc: Global, status: Status) -> InputRows
     ensures status { result.status ≡ status }
     ensures rows { result.rows.items ≡ [] }
 {
-    Found {
+    InputRows {
         status,
         rows: Vec::new(alloc),
     }
@@ -51,20 +51,20 @@ fn without_rows(alloc: Global, status: Status) -> Found
 fn rows_in<A: Allocator + Clone + Drop>(
     alloc: Global,
     parsed: &mut Parsed<'_, A>,
-) -> Result<Found, AllocError>
+) -> Result<InputRows, AllocError>
     ensures { (src : Source) (one : Tree) → IsTree parsed.old.parse src one
         → IfOk result (λ found. (found.status ≡ status.Done) × (found.rows.items ≡ rows_of one)) }
 {
     let mut rows = Vec::new(alloc);
     add_rows(&mut rows, parsed)?;
-    Ok(Found {
+    Ok(InputRows {
         status: Status::Done,
         rows,
     })
 }
 
 impl Format {
-    fn found(&self, alloc: Global, input: &[u8]) -> Result<Found, AllocError>
+    fn found(&self, alloc: Global, input: &[u8]) -> Result<InputRows, AllocError>
         requires { length input.now ≤ 2 ^ 30 }
         ensures { IfOk result (λ found. Comes self.now input.now found.status found.rows.items) }
     {
@@ -77,7 +77,7 @@ impl Format {
         }
     }
 
-    fn found_or_fault(&self, alloc: Global, input: &[u8]) -> Found
+    fn found_or_fault(&self, alloc: Global, input: &[u8]) -> InputRows
         ensures { Comes self.now input.now result.status result.rows.items }
     {
         if input.len() > MAX_INPUT {
@@ -94,7 +94,7 @@ impl Format {
         &self,
         alloc: Global,
         input: &[u8],
-        rows: &mut Vec<Row>,
+        rows: &mut Vec<TreeRow>,
     ) -> Result<Answer, AllocError>
         ensures { IfOk result (λ answer. (own : List AnyRow) × IsAnswer self.now input.now answer own × (rows.new.items ≡ rows.old.items ++ own)) }
     {

@@ -4,8 +4,8 @@ use Rattle.std.specs.Prelude.{nat_eq, if◌then◌else◌}
 use Rattle.std.proofs.lemmas.Bool.{eqb-true}
 use Rattle.ipg_mach_moves.specs.Moves.{Evaluation, ended}
 use Rattle.ipg_mach_nodes.specs.Stored.{Source}
-use Rattle.ipg_mach.specs.declared.frame.Held.{Held}
-use Rattle.ipg_mach.specs.declared.frame.Held.TheVariants as held
+use Rattle.ipg_mach.specs.declared.frame.HeldAnswer.{HeldAnswer}
+use Rattle.ipg_mach.specs.declared.frame.HeldAnswer.TheVariants as held
 use Rattle.ipg_mach.specs.declared.ended.Ended.{Ended}
 use Rattle.ipg_mach.specs.declared.ended.Ended.TheVariants as ended_by
 use Rattle.ipg_mach.specs.Ended.{ending_of}
@@ -13,7 +13,7 @@ use Rattle.ipg_mach.specs.Stage.{Stage, IsAt}
 use Rattle.ipg_mach.proofs.Stepping as stepping
 
 -- an answer without its tree
-abbrev pub kind : Held → Ended
+abbrev pub kind : HeldAnswer → Ended
 kind (held.Node id) = ended_by.Tree
 kind held.NoTree = ended_by.NoTree
 kind held.Range = ended_by.Range
@@ -33,7 +33,7 @@ module _ (src : Source) (s : Stage) (e : Evaluation) (at : IsAt src s e) where
   pub ranged : s.top.answer ≡ Some held.Range → Some ended_by.Range ≡ ending_of (ended e)
   ranged some = sym (ap ending_of (stepping.ranged src s e at some))
 
-  lowest : (one : Held) → s.top.answer ≡ Some one → s.frames ≡ [] → ending_of (ended e) ≡ Some (kind one)
+  lowest : (one : HeldAnswer) → s.top.answer ≡ Some one → s.frames ≡ [] → ending_of (ended e) ≡ Some (kind one)
   lowest (held.Node id) some frames =
       let it = stepping.lowest_holds src s e at (held.Node id) some frames in
       ap ending_of (it.1 ∙ ap (λ a. Some a) it.2.1)
@@ -42,11 +42,11 @@ module _ (src : Source) (s : Stage) (e : Evaluation) (at : IsAt src s e) where
       ap ending_of (it.1 ∙ ap (λ a. Some a) it.2)
   lowest held.Range some frames = sym (ranged some)
 
-  below_by : (one : Held) → s.top.answer ≡ Some one → one ≢ held.Range → (b : Bool) → nat_eq (length s.frames) 0 ≡ b
+  below_by : (one : HeldAnswer) → s.top.answer ≡ Some one → one ≢ held.Range → (b : Bool) → nat_eq (length s.frames) 0 ≡ b
       → ending_of (ended e) ≡ (if b then Some (kind one) else None)
   below_by one some sound true is = lowest one some (none_left s.frames is)
   below_by one some sound false is = ap ending_of (stepping.still_waits src s e at one some sound (some_left s.frames is))
 
-  pub below : (one : Held) → s.top.answer ≡ Some one → one ≢ held.Range
+  pub below : (one : HeldAnswer) → s.top.answer ≡ Some one → one ≢ held.Range
       → (if nat_eq (length s.frames) 0 then Some (kind one) else None) ≡ ending_of (ended e)
   below one some sound = sym (below_by one some sound (nat_eq (length s.frames) 0) refl)

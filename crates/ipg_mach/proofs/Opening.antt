@@ -7,7 +7,7 @@ use Rattle.ipg_mach_nodes.specs.declared.store.Mark.{Mark}
 use Rattle.ipg_mach_nodes.specs.Stored.{Source, IsEnd, before}
 use Rattle.ipg_table.specs.declared.row.Instr.{Instr}
 use Rattle.ipg_table.specs.Rows.{Rows}
-use Rattle.ipg_mach_term.specs.declared.entry.Entry.TheVariants.{Outside}
+use Rattle.ipg_mach_term.specs.declared.entry.TermEntry.TheVariants.{Outside}
 use Rattle.ipg_mach.specs.Piled.{Piled, AreTops, below, between}
 use Rattle.ipg_mach.specs.declared.frame.Frame.{Frame}
 use Rattle.ipg_mach.specs.declared.frame.NewCall.{NewCall}

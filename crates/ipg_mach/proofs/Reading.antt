@@ -16,7 +16,7 @@ use Rattle.ipg_mach_moves.specs.Moves.{OpenCall}
 use Rattle.ipg_mach_nodes.specs.declared.kid.Kid.{Kid}
 use Rattle.ipg_mach_nodes.specs.Stored.{Stored, Source, StandKids}
 use Rattle.ipg_table.specs.declared.row.Instr.{Instr}
-use Rattle.ipg_table.specs.declared.row.Span.{Span}
+use Rattle.ipg_table.specs.declared.row.RowSpan.{RowSpan}
 use Rattle.ipg_table.specs.declared.row.SlotRow.{SlotRow}
 use Rattle.ipg_table.specs.declared.row.Action.{Action}
 use Rattle.ipg_table.specs.declared.row.Action.TheVariants as action
@@ -27,8 +27,8 @@ use Rattle.ipg_core.specs.Environment as core
 use Rattle.ipg_mach_node.specs.Items.{HasItems}
 use Rattle.ipg_mach_slot.specs.Found.{LiesAt}
 use Rattle.ipg_mach_slot.specs.Now.{Lent, HasRun, Stands, AreResults, WithRunning}
-use Rattle.ipg_mach_term.specs.declared.entry.Entry.{Entry}
-use Rattle.ipg_mach_term.specs.declared.entry.Entry.TheVariants as entry
+use Rattle.ipg_mach_term.specs.declared.entry.TermEntry.{TermEntry}
+use Rattle.ipg_mach_term.specs.declared.entry.TermEntry.TheVariants as entry
 use Rattle.ipg_mach_term.specs.Advance.{IsEntry, environment_at}
 use Rattle.ipg_mach.specs.Piled.{Piled, between, below, above}
 use Rattle.ipg_mach.specs.declared.frame.Frame.{Frame}
@@ -118,7 +118,7 @@ module _ (t : Rows) (src : Source) (st : Stored) (frame : Frame) (under own : Pi
 
   module _ (instr : Instr) (u : ℕ) (term : CoreTerm) (is_term : slice_get c.terms u ≡ Some term) (number : instr.term ≡ u) (rows : Bor (List Kid))
       (is_rows : rows.now ≡ own.items) where
-    at_array : (item : ℤ) (first last : Span) (row : SlotRow) (k : ℕ)
+    at_array : (item : ℤ) (first last : RowSpan) (row : SlotRow) (k : ℕ)
         → l.running ≡ Some (record { term = instr.term; sym = row.sym; items = rows; item = item }) → HoldsTerm t (action.Repeat first last row) term
         → Stands l (environment_at c.frame c.state u (moves.Items (suc k) item items) term)
     at_array item first last row k run holds =
@@ -142,7 +142,7 @@ module _ (t : Rows) (src : Source) (st : Stored) (frame : Frame) (under own : Pi
     at_item item (action.Pick cases other) k run holds =
         subst (λ one. Stands l (environment_at c.frame c.state u (moves.Items (suc k) item items) one)) (sym holds.2) (plain run)
 
-    pub stands_at : (entry : Entry) → IsEntry (size_of frame) entry items c.entry → HoldsTerm t instr.action term
+    pub stands_at : (entry : TermEntry) → IsEntry (size_of frame) entry items c.entry → HoldsTerm t instr.action term
         → l.running ≡ running_in instr entry rows → Stands l (environment_at c.frame c.state u c.entry term)
     stands_at entry.Outside entered holds run =
         subst (λ e. Stands l (environment_at c.frame c.state u e term)) (sym entered.1) (plain run)

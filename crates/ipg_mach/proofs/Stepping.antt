@@ -22,8 +22,8 @@ use Rattle.ipg_mach.specs.declared.frame.Frame.{Frame}
 use Rattle.ipg_region.specs.declared.region.RunId.{RunId}
 use Rattle.ipg_mach_nodes.specs.declared.store.Mark.{Mark}
 use Rattle.ipg_memo.specs.Keyed.{Entries}
-use Rattle.ipg_mach.specs.declared.frame.Held.{Held}
-use Rattle.ipg_mach.specs.declared.frame.Held.TheVariants as held
+use Rattle.ipg_mach.specs.declared.frame.HeldAnswer.{HeldAnswer}
+use Rattle.ipg_mach.specs.declared.frame.HeldAnswer.TheVariants as held
 use Rattle.ipg_mach.specs.declared.frame.NewCall.{NewCall}
 use Rattle.ipg_tree_walk.specs.declared.parsed.Counts.{Counts}
 use Rattle.ipg_mach.specs.Calls.{Shown, IsHighest, IsHolding, IsKey, IsAnswer, IsWorking, IsNew, IsSub, Wait, Keeps, size_of}
@@ -245,7 +245,7 @@ module _ (t : Rows) (src : Source) (s : Shown) (frames : List Frame) (lower : Li
   at_work (Works c) is none = (c, refl)
   at_work (Holds key answer) is none = absurd (none-some is.held (sym none ∙ is.holds))
 
-  pub holding : (h : Highest) (held : Held) → IsHighest t src s frames lower h → s.answer ≡ Some held
+  pub holding : (h : Highest) (held : HeldAnswer) → IsHighest t src s frames lower h → s.answer ≡ Some held
       → (key : moves.Key) × (answer : Result Tree Stop) × (h ≡ Holds key answer) × IsAnswer src s.store s.frame.from (size_of s.frame) held answer
   holding (Works c) held is some = absurd (none-some held (sym is.at_work.answer ∙ some))
   holding (Holds key answer) held is some =
@@ -294,19 +294,19 @@ module _ (src : Source) (s : Stage) (e : Evaluation) (at : IsAt src s e) where
   waits_so (c ∷ lower) key (Err OutOfRange) one sound = absurd (sound refl)
   waits_so (c ∷ lower) key (Err Deep) one sound = refl
 
-  pub lowest_holds : (one : Held) → s.top.answer ≡ Some one → s.frames ≡ []
+  pub lowest_holds : (one : HeldAnswer) → s.top.answer ≡ Some one → s.frames ≡ []
       → (answer : Result Tree Stop) × (ended e ≡ Some answer) × IsAnswer src s.top.store s.top.frame.from (size_of s.top.frame) one answer
   lowest_holds one some frames =
       let is = holding s.tables src s.top s.frames e.lower e.highest one at.highest some in
       (is.1, ap (ended_by e.lower) is.2 ∙ ended_so e.lower is.0 is.1 (waits_none src s e at is.0 is.1 is.2 frames), is.3)
 
-  not_ranged : (one : Held) (answer : Result Tree Stop) → one ≢ held.Range → IsAnswer src s.top.store s.top.frame.from (size_of s.top.frame) one answer
+  not_ranged : (one : HeldAnswer) (answer : Result Tree Stop) → one ≢ held.Range → IsAnswer src s.top.store s.top.frame.from (size_of s.top.frame) one answer
       → answer ≢ Err OutOfRange
   not_ranged (held.Node id) answer sound is range = let e = sym is.1 ∙ range in absurd (cc)
   not_ranged held.NoTree answer sound is range = let e = sym is ∙ range in absurd (cc)
   not_ranged held.Range answer sound is range = absurd (sound refl)
 
-  pub still_waits : (one : Held) → s.top.answer ≡ Some one → one ≢ held.Range → 0 < length s.frames → ended e ≡ None
+  pub still_waits : (one : HeldAnswer) → s.top.answer ≡ Some one → one ≢ held.Range → 0 < length s.frames → ended e ≡ None
   still_waits one some sound more =
       let is = holding s.tables src s.top s.frames e.lower e.highest one at.highest some in
       ap (ended_by e.lower) is.2
@@ -329,7 +329,7 @@ lowest_is [] key one answer e = refl
 lowest_is (c ∷ lower) key one answer e = absurd (none-some answer e)
 
 module _ (src : Source) (s : Stage) (e : Evaluation) (at : IsAt src s e) (answer : Result Tree Stop) (ends : ended e ≡ Some answer) where
-  pub ends_with : (one : Held) → s.top.answer ≡ Some one → IsAnswer src s.top.store s.top.frame.from (size_of s.top.frame) one answer
+  pub ends_with : (one : HeldAnswer) → s.top.answer ≡ Some one → IsAnswer src s.top.store s.top.frame.from (size_of s.top.frame) one answer
   ends_with one some =
       let is = holding s.tables src s.top s.frames e.lower e.highest one at.highest some in
       subst (IsAnswer src s.top.store s.top.frame.from (size_of s.top.frame) one)
@@ -349,7 +349,7 @@ module _ (src : Source) (s : Stage) (e : Evaluation) (at : IsAt src s e) (answer
       whole_by e.lower is.0 (Ok tree.0) (subst (IsHighest s.tables src s.top s.frames e.lower) ok at.highest)
       (lowest_is e.lower is.0 tree.0 answer (sym (ap (ended_by e.lower) ok) ∙ ends))
 
-  final_by : (one : Held) → s.top.answer ≡ Some one → IsAnswer src s.top.store s.top.frame.from (size_of s.top.frame) one answer
+  final_by : (one : HeldAnswer) → s.top.answer ≡ Some one → IsAnswer src s.top.store s.top.frame.from (size_of s.top.frame) one answer
       → IsAnswer src s.top.store 0 (length src.input) one answer
   final_by (held.Node id) some is =
       let at_start = whole id some in
@@ -358,5 +358,5 @@ module _ (src : Source) (s : Stage) (e : Evaluation) (at : IsAt src s e) (answer
   final_by held.NoTree some is = is
   final_by held.Range some is = is
 
-  pub final : (one : Held) → s.top.answer ≡ Some one → IsAnswer src s.top.store 0 (length src.input) one answer
+  pub final : (one : HeldAnswer) → s.top.answer ≡ Some one → IsAnswer src s.top.store 0 (length src.input) one answer
   final one some = final_by one some (ends_with one some)

@@ -20,7 +20,7 @@ use Rattle.ipg_memo.specs.declared.memo.Key as code
 use Rattle.ipg_memo.specs.declared.memo.Entry.{Entry}
 use Rattle.ipg_memo.specs.declared.memo.Entry.TheVariants as entry
 use Rattle.ipg_mach_nodes.specs.Stored.{Source, Stored, StandsTree}
-use Rattle.ipg_mach.specs.declared.frame.Held.TheVariants as held
+use Rattle.ipg_mach.specs.declared.frame.HeldAnswer.TheVariants as held
 use Rattle.ipg_mach.specs.declared.verdict.Verdict.{Verdict}
 use Rattle.ipg_mach.specs.Calls.{IsAnswer}
 use Rattle.ipg_mach.specs.Known.{key_of, IsEntryOf}

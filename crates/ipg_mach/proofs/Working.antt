@@ -21,17 +21,17 @@ use Rattle.ipg_mach_slot.specs.Now.{AreResults}
 use Rattle.ipg_mach_node.specs.Items.{HasItems}
 use Rattle.ipg_mach_node.specs.Laws.{BeforeBefore, ItemsStay, NoneHasRun, ResultsStay}
 use Rattle.ipg_mach.specs.Piled.{Piled, Turns, below, above}
-use Rattle.ipg_mach_term.specs.declared.entry.Entry.{Entry}
-use Rattle.ipg_mach_term.specs.declared.entry.Entry.TheVariants.{Outside, Items, Turns as TurnsTo}
+use Rattle.ipg_mach_term.specs.declared.entry.TermEntry.{TermEntry}
+use Rattle.ipg_mach_term.specs.declared.entry.TermEntry.TheVariants.{Outside, Items, Turns as TurnsTo}
 use Rattle.ipg_mach_term.specs.Advance.{IsEntry}
 use Rattle.ipg_mach.specs.declared.frame.Frame.{Frame}
-use Rattle.ipg_mach.specs.declared.frame.Held.{Held}
+use Rattle.ipg_mach.specs.declared.frame.HeldAnswer.{HeldAnswer}
 use Rattle.ipg_mach.specs.Calls.{Shown, IsAlternative, alternatives, items_in, IsAnswer, IsAtWork, IsHolding, IsHighest, IsReady, IsCall, Wait, size_of}
 use Rattle.ipg_mach.proofs.Rows.{each_drop}
 use Rattle.ipg_mach.proofs.Stores.{IsCut, mark_grown, before_grown, cut_mark, cut_before}
 
 -- a call stays the same with other instructions
-pub same_call : (t : Rows) (src : Source) (frame : Frame) (under : Piled) (f : meaning.Frame) (from : ℕ) (left : Bor (List Instr)) (entry : Entry)
+pub same_call : (t : Rows) (src : Source) (frame : Frame) (under : Piled) (f : meaning.Frame) (from : ℕ) (left : Bor (List Instr)) (entry : TermEntry)
     → IsCall t src frame under f from → IsCall t src (record frame { left = left; entry = entry }) under f from
 same_call t src frame under f from left entry h = record {
   syms = h.syms;
@@ -132,14 +132,14 @@ module _ (t : Rows) (src : Source) (s : Shown) (frames : List Frame) (lower : Li
   }
 
 -- the items of an entry are those that it was said of
-same_items : (n : ℕ) (entry : Entry) (items : List tree.Kid) (e : moves.Entry) → IsEntry n entry items e → items_in e ≡ items
+same_items : (n : ℕ) (entry : TermEntry) (items : List tree.Kid) (e : moves.Entry) → IsEntry n entry items e → items_in e ≡ items
 same_items n Outside items e is = ap items_in is.1 ∙ sym is.0
 same_items n (Items left item) items e is = ap items_in is.2
 same_items n (TurnsTo at to) items e is = ap items_in is.0
 
 -- the term at hand goes on inside
 module _ (t : Rows) (src : Source) (s : Shown) (frames : List Frame) (lower : List OpenCall) (items : List tree.Kid) (c : OpenCall)
-    (work : IsAtWork t src s frames lower items c) (entry : Entry) (e : moves.Entry) where
+    (work : IsAtWork t src s frames lower items c) (entry : TermEntry) (e : moves.Entry) where
   pub inside : (answer : Result moves.Advance Stop) → answer ≡ Ok (moves.Inside e) → IsEntry (size_of s.frame) entry items e
       → IsHighest t src (record s { frame = record s.frame { entry = entry } }) frames lower (turned c answer)
   inside answer is entered =
@@ -224,7 +224,7 @@ ready_of t src s frames lower items c work =
 
 module _ (t : Rows) (src : Source) (s : Shown) (frames : List Frame) (lower : List OpenCall) (f : meaning.Frame) (from : ℕ)
     (ready : IsReady t src s frames lower f from) where
-  pub holds_so : (new : Shown) (held : Held) (answer : Result Tree Stop) → new ≡ record s { piles = below s.piles s.frame.base; answer = Some held }
+  pub holds_so : (new : Shown) (held : HeldAnswer) (answer : Result Tree Stop) → new ≡ record s { piles = below s.piles s.frame.base; answer = Some held }
       → IsAnswer src s.store s.frame.from (size_of s.frame) held answer → IsHolding t src new frames lower (key_at f from) answer
   holds_so new held answer e is = subst (λ s. IsHolding t src s frames lower (key_at f from) answer) (sym e) (record {
     held = held;

@@ -18,8 +18,8 @@ use Rattle.ipg_mach_nodes.specs.declared.kid.Kid.TheVariants as kid
 use Rattle.ipg_table.specs.declared.row.Action.{Action}
 use Rattle.ipg_table.specs.declared.row.Action.TheVariants as action
 use Rattle.ipg_mach_slot.specs.declared.now.Running.{Running}
-use Rattle.ipg_mach_term.specs.declared.entry.Entry.{Entry}
-use Rattle.ipg_mach_term.specs.declared.entry.Entry.TheVariants as entry
+use Rattle.ipg_mach_term.specs.declared.entry.TermEntry.{TermEntry}
+use Rattle.ipg_mach_term.specs.declared.entry.TermEntry.TheVariants as entry
 use Rattle.ipg_mach_nodes.specs.declared.store.Mark.{Mark}
 use Rattle.ipg_mach_nodes.specs.Stored.{Stored, Source, StandsTree, IsMark, before}
 use Rattle.ipg_table.specs.declared.row.AltRow.{AltRow}
@@ -31,8 +31,8 @@ use Rattle.ipg_mach_node.specs.Items.{HasItems}
 use Rattle.ipg_mach.specs.Piled.{Piled, between, IsBase, below, above}
 use Rattle.ipg_mach.specs.declared.frame.Frame.{Frame}
 use Rattle.ipg_mach.specs.declared.frame.NewCall.{NewCall}
-use Rattle.ipg_mach.specs.declared.frame.Held.{Held}
-use Rattle.ipg_mach.specs.declared.frame.Held.TheVariants as held
+use Rattle.ipg_mach.specs.declared.frame.HeldAnswer.{HeldAnswer}
+use Rattle.ipg_mach.specs.declared.frame.HeldAnswer.TheVariants as held
 use Rattle.ipg_mach.specs.declared.top.Top as top
 
 -- the length of a frame's part
@@ -121,7 +121,7 @@ pub record IsKey (frame : Frame) (key : Key) : Type 0 where
   pub to : key.to ≡ frame.to
 
 -- what is held is the answer of a call on a part of n bytes that begins at `at` in the input
-abbrev pub IsAnswer : Source → Stored → ℕ → ℕ → Held → Result Tree Stop → Type 0
+abbrev pub IsAnswer : Source → Stored → ℕ → ℕ → HeldAnswer → Result Tree Stop → Type 0
 IsAnswer src st at n (held.Node id) answer = (one : Tree) × (answer ≡ Ok one) × StandsTree src st at id one × TreeWithin n one
 IsAnswer src st at n held.NoTree answer = answer ≡ Err NoTree
 IsAnswer src st at n held.Range answer = answer ≡ Err OutOfRange
@@ -131,7 +131,7 @@ pub record Shown : Type 0 where
   pub store : Stored
   pub piles : Piled
   pub frame : Frame
-  pub answer : Option Held
+  pub answer : Option HeldAnswer
   pub floor : Mark
 
 abbrev pub shown : {A : Type 0} → top.Top A → Shown
@@ -154,7 +154,7 @@ pub record IsWorking (t : Rows) (src : Source) (s : Shown) (frames : List Frame)
 -- it holds its answer
 pub record IsHolding (t : Rows) (src : Source) (s : Shown) (frames : List Frame) (lower : List OpenCall) (key : Key) (answer : Result Tree Stop)
     : Type 0 where
-  pub held : Held
+  pub held : HeldAnswer
   pub holds : s.answer ≡ Some held
   pub is_key : IsKey s.frame key
   pub is : IsAnswer src s.store s.frame.from (size_of s.frame) held answer
@@ -218,7 +218,7 @@ running_at term item items (action.Many row) = None
 running_at term item items (action.Pick cases other) = None
 
 -- the array that runs, where the term at hand is one
-abbrev pub running_in : Instr → Entry → Bor (List Kid) → Option Running
+abbrev pub running_in : Instr → TermEntry → Bor (List Kid) → Option Running
 running_in instr entry.Outside items = None
 running_in instr (entry.Turns at to) items = None
 running_in instr (entry.Items left item) items = running_at instr.term item items instr.action

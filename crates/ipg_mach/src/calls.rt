@@ -16,7 +16,7 @@ ghost use Rattle.ipg_mach.specs.declared.frame.Frame.{Frame};
 use crate::frame::{Frame, NewCall, Outer};
 use crate::top::Top;
 use ipg_mach_node::laws::{before_before, grows_from_before, items_stay, results_stay};
-use ipg_mach_term::Entry;
+use ipg_mach_term::TermEntry;
 use ipg_region::Stack;
 use ipg_table::tables::Tables;
 use std::alloc::{AllocError, Allocator};
@@ -69,7 +69,7 @@ impl<'m, A: Allocator + Clone + Drop> Top<'m, A> {
             from: new.from,
             to: new.to,
             left: &[],
-            entry: Entry::Outside,
+            entry: TermEntry::Outside,
             outer: new.outer,
             base: self.piles.tops(),
             mark: self.store.mark(),

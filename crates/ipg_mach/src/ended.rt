@@ -6,7 +6,7 @@ ghost use Rattle.ipg_mach_nodes.specs.Stored.{Source};
 ghost use Rattle.ipg_mach.specs.Ended.{ending_of};
 ghost use Rattle.ipg_mach.specs.Stage.{staged, IsAt};
 
-use crate::frame::Held;
+use crate::frame::HeldAnswer;
 use crate::machine::Machine;
 use crate::work::Work;
 use std::alloc::Allocator;
@@ -33,13 +33,13 @@ impl<'m, A: Allocator + Clone + Drop> Work<'m, A> {
     }
 
     /// The ending where the highest call holds this answer.
-    fn ending_with(&self, held: Held) -> Option<Ended>
+    fn ending_with(&self, held: HeldAnswer) -> Option<Ended>
         ensures { (src : Source) (e : Evaluation) → IsAt src (staged self.now) e → self.now.top.answer ≡ Some held → result ≡ ending_of (ended e) }
     {
         match held {
-            Held::Range => Some(Ended::Range),
-            Held::NoTree => self.ending_below(Ended::NoTree),
-            Held::Node(_) => self.ending_below(Ended::Tree),
+            HeldAnswer::Range => Some(Ended::Range),
+            HeldAnswer::NoTree => self.ending_below(Ended::NoTree),
+            HeldAnswer::Node(_) => self.ending_below(Ended::Tree),
         }
     }
 }

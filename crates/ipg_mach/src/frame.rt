@@ -2,7 +2,7 @@
 
 use crate::piles::Bases;
 use ipg_mach_nodes::{Mark, RunId};
-use ipg_mach_term::Entry;
+use ipg_mach_term::TermEntry;
 use ipg_table::row::Instr;
 
 /// Where the attributes of a call's holder stand in the pile of attributes.
@@ -22,7 +22,7 @@ pub struct Frame<'m> {
     pub from: u32,
     pub to: u32,
     pub left: &'m [Instr],
-    pub entry: Entry,
+    pub entry: TermEntry,
     pub outer: Outer,
     pub base: Bases,
     /// The end of the store when the call was made.
@@ -31,7 +31,7 @@ pub struct Frame<'m> {
 
 /// The answer that a call holds.
 #[derive(Clone, Copy, Debug, PartialEq, Eq)]
-pub enum Held {
+pub enum HeldAnswer {
     Node(RunId),
     NoTree,
     Range,

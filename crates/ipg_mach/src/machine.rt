@@ -14,7 +14,7 @@ ghost use Rattle.ipg_mach.specs.Stage.{staged, source, IsAt};
 ghost use Rattle.ipg_mach.specs.Turning.{known_at, HasGone};
 
 use crate::counted;
-use crate::frame::{Frame, Held, NewCall, Outer};
+use crate::frame::{Frame, HeldAnswer, NewCall, Outer};
 use crate::kept::Kept;
 use crate::piles::{Bases, Piles};
 use crate::reader::Reader;
@@ -24,7 +24,7 @@ use ipg_mach_node::Scratch;
 use ipg_mach_node::laws::grows_from_before;
 use ipg_mach_nodes::laws::trees_stay;
 use ipg_mach_nodes::{Mark, Store};
-use ipg_mach_term::Entry;
+use ipg_mach_term::TermEntry;
 use ipg_region::Stack;
 use ipg_table::tables::Tables;
 use ipg_tree_walk::Counts;
@@ -48,7 +48,7 @@ pub enum Turn {
 /// What an evaluation has come to: the answer of the first rule, what was counted, and what is kept.
 #[derive(Drop)]
 pub(crate) struct Stopped<A: Allocator> {
-    pub held: Held,
+    pub held: HeldAnswer,
     pub counts: Counts,
     pub kept: Kept<A>,
 }
@@ -72,7 +72,7 @@ fn nowhere<'m>(mark: Mark) -> Frame<'m> {
         from: 0,
         to: 0,
         left: &[],
-        entry: Entry::Outside,
+        entry: TermEntry::Outside,
         outer: Outer { from: 0, to: 0 },
         base: Bases {
             done: 0,

@@ -19,9 +19,9 @@ use crate::lent::first;
 use crate::top::Top;
 use ipg_core::grammar::{CoreField, Sym};
 use ipg_mach_nodes::Kid;
-use ipg_mach_slot::{Now, Running, Site};
+use ipg_mach_slot::{Now, PartSite, Running};
 use ipg_mach_term::laws::{answered_is_taken, sub_ends_by};
-use ipg_mach_term::{Advance, AtHand, Entry, at_hand, taken};
+use ipg_mach_term::{Advance, AtHand, TermEntry, at_hand, taken};
 use ipg_num::item_at;
 use ipg_table::results::Results;
 use ipg_table::row::{Action, Instr};
@@ -56,11 +56,11 @@ pub(crate) fn part(input: &[u8], from: u32, to: u32) -> &[u8]
 }
 
 /// An array that runs, where the term at hand is one.
-fn running<'m>(instr: Instr, entry: Entry, items: &'m [Kid]) -> Option<Running<'m>>
+fn running<'m>(instr: Instr, entry: TermEntry, items: &'m [Kid]) -> Option<Running<'m>>
     ensures { result ≡ calls.running_in instr entry items.entry }
 {
     match entry {
-        Entry::Items { item, .. } => match instr.action {
+        TermEntry::Items { item, .. } => match instr.action {
             Action::Repeat { item: row, .. } => Some(Running {
                 term: instr.term,
                 sym: row.sym,
@@ -151,7 +151,7 @@ impl<'m, A: Allocator + Clone + Drop> Reader<'m, A> {
     {
         let frame = top.frame;
         let bytes = part(self.input, frame.from, frame.to);
-        let site = Site {
+        let site = PartSite {
             tables: self.tables,
             bytes,
             size: bytes.len() as u32,

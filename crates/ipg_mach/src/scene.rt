@@ -13,8 +13,8 @@ use crate::machine::Machine;
 use crate::reader::{Reader, View, part};
 use crate::top::Top;
 use ipg_mach_nodes::Kid;
-use ipg_mach_slot::{Now, Site};
-use ipg_mach_term::Entry;
+use ipg_mach_slot::{Now, PartSite};
+use ipg_mach_term::TermEntry;
 use ipg_num::item_at;
 use ipg_table::row::Instr;
 use std::alloc::Allocator;
@@ -23,11 +23,11 @@ use std::alloc::Allocator;
 /// so far, its instruction and where it was entered; the call by its rule and alternative and its interval of the input.
 #[derive(Drop)]
 pub struct Scene<'s, A: Allocator> {
-    pub site: Site<'s>,
+    pub site: PartSite<'s>,
     pub now: Now<'s, A>,
     pub items: &'s [Kid],
     pub instr: Instr,
-    pub entry: Entry,
+    pub entry: TermEntry,
     pub rule: u32,
     pub alt: u32,
     pub from: u32,
@@ -44,7 +44,7 @@ impl<'m, A: Allocator + Clone + Drop> Reader<'m, A> {
     {
         let frame = top.frame;
         let bytes = part(self.input, frame.from, frame.to);
-        let site = Site {
+        let site = PartSite {
             tables: self.tables,
             bytes,
             size: bytes.len() as u32,

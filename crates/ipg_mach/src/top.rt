@@ -18,13 +18,13 @@ ghost use Rattle.ipg_mach_term.specs.Advance.{IsAdvance, IsItem};
 ghost use Rattle.ipg_mach_slot.specs.Now.{IsDone};
 ghost use Rattle.ipg_mach_node.specs.Items.{together};
 ghost use Rattle.ipg_mach.specs.Piled.{IsBase, below};
-ghost use Rattle.ipg_mach_term.specs.declared.entry.Entry.TheVariants.{Outside};
+ghost use Rattle.ipg_mach_term.specs.declared.entry.TermEntry.TheVariants.{Outside};
 ghost use Rattle.ipg_mach.specs.Calls.{shown, IsAtWork, IsWorking, IsHolding, IsHighest, IsReady, Keeps, items_in, term_at_hand};
 ghost use Rattle.ipg_mach.specs.Calls as calls;
 ghost use Rattle.ipg_mach.specs.declared.frame.Frame.{Frame};
 
 use crate::alternatives::{alternative, sets_of};
-use crate::frame::{Frame, Held};
+use crate::frame::{Frame, HeldAnswer};
 use crate::lent::{behind_first, first};
 use crate::piles::Piles;
 use ipg_mach_node::laws::{
@@ -33,7 +33,7 @@ use ipg_mach_node::laws::{
 use ipg_mach_node::{Closing, Scratch, Several, close, past_items};
 use ipg_mach_nodes::{Kid, Mark, RunId, Store};
 use ipg_mach_slot::Done;
-use ipg_mach_term::{Advance, Entry};
+use ipg_mach_term::{Advance, TermEntry};
 use ipg_table::row::Instr;
 use ipg_table::tables::Tables;
 use std::alloc::{AllocError, Allocator};
@@ -46,7 +46,7 @@ pub struct Top<'m, A: Allocator> {
     pub piles: Piles<A>,
     pub scratch: Scratch<A>,
     pub frame: Frame<'m>,
-    pub answer: Option<Held>,
+    pub answer: Option<HeldAnswer>,
     pub floor: Mark,
 }
 
@@ -151,7 +151,7 @@ impl<'m, A: Allocator + Clone + Drop> Top<'m, A> {
     }
 
     /// The call holds its answer.
-    fn hold(&mut self, held: Held)
+    fn hold(&mut self, held: HeldAnswer)
         ensures shown { IsBase self.old.piles self.old.frame.base
             → shown self.new ≡ record (shown self.old) { piles = below self.old.piles self.old.frame.base; answer = Some held } }
         ensures store { self.new.store ≡ self.old.store }
@@ -180,7 +180,7 @@ impl<'m, A: Allocator + Clone + Drop> Top<'m, A> {
             done: self.piles.done(base),
         };
         let id = close(tables, &mut self.store, &mut self.scratch, &call)?;
-        self.hold(Held::Node(id));
+        self.hold(HeldAnswer::Node(id));
         Ok(())
     }
 
@@ -207,7 +207,7 @@ impl<'m, A: Allocator + Clone + Drop> Top<'m, A> {
     {
         self.piles.clear_items(self.frame.base);
         self.frame.left = behind_first(self.frame.left);
-        self.frame.entry = Entry::Outside;
+        self.frame.entry = TermEntry::Outside;
         self.run_on(tables)
     }
 
@@ -258,13 +258,13 @@ impl<'m, A: Allocator + Clone + Drop> Top<'m, A> {
         match alternative(tables, self.frame.rule, self.frame.alt) {
             Some(alt) => {
                 self.frame.left = tables.instrs(alt);
-                self.frame.entry = Entry::Outside;
+                self.frame.entry = TermEntry::Outside;
                 none_has_run();
                 self.piles.begin(self.frame.base, alt.terms)?;
                 self.run_on(tables)
             }
             None => {
-                self.hold(Held::NoTree);
+                self.hold(HeldAnswer::NoTree);
                 Ok(())
             }
         }
@@ -316,7 +316,7 @@ impl<'m, A: Allocator + Clone + Drop> Top<'m, A> {
             }
             Advance::NoTree => self.begin_next(tables),
             Advance::Range => {
-                self.hold(Held::Range);
+                self.hold(HeldAnswer::Range);
                 Ok(())
             }
         }

@@ -15,7 +15,7 @@ ghost use Rattle.ipg_mach.specs.Outcome.{Ends};
 ghost use Rattle.ipg_mach.specs.Stage.{staged, source, IsAt};
 ghost use Rattle.ipg_mach.specs.Verdict.{first_call, IsVerdict, ComesTo, HadToRun};
 
-use crate::frame::Held;
+use crate::frame::HeldAnswer;
 use crate::kept::Kept;
 use crate::known::{known, learn};
 use crate::machine::{Machine, Stopped, Turn};
@@ -159,9 +159,9 @@ impl<A: Allocator + Clone + Drop> Kept<A> {
         run_to_end(&mut machine)?;
         let Stopped { held, counts, kept } = machine.stop()?;
         match held {
-            Held::Node(id) => verdict_found(tables, key, Entry::Node(id), counts, kept),
-            Held::NoTree => verdict_found(tables, key, Entry::NoTree, counts, kept),
-            Held::Range => Ok(Verdict::Range { counts }),
+            HeldAnswer::Node(id) => verdict_found(tables, key, Entry::Node(id), counts, kept),
+            HeldAnswer::NoTree => verdict_found(tables, key, Entry::NoTree, counts, kept),
+            HeldAnswer::Range => Ok(Verdict::Range { counts }),
         }
     }
 }

@@ -9,13 +9,13 @@ ghost use Rattle.ipg_mach_moves.specs.Moves.{OpenCall, Evaluation, Key as CallKe
 ghost use Rattle.ipg_mach_moves.specs.Moves.{always, at_hand, known_of, ended};
 ghost use Rattle.ipg_mach_nodes.specs.Stored.{Source, before};
 ghost use Rattle.ipg_mach.specs.Known.{IsEntryOf};
-ghost use Rattle.ipg_mach.specs.declared.frame.Held.{Held};
-ghost use Rattle.ipg_mach.specs.declared.frame.Held.TheVariants as held;
+ghost use Rattle.ipg_mach.specs.declared.frame.HeldAnswer.{HeldAnswer};
+ghost use Rattle.ipg_mach.specs.declared.frame.HeldAnswer.TheVariants as held;
 ghost use Rattle.ipg_mach.specs.Turning.{turn_of, HasGone};
 ghost use Rattle.ipg_mach.specs.Stage.{staged, kid_of, key_in, IsAt, IsAsking};
 
 use crate::counted::{with_known, with_opened};
-use crate::frame::{Frame, Held, NewCall};
+use crate::frame::{Frame, HeldAnswer, NewCall};
 use crate::known::known;
 use crate::machine::Turn;
 use crate::reader::Reader;
@@ -169,14 +169,14 @@ impl<'m, A: Allocator + Clone + Drop> Work<'m, A> {
     }
 
     /// The highest call holds this answer: it goes to its caller.
-    fn give(&mut self, held: Held) -> Result<(), AllocError>
+    fn give(&mut self, held: HeldAnswer) -> Result<(), AllocError>
         ensures { (src : Source) (e : Evaluation) → IsAt src (staged self.old) e → self.old.top.answer ≡ Some held
             → OnOk result (IsAt src (staged self.new) (move e)) }
     {
         match held {
-            Held::Node(id) => self.back(Entry::Node(id)),
-            Held::NoTree => self.back(Entry::NoTree),
-            Held::Range => Ok(()),
+            HeldAnswer::Node(id) => self.back(Entry::Node(id)),
+            HeldAnswer::NoTree => self.back(Entry::NoTree),
+            HeldAnswer::Range => Ok(()),
         }
     }
 
@@ -218,19 +218,19 @@ impl<'m, A: Allocator + Clone + Drop> Work<'m, A> {
     }
 
     /// Whether it goes on where the highest call holds this answer.
-    fn turn_with(&self, held: Held) -> Turn
+    fn turn_with(&self, held: HeldAnswer) -> Turn
         ensures { (src : Source) (e : Evaluation) → IsAt src (staged self.now) e → self.now.top.answer ≡ Some held → result ≡ turn_of (ended e) }
     {
         match held {
-            Held::Range => Turn::Done,
-            Held::NoTree => self.turn_below(),
-            Held::Node(_) => self.turn_below(),
+            HeldAnswer::Range => Turn::Done,
+            HeldAnswer::NoTree => self.turn_below(),
+            HeldAnswer::Node(_) => self.turn_below(),
         }
     }
 
     /// Whether a call waits for the highest one.
     fn turn_below(&self) -> Turn
-        ensures { (src : Source) (e : Evaluation) (one : Held) → IsAt src (staged self.now) e → self.now.top.answer ≡ Some one → one ≢ held.Range
+        ensures { (src : Source) (e : Evaluation) (one : HeldAnswer) → IsAt src (staged self.now) e → self.now.top.answer ≡ Some one → one ≢ held.Range
             → result ≡ turn_of (ended e) }
     {
         if self.frames.is_empty() {

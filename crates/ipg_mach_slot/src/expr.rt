@@ -19,12 +19,12 @@ use crate::found::Found;
 use crate::symbols::{interval, item_end, symbol};
 use ipg_num::Answer;
 use ipg_table::results::Results;
-use ipg_table::row::{CaseRow, SlotRow, Span};
+use ipg_table::row::{CaseRow, RowSpan, SlotRow};
 use ipg_table::tables::Tables;
 
 /// The tables, and a part of `size` bytes of the input.
 #[derive(Clone, Copy)]
-pub struct Site<'m> {
+pub struct PartSite<'m> {
     pub tables: &'m Tables,
     pub bytes: &'m [u8],
     pub size: u32,
@@ -33,7 +33,7 @@ pub struct Site<'m> {
 /// The value of an expression. `area` is the stack of operands; `depth` of the tables says how long it has to be.
 #[inline(always)]
 #[tactic(auto, unfolding(ipg_core::specs::Meaning::value_in))]
-pub fn value<R: Results>(tables: &Tables, results: &R, expr: Span, area: &mut [i64]) -> Answer
+pub fn value<R: Results>(tables: &Tables, results: &R, expr: RowSpan, area: &mut [i64]) -> Answer
     requires { tables.now.depth ≤ length area.now }
     ensures value { (f : Frame) (state : State) (item : Option ℤ) (e : CoreExpr) → R.stands results.now (environment f state item)
         → HoldsExpr tables.now expr e → spec.value_in f state item e ≡ value_of result }
@@ -49,7 +49,7 @@ pub fn value<R: Results>(tables: &Tables, results: &R, expr: Span, area: &mut [i
 
 /// A symbol between two values, where they are the ends of an interval.
 #[inline(always)]
-fn slot_between(site: &Site<'_>, sym: u32, from: i64, to: i64) -> Found
+fn slot_between(site: &PartSite<'_>, sym: u32, from: i64, to: i64) -> Found
     requires { length site.now.bytes.now ≡ site.now.size }
     ensures { (src : Source) (st : Stored) (at : ℕ) (f : Frame) (place : Place) (state : State) (slot : CoreSlot)
         → slice_get site.now.tables.now.syms sym ≡ Some slot.sym → Shares src at f site.now.tables.now site.now.bytes.now
@@ -64,7 +64,7 @@ fn slot_between(site: &Site<'_>, sym: u32, from: i64, to: i64) -> Found
 /// A slot with its left end evaluated.
 #[inline(always)]
 fn slot_from<R: Results>(
-    site: &Site<'_>,
+    site: &PartSite<'_>,
     results: &R,
     row: SlotRow,
     from: i64,
@@ -86,7 +86,7 @@ fn slot_from<R: Results>(
 
 /// A slot: its left end, its right end, a valid interval, its symbol.
 #[inline(always)]
-pub fn slot<R: Results>(site: &Site<'_>, results: &R, row: SlotRow, area: &mut [i64]) -> Found
+pub fn slot<R: Results>(site: &PartSite<'_>, results: &R, row: SlotRow, area: &mut [i64]) -> Found
     requires depth { site.now.tables.now.depth ≤ length area.now }
     requires size { length site.now.bytes.now ≡ site.now.size }
     ensures found { (src : Source) (st : Stored) (at : ℕ) (f : Frame) (place : Place) (state : State) (item : Option ℤ) (slot : CoreSlot)
@@ -123,7 +123,7 @@ fn behind_first(rows: &[CaseRow]) -> &[CaseRow]
 /// The branch of a switch that is taken. It stays apart, so that room for its answer is only made where it is asked for.
 #[inline(never)]
 fn branch<R: Results>(
-    site: &Site<'_>,
+    site: &PartSite<'_>,
     results: &R,
     cases: &[CaseRow],
     other: SlotRow,
@@ -156,7 +156,7 @@ fn branch<R: Results>(
 /// The first branch of a switch whose condition isn't 0, else the last one.
 #[inline(always)]
 pub fn pick<R: Results>(
-    site: &Site<'_>,
+    site: &PartSite<'_>,
     results: &R,
     cases: &[CaseRow],
     other: SlotRow,
@@ -176,7 +176,7 @@ pub fn pick<R: Results>(
 }
 
 /// An item of a repetition on what is left of its interval.
-pub fn turn(site: &Site<'_>, sym: u32, from: u32, to: u32) -> Found
+pub fn turn(site: &PartSite<'_>, sym: u32, from: u32, to: u32) -> Found
     requires inside { (from ≤ to) × (to ≤ site.now.size) }
     requires size { length site.now.bytes.now ≡ site.now.size }
     ensures { (src : Source) (st : Stored) (at : ℕ) (f : Frame) (place : Place) (own : Values) (one : Sym)

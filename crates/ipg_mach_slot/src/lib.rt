@@ -6,7 +6,7 @@ mod found;
 mod now;
 mod symbols;
 
-pub use expr::{Site, is_zero, pick, slot, turn, value};
+pub use expr::{PartSite, is_zero, pick, slot, turn, value};
 pub use found::Found;
 pub use now::{Done, Now, Running};
 pub use symbols::interval;

@@ -19,8 +19,8 @@ use Rattle.ipg_mach_nodes.specs.Stored.{Stored, Source}
 use Rattle.ipg_mach_slot.specs.declared.found.Found.{Found}
 use Rattle.ipg_mach_slot.specs.declared.found.Found.TheVariants as found
 use Rattle.ipg_mach_slot.specs.Found.{IsFound}
-use Rattle.ipg_mach_term.specs.declared.entry.Entry.{Entry}
-use Rattle.ipg_mach_term.specs.declared.entry.Entry.TheVariants as entry
+use Rattle.ipg_mach_term.specs.declared.entry.TermEntry.{TermEntry}
+use Rattle.ipg_mach_term.specs.declared.entry.TermEntry.TheVariants as entry
 use Rattle.ipg_mach_term.specs.Advance.{SubEndsBy}
 use Rattle.ipg_mach_term.specs.Parts.{FoundEndsBy}
 
@@ -49,7 +49,7 @@ array_ends left z (found.Call rule from to) run = tt
 array_ends left z found.NoTree run = tt
 array_ends left z found.Range run = tt
 
-pub inside_ends : (e : Entry) (left : ℕ) (z : ℤ) (x : Found) (run : Run tree.Kid) → e ≡ entry.Items left z → FoundEndsBy e x run
+pub inside_ends : (e : TermEntry) (left : ℕ) (z : ℤ) (x : Found) (run : Run tree.Kid) → e ≡ entry.Items left z → FoundEndsBy e x run
 inside_ends e left z x run is = subst (λ y. FoundEndsBy y x run) (sym is) (array_ends left z x run)
 
 -- where the interval of a child ends

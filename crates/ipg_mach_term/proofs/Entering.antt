@@ -12,7 +12,7 @@ use Rattle.ipg_core.specs.Run.{Run, finish, stop, after, go_on, ◌>>=◌, value
 use Rattle.ipg_core.specs.Meaning.{State, with_value, times}
 use Rattle.ipg_mach_moves.specs.Moves as moves
 use Rattle.ipg_mach_nodes.specs.Stored.{Stored, Source}
-use Rattle.ipg_mach_term.specs.declared.entry.Entry.TheVariants as entry
+use Rattle.ipg_mach_term.specs.declared.entry.TermEntry.TheVariants as entry
 use Rattle.ipg_mach_term.specs.declared.advance.Advance.{Advance}
 use Rattle.ipg_mach_term.specs.declared.advance.Advance.TheVariants as advance
 use Rattle.ipg_mach_term.specs.Advance.{IsMade}

@@ -17,8 +17,8 @@ use Rattle.ipg_mach_results.specs.Flat.{has_items, AreItems}
 use Rattle.ipg_mach_slot.specs.declared.found.Found.{Found}
 use Rattle.ipg_mach_slot.specs.declared.found.Found.TheVariants as found
 use Rattle.ipg_mach_slot.specs.Found.{IsFound}
-use Rattle.ipg_mach_term.specs.declared.entry.Entry.{Entry}
-use Rattle.ipg_mach_term.specs.declared.entry.Entry.TheVariants as entry
+use Rattle.ipg_mach_term.specs.declared.entry.TermEntry.{TermEntry}
+use Rattle.ipg_mach_term.specs.declared.entry.TermEntry.TheVariants as entry
 use Rattle.ipg_mach_term.specs.declared.advance.Advance.{Advance}
 use Rattle.ipg_mach_term.specs.declared.advance.Advance.TheVariants as advance
 use Rattle.ipg_mach_term.specs.Advance.{EndsBy, IsItem, IsParsed, IsAdvance, IsMade}
@@ -71,7 +71,7 @@ module _ (src : Source) (st : Stored) (at n u : ℕ) (state : State) (items : Li
 
 -- what a run comes to, made of what was found
 module _ (src : Source) (st : Stored) (at n u : ℕ) (f : Frame) (state : State) (items : List tree.Kid) (e : moves.Entry) (term : CoreTerm)
-    (entered : Entry) (x : Found) (run : Run tree.Kid) (is : IsFound src st at f state.own x run) where
+    (entered : TermEntry) (x : Found) (run : Run tree.Kid) (is : IsFound src st at f state.own x run) where
   abbrev Makes : Advance → Type 0
   Makes adv = IsMade src st at n u state items adv (made_of state u e term run)
 

@@ -6,12 +6,12 @@ use Rattle.ipg_core.specs.Run.{NoTree, stop}
 use Rattle.ipg_core.specs.Meaning.{Frame, State}
 use Rattle.ipg_mach_moves.specs.Moves as moves
 use Rattle.ipg_mach_moves.specs.Moves.{silent}
-use Rattle.ipg_table.specs.declared.row.Span.{Span}
+use Rattle.ipg_table.specs.declared.row.RowSpan.{RowSpan}
 use Rattle.ipg_table.specs.declared.row.SlotRow.{SlotRow}
 use Rattle.ipg_table.specs.declared.row.Action.{Action}
 use Rattle.ipg_table.specs.declared.row.Action.TheVariants.{Slot, Set, Test, Repeat, Many, Pick}
 use Rattle.ipg_table.specs.Rows.{Rows, HoldsTerm}
-use Rattle.ipg_mach_term.specs.declared.entry.Entry.TheVariants as entry
+use Rattle.ipg_mach_term.specs.declared.entry.TermEntry.TheVariants as entry
 use Rattle.ipg_mach_term.specs.Advance.{IsEntry}
 
 pub at_term : (P : CoreTerm → Type 0) (term other : CoreTerm) → term ≡ other → P other → P term
@@ -25,7 +25,7 @@ module _ (t : Rows) (f : Frame) (state : State) (u n : ℕ) (items : List tree.K
   abbrev Refused : moves.Entry → CoreTerm → Type 0
   Refused e term = ((moves.advance silent f state u e (Some term)).asked ≡ []) × ((moves.advance silent f state u e (Some term)).answer ≡ Err NoTree)
 
-  pub no_array : (action : Action) (left : ℕ) (z : ℤ) → ((first last : Span) (row : SlotRow) → action ≡ Repeat first last row → ⊥)
+  pub no_array : (action : Action) (left : ℕ) (z : ℤ) → ((first last : RowSpan) (row : SlotRow) → action ≡ Repeat first last row → ⊥)
       → HoldsTerm t action term → IsEntry n (entry.Items left z) items e → Refused e term
   unfolding stop
   no_array (Slot row) left z not h is = at_both Refused e _ term _ is.2 h.1 (refl, refl)

@@ -20,22 +20,22 @@ use Rattle.ipg_mach_nodes.specs.Stored.{Stored, Source, StandsKid}
 use Rattle.ipg_mach_results.specs.Flat.{has_items}
 use Rattle.ipg_mach_slot.specs.Found.{Calls}
 use Rattle.ipg_mach_slot.specs.Now.{IsDone}
-use Rattle.ipg_mach_term.specs.declared.entry.Entry.{Entry}
-use Rattle.ipg_mach_term.specs.declared.entry.Entry.TheVariants as entry
+use Rattle.ipg_mach_term.specs.declared.entry.TermEntry.{TermEntry}
+use Rattle.ipg_mach_term.specs.declared.entry.TermEntry.TheVariants as entry
 use Rattle.ipg_mach_term.specs.declared.advance.Advance.{Advance}
 use Rattle.ipg_mach_term.specs.declared.advance.Advance.TheVariants as advance
 use Rattle.ipg_mach_term.specs.declared.advance.AtHand.{AtHand}
 use Rattle.ipg_mach_term.specs.declared.advance.AtHand.TheVariants as hand
 
 -- where the term at hand was entered in a part of n bytes, with its items so far
-abbrev pub IsEntry : ℕ → Entry → List tree.Kid → moves.Entry → Type 0
+abbrev pub IsEntry : ℕ → TermEntry → List tree.Kid → moves.Entry → Type 0
 IsEntry n entry.Outside items e = (items ≡ []) × (e ≡ moves.Outside)
 IsEntry n (entry.Items left item) items e =
     (k : ℕ) × (left ≡ suc k) × (e ≡ moves.Items (suc k) item items) × FitsSigned w64 item × FitsSigned w64 (item +ℤ pos left)
 IsEntry n (entry.Turns at to) items e = (e ≡ moves.Turns at to items) × (at ≤ to) × (to ≤ n)
 
 -- where a repetition was entered, its items end by the end of its interval
-abbrev pub EndsBy : Entry → ℕ → Type 0
+abbrev pub EndsBy : TermEntry → ℕ → Type 0
 EndsBy (entry.Turns at to) end = end ≤ to
 EndsBy entry.Outside end = Unit {0}
 EndsBy (entry.Items left item) end = Unit {0}
@@ -53,7 +53,7 @@ pub record IsItem (src : Source) (st : Stored) (at n : ℕ) (row : Kid) (one : t
   pub single : has_items one ≡ false
 
 -- what was parsed for a term entered there, or that there is none
-abbrev pub IsParsed : Source → Stored → ℕ → ℕ → Entry → Option Kid → Result tree.Kid Stop → Type 0
+abbrev pub IsParsed : Source → Stored → ℕ → ℕ → TermEntry → Option Kid → Result tree.Kid Stop → Type 0
 IsParsed src st at n e None answer = answer ≡ Err NoTree
 IsParsed src st at n e (Some row) answer = (one : tree.Kid) × IsItem src st at n row one × EndsBy e (ends_of one).end × (answer ≡ Ok one)
 
@@ -82,13 +82,13 @@ module _ (src : Source) (st : Stored) (at n u : ℕ) (state : State) (items : Li
   IsMade adv run = (run.asked ≡ []) × IsAdvance adv run.answer
 
   -- it comes to this with no call, or makes one; an item's lies in the interval of its repetition
-  abbrev pub IsAtHand : Frame → Entry → AtHand → Run moves.Advance → Type 0
+  abbrev pub IsAtHand : Frame → TermEntry → AtHand → Run moves.Advance → Type 0
   IsAtHand f entry (hand.Makes adv) run = IsMade adv run
   IsAtHand f entry (hand.Calls rule from to) run = Calls f state.own rule from to run.asked × EndsBy entry to
 
 -- a tree that a call on an interval gives, as a child, ends by where the interval does
 abbrev pub SubEndsBy : Type 0
-SubEndsBy = (e : Entry) (from to : ℕ) (one : Tree) → from ≤ to → EndsBy e to → TreeWithin (to - from) one → EndsBy e (ends_of (tree.Sub from to one)).end
+SubEndsBy = (e : TermEntry) (from to : ℕ) (one : Tree) → from ≤ to → EndsBy e to → TreeWithin (to - from) one → EndsBy e (ends_of (tree.Sub from to one)).end
 
 -- a move that makes a call is, once that is answered, what the term makes of the tree as a child, or of that there is none
 abbrev pub AnsweredIsTaken : Type 0

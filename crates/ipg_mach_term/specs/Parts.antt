@@ -12,7 +12,7 @@ use Rattle.ipg_core.specs.Meaning.{Frame, State, value_in, times}
 use Rattle.ipg_mach_moves.specs.Moves as moves
 use Rattle.ipg_mach_slot.specs.declared.found.Found.{Found}
 use Rattle.ipg_mach_slot.specs.declared.found.Found.TheVariants as found
-use Rattle.ipg_mach_term.specs.declared.entry.Entry.{Entry}
+use Rattle.ipg_mach_term.specs.declared.entry.TermEntry.{TermEntry}
 use Rattle.ipg_mach_term.specs.Advance.{EndsBy}
 
 -- a term makes this of the run that parsed for it
@@ -20,7 +20,7 @@ abbrev pub made_of : State → ℕ → moves.Entry → CoreTerm → Run tree.Kid
 made_of state u e term kid = record { answer = moves.taken state u e term kid.answer; asked = kid.asked }
 
 -- what was found for a term entered there ends by the end of its interval
-abbrev pub FoundEndsBy : Entry → Found → Run tree.Kid → Type 0
+abbrev pub FoundEndsBy : TermEntry → Found → Run tree.Kid → Type 0
 FoundEndsBy e (found.Kid k) run = (one : tree.Kid) → run ≡ finish one → EndsBy e (ends_of one).end
 FoundEndsBy e (found.Call rule from to) run = EndsBy e to
 FoundEndsBy e found.NoTree run = Unit {0}

@@ -1,6 +1,6 @@
 //! What the term at hand makes of its call.
 
-use crate::entry::Entry;
+use crate::entry::TermEntry;
 use ipg_mach_nodes::Kid;
 use ipg_mach_slot::Done;
 
@@ -20,9 +20,9 @@ pub enum Advance {
     /// It is past: the items so far are its repetition.
     Many { sym: u32 },
     /// It goes on inside.
-    Inside(Entry),
+    Inside(TermEntry),
     /// It has one item more, and goes on inside.
-    Item { item: Kid, entry: Entry },
+    Item { item: Kid, entry: TermEntry },
     /// The alternative has no tree.
     NoTree,
     /// A value leaves 64 bits.

@@ -16,18 +16,18 @@ ghost use Rattle.ipg_mach_term.specs.Parts as parts;
 ghost use Rattle.ipg_mach_term.specs.Parts.{tested};
 
 use crate::advance::Advance;
-use crate::entry::Entry;
-use ipg_mach_slot::{Site, interval, is_zero, value};
+use crate::entry::TermEntry;
+use ipg_mach_slot::{PartSite, interval, is_zero, value};
 use ipg_num::Answer;
 use ipg_table::results::Results;
-use ipg_table::row::{SlotRow, Span};
+use ipg_table::row::{RowSpan, SlotRow};
 
 /// An attribute has the value of its expression.
 pub(crate) fn set<R: Results>(
-    site: &Site<'_>,
+    site: &PartSite<'_>,
     results: &R,
     attr: u32,
-    expr: Span,
+    expr: RowSpan,
     area: &mut [i64],
 ) -> Advance
     requires { site.now.tables.now.depth ≤ length area.now }
@@ -56,9 +56,9 @@ fn passes(value: i64) -> Advance
 
 /// A test passes where its condition isn't 0.
 pub(crate) fn test<R: Results>(
-    site: &Site<'_>,
+    site: &PartSite<'_>,
     results: &R,
-    cond: Span,
+    cond: RowSpan,
     area: &mut [i64],
 ) -> Advance
     requires { site.now.tables.now.depth ≤ length area.now }
@@ -94,17 +94,17 @@ fn array_between(first: i64, last: i64, sym: u32) -> Advance
     if left == 0 {
         Advance::Array { sym }
     } else {
-        Advance::Inside(Entry::Items { left, item: first })
+        Advance::Inside(TermEntry::Items { left, item: first })
     }
 }
 
 /// An array with its first bound evaluated.
 #[inline(never)]
 fn array_from<R: Results>(
-    site: &Site<'_>,
+    site: &PartSite<'_>,
     results: &R,
     first: i64,
-    last: Span,
+    last: RowSpan,
     sym: u32,
     area: &mut [i64],
 ) -> Advance
@@ -124,10 +124,10 @@ fn array_from<R: Results>(
 /// An array is entered by its bounds.
 #[inline(always)]
 pub(crate) fn array<R: Results>(
-    site: &Site<'_>,
+    site: &PartSite<'_>,
     results: &R,
-    first: Span,
-    last: Span,
+    first: RowSpan,
+    last: RowSpan,
     sym: u32,
     area: &mut [i64],
 ) -> Advance
@@ -155,7 +155,7 @@ fn many_between(size: u32, from: i64, to: i64) -> Advance
         → IsMade src st at size u state [] result (parts.many_between f from to) }
 {
     match interval(size, from, to) {
-        Some((at, to)) => Advance::Inside(Entry::Turns { at, to }),
+        Some((at, to)) => Advance::Inside(TermEntry::Turns { at, to }),
         None => Advance::NoTree,
     }
 }
@@ -163,10 +163,10 @@ fn many_between(size: u32, from: i64, to: i64) -> Advance
 /// A repetition with its left end evaluated.
 #[inline(never)]
 fn many_from<R: Results>(
-    site: &Site<'_>,
+    site: &PartSite<'_>,
     results: &R,
     from: i64,
-    to: Span,
+    to: RowSpan,
     area: &mut [i64],
 ) -> Advance
     requires { site.now.tables.now.depth ≤ length area.now }
@@ -185,7 +185,7 @@ fn many_from<R: Results>(
 /// A repetition is entered by its ends.
 #[inline(always)]
 pub(crate) fn many<R: Results>(
-    site: &Site<'_>,
+    site: &PartSite<'_>,
     results: &R,
     row: SlotRow,
     area: &mut [i64],

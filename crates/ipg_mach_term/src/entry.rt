@@ -2,7 +2,7 @@
 
 /// Where the term at hand was entered, and how far it has come since. Its items so far are kept elsewhere.
 #[derive(Clone, Copy, Debug, PartialEq, Eq)]
-pub enum Entry {
+pub enum TermEntry {
     Outside,
     /// An array: so many items are left, the next with this loop variable.
     Items { left: u64, item: i64 },

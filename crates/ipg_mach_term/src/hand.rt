@@ -14,15 +14,15 @@ ghost use Rattle.ipg_mach_nodes.specs.Stored.{Source, Stored};
 ghost use Rattle.ipg_table.specs.Rows.{HoldsTerm};
 ghost use Rattle.ipg_mach_slot.specs.Found.{IsFound, Shares};
 ghost use Rattle.ipg_mach_term.specs.Advance.{IsEntry, IsAtHand, environment_at};
-ghost use Rattle.ipg_mach_term.specs.declared.entry.Entry.TheVariants as entries;
+ghost use Rattle.ipg_mach_term.specs.declared.entry.TermEntry.TheVariants as entries;
 ghost use Rattle.ipg_mach_term.specs.Parts.{FoundEndsBy, made_of};
 
 use crate::advance::{Advance, AtHand};
 use crate::enter::{array, many, set, test};
-use crate::entry::Entry;
+use crate::entry::TermEntry;
 use crate::parsed::taken;
 use ipg_mach_nodes::Store;
-use ipg_mach_slot::{Found, Site, pick, slot, turn};
+use ipg_mach_slot::{Found, PartSite, pick, slot, turn};
 use ipg_table::results::Results;
 use ipg_table::row::{Action, Instr};
 use ipg_table::tables::Tables;
@@ -34,7 +34,7 @@ fn made<A: Allocator + Clone + Drop>(
     tables: &Tables,
     store: &Store<A>,
     action: Action,
-    entry: Entry,
+    entry: TermEntry,
     found: Found,
 ) -> AtHand
     ensures { (src : Source) (at n u : ℕ) (f : Frame) (state : State) (items : List tree.Kid) (e : moves.Entry) (term : CoreTerm) (run : Run tree.Kid)
@@ -54,7 +54,7 @@ fn made<A: Allocator + Clone + Drop>(
 /// What is found at a term that is entered now.
 #[inline(always)]
 fn outside<R: Results, A: Allocator + Clone + Drop>(
-    site: &Site<'_>,
+    site: &PartSite<'_>,
     store: &Store<A>,
     results: &R,
     action: Action,
@@ -71,11 +71,11 @@ fn outside<R: Results, A: Allocator + Clone + Drop>(
     match action {
         Action::Slot(row) => {
             let found = slot(site, results, row, area);
-            made(tables, store, action, Entry::Outside, found)
+            made(tables, store, action, TermEntry::Outside, found)
         }
         Action::Pick { cases, other } => {
             let found = pick(site, results, tables.cases(cases), other, area);
-            made(tables, store, action, Entry::Outside, found)
+            made(tables, store, action, TermEntry::Outside, found)
         }
         Action::Set { attr, value } => AtHand::Makes(set(site, results, attr, value, area)),
         Action::Test(cond) => AtHand::Makes(test(site, results, cond, area)),
@@ -89,11 +89,11 @@ fn outside<R: Results, A: Allocator + Clone + Drop>(
 /// What is found at the next item of an array.
 #[inline(always)]
 fn item<R: Results, A: Allocator + Clone + Drop>(
-    site: &Site<'_>,
+    site: &PartSite<'_>,
     store: &Store<A>,
     results: &R,
     action: Action,
-    entry: Entry,
+    entry: TermEntry,
     area: &mut [i64],
 ) -> AtHand
     requires depth { site.now.tables.now.depth ≤ length area.now }
@@ -114,7 +114,7 @@ fn item<R: Results, A: Allocator + Clone + Drop>(
 }
 
 /// An item of a repetition, on what is left of an interval of the part.
-fn turn_within(site: &Site<'_>, sym: u32, at: u32, to: u32) -> Found
+fn turn_within(site: &PartSite<'_>, sym: u32, at: u32, to: u32) -> Found
     requires { length site.now.bytes.now ≡ site.now.size }
     ensures { (src : Source) (st : Stored) (begin : ℕ) (f : Frame) (place : Place) (own : Values) (one : Sym) → at ≤ to → to ≤ site.now.size
         → slice_get site.now.tables.now.syms sym ≡ Some one → Shares src begin f site.now.tables.now site.now.bytes.now
@@ -132,7 +132,7 @@ fn turn_within(site: &Site<'_>, sym: u32, at: u32, to: u32) -> Found
 /// What is found at the next item of a repetition.
 #[inline(always)]
 fn next_turn<A: Allocator + Clone + Drop>(
-    site: &Site<'_>,
+    site: &PartSite<'_>,
     store: &Store<A>,
     action: Action,
     at: u32,
@@ -147,7 +147,13 @@ fn next_turn<A: Allocator + Clone + Drop>(
     match action {
         Action::Many(row) => {
             let found = turn_within(site, row.sym, at, to);
-            made(site.tables, store, action, Entry::Turns { at, to }, found)
+            made(
+                site.tables,
+                store,
+                action,
+                TermEntry::Turns { at, to },
+                found,
+            )
         }
         _ => AtHand::Makes(Advance::NoTree),
     }
@@ -155,11 +161,11 @@ fn next_turn<A: Allocator + Clone + Drop>(
 
 /// What is found at the term at hand: a value, a test, an array or a repetition that is entered, or what is parsed next.
 pub fn at_hand<R: Results, A: Allocator + Clone + Drop>(
-    site: &Site<'_>,
+    site: &PartSite<'_>,
     store: &Store<A>,
     results: &R,
     instr: Instr,
-    entry: Entry,
+    entry: TermEntry,
     area: &mut [i64],
 ) -> AtHand
     requires depth { site.now.tables.now.depth ≤ length area.now }
@@ -171,8 +177,8 @@ pub fn at_hand<R: Results, A: Allocator + Clone + Drop>(
     ensures area { length area.new ≡ length area.old }
 {
     match entry {
-        Entry::Outside => outside(site, store, results, instr.action, area),
-        Entry::Items { .. } => item(site, store, results, instr.action, entry, area),
-        Entry::Turns { at, to } => next_turn(site, store, instr.action, at, to),
+        TermEntry::Outside => outside(site, store, results, instr.action, area),
+        TermEntry::Items { .. } => item(site, store, results, instr.action, entry, area),
+        TermEntry::Turns { at, to } => next_turn(site, store, instr.action, at, to),
     }
 }

@@ -9,6 +9,6 @@ pub mod laws;
 mod parsed;
 
 pub use advance::{Advance, AtHand};
-pub use entry::Entry;
+pub use entry::TermEntry;
 pub use hand::at_hand;
 pub use parsed::taken;

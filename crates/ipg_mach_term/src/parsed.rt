@@ -11,11 +11,11 @@ ghost use Rattle.ipg_core.specs.Meaning.{State, with_kid};
 ghost use Rattle.ipg_mach_moves.specs.Moves as moves;
 ghost use Rattle.ipg_mach_nodes.specs.Stored.{Source, Stored};
 ghost use Rattle.ipg_table.specs.Rows.{Rows, HoldsTerm};
-ghost use Rattle.ipg_mach_term.specs.declared.entry.Entry.TheVariants as entries;
+ghost use Rattle.ipg_mach_term.specs.declared.entry.TermEntry.TheVariants as entries;
 ghost use Rattle.ipg_mach_term.specs.Advance.{IsEntry, IsParsed, IsItem, IsAdvance};
 
 use crate::advance::Advance;
-use crate::entry::Entry;
+use crate::entry::TermEntry;
 use ipg_mach_nodes::{Kid, Store};
 use ipg_mach_results::{ends_of, touches};
 use ipg_mach_slot::Done;
@@ -72,7 +72,7 @@ fn one_more(sym: u32, left: u64, item: i64, kid: Kid) -> Advance
     }
     Advance::Item {
         item: kid,
-        entry: Entry::Items {
+        entry: TermEntry::Items {
             left: left - 1,
             item: next(item),
         },
@@ -124,7 +124,7 @@ fn one_turn<A: Allocator + Clone + Drop>(
         let at = place(ends.end);
         Advance::Item {
             item: kid,
-            entry: Entry::Turns { at, to },
+            entry: TermEntry::Turns { at, to },
         }
     } else {
         Advance::Many { sym }
@@ -160,7 +160,7 @@ pub fn taken<A: Allocator + Clone + Drop>(
     tables: &Tables,
     store: &Store<A>,
     action: Action,
-    entry: Entry,
+    entry: TermEntry,
     parsed: Option<Kid>,
 ) -> Advance
     ensures { (src : Source) (at n u : ℕ) (state : State) (items : List tree.Kid) (e : moves.Entry) (term : CoreTerm) (answer : Result tree.Kid Stop)
@@ -168,8 +168,8 @@ pub fn taken<A: Allocator + Clone + Drop>(
         → IsAdvance src store.now at n u state items result (moves.taken state u e term answer) }
 {
     match entry {
-        Entry::Outside => outside(action, parsed),
-        Entry::Items { left, item } => array(action, left, item, parsed),
-        Entry::Turns { to, .. } => repetition(tables, store, action, to, parsed),
+        TermEntry::Outside => outside(action, parsed),
+        TermEntry::Items { left, item } => array(action, left, item, parsed),
+        TermEntry::Turns { to, .. } => repetition(tables, store, action, to, parsed),
     }
 }

@@ -7,7 +7,7 @@ use Rattle.ipg_mach_moves.specs.Moves as moves
 use Rattle.ipg_mach_moves.specs.Moves.{OpenCall, Highest, Works, Holds}
 use Rattle.ipg_mach_nodes.specs.declared.kid.Kid.{Kid}
 use Rattle.ipg_mach_nodes.specs.Stored.{Stored, Source, StandKids}
-use Rattle.ipg_mach_term.specs.declared.entry.Entry.TheVariants as entries
+use Rattle.ipg_mach_term.specs.declared.entry.TermEntry.TheVariants as entries
 use Rattle.ipg_mach_term.specs.Advance.{IsEntry}
 use Rattle.ipg_mach.specs.Calls.{items_in}
 use Rattle.ipg_mach.specs.Scene.{IsScene, IsSceneOf}

@@ -15,10 +15,10 @@ ghost use Rattle.ipg_mach_watch.specs.Agreeing.{row_read, rows_read, with_read, 
 
 use ipg_core::grammar::Sym;
 use ipg_mach_failures::{Operand, Taken, Valued, Values};
-use ipg_mach_term::Entry;
+use ipg_mach_term::TermEntry;
 use ipg_num::item_at;
 use ipg_table::results::Results;
-use ipg_table::row::{Action, CaseRow, Op, SlotRow, Span};
+use ipg_table::row::{Action, CaseRow, Op, RowSpan, SlotRow};
 use ipg_table::tables::Tables;
 
 fn taken_of(sym: &Sym) -> Taken
@@ -76,7 +76,7 @@ fn add_rows<R: Results>(values: &mut Values, results: &R, rows: &[Op])
 }
 
 /// The names in an expression.
-fn add_expr<R: Results>(values: &mut Values, tables: &Tables, results: &R, expr: Span)
+fn add_expr<R: Results>(values: &mut Values, tables: &Tables, results: &R, expr: RowSpan)
     ensures { (env : Environment) (e : CoreExpr) → R.stands results.now env → HoldsExpr tables.now expr e
         → values.new ≡ spec.with_values values.old (spec.reads env e) }
 {
@@ -84,7 +84,13 @@ fn add_expr<R: Results>(values: &mut Values, tables: &Tables, results: &R, expr:
 }
 
 /// Those in two expressions.
-fn add_both<R: Results>(values: &mut Values, tables: &Tables, results: &R, from: Span, to: Span)
+fn add_both<R: Results>(
+    values: &mut Values,
+    tables: &Tables,
+    results: &R,
+    from: RowSpan,
+    to: RowSpan,
+)
     ensures { (env : Environment) (a b : CoreExpr) → R.stands results.now env → HoldsExpr tables.now from a → HoldsExpr tables.now to b
         → values.new ≡ spec.with_values values.old (flat_map (spec.reads env) (a ∷ b ∷ [])) }
 {
@@ -126,8 +132,8 @@ fn add_array<R: Results>(
     values: &mut Values,
     tables: &Tables,
     results: &R,
-    entry: Entry,
-    bounds: (Span, Span),
+    entry: TermEntry,
+    bounds: (RowSpan, RowSpan),
     item: SlotRow,
 )
     ensures { (env : Environment) (n : ℕ) (items : List AnyKid) (e : moves.Entry) (a b : CoreExpr) (slot : CoreSlot) → R.stands results.now env
@@ -135,9 +141,9 @@ fn add_array<R: Results>(
         → values.new ≡ spec.with_values values.old (flat_map (spec.reads env) (spec.in_array e a b slot.from slot.to)) }
 {
     match entry {
-        Entry::Outside => add_both(values, tables, results, bounds.0, bounds.1),
-        Entry::Items { .. } => add_slot(values, tables, results, item),
-        Entry::Turns { .. } => {}
+        TermEntry::Outside => add_both(values, tables, results, bounds.0, bounds.1),
+        TermEntry::Items { .. } => add_slot(values, tables, results, item),
+        TermEntry::Turns { .. } => {}
     }
 }
 
@@ -147,7 +153,7 @@ fn add_term<R: Results>(
     tables: &Tables,
     results: &R,
     action: Action,
-    entry: Entry,
+    entry: TermEntry,
     branch: u64,
 )
     ensures { (env : Environment) (n : ℕ) (items : List AnyKid) (e : moves.Entry) (term : CoreTerm) → R.stands results.now env
@@ -174,7 +180,7 @@ pub(crate) fn read<R: Results>(
     tables: &Tables,
     results: &R,
     action: Action,
-    entry: Entry,
+    entry: TermEntry,
     branch: u64,
 ) -> Values
     ensures { (env : Environment) (n : ℕ) (items : List AnyKid) (e : moves.Entry) (term : CoreTerm) → R.stands results.now env

@@ -14,7 +14,7 @@ use crate::terms::term;
 use ipg_mach::Scene;
 use ipg_mach_failures::{Call, Cause, Failure, Miss, Values};
 use ipg_mach_results::laws::within_are_short;
-use ipg_mach_term::Entry;
+use ipg_mach_term::TermEntry;
 use std::alloc::{AllocError, Allocator};
 
 /// The call, at its term at hand.
@@ -55,9 +55,9 @@ fn item_at_hand<A: Allocator + Clone + Drop>(scene: &Scene<'_, A>) -> Option<u64
     ensures { (src : Source) (c : OpenCall) → IsScene src scene.entry.now c → result ≡ spec.item_at_hand c.entry }
 {
     match scene.entry {
-        Entry::Outside => None,
-        Entry::Items { .. } => Some(scene.items.len() as u64),
-        Entry::Turns { .. } => Some(scene.items.len() as u64),
+        TermEntry::Outside => None,
+        TermEntry::Items { .. } => Some(scene.items.len() as u64),
+        TermEntry::Turns { .. } => Some(scene.items.len() as u64),
     }
 }
 

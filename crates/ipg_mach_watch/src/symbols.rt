@@ -11,7 +11,7 @@ use crate::lent::{behind_first, first};
 use ipg_core::grammar::{Primitive, Sym};
 use ipg_mach_failures::{Cause, Miss};
 use ipg_mach_results::width;
-use ipg_mach_slot::Site;
+use ipg_mach_slot::PartSite;
 
 /// Whether the first byte is this one.
 fn begins_with(bytes: &[u8], want: u8) -> bool
@@ -73,7 +73,7 @@ fn number(branch: u64, from: u32, bytes: &[u8], prim: Primitive) -> Option<Miss>
 }
 
 /// A symbol that fails on a valid interval of the part.
-pub(crate) fn symbol(site: &Site<'_>, branch: u64, sym: u32, ends: (u32, u32)) -> Option<Miss>
+pub(crate) fn symbol(site: &PartSite<'_>, branch: u64, sym: u32, ends: (u32, u32)) -> Option<Miss>
     requires { (ends.0 ≤ ends.1) × (ends.1 ≤ length site.now.bytes.now) }
     ensures { (one : Sym) → slice_get site.now.tables.now.syms sym ≡ Some one
         → result ≡ spec.symbol_fails branch site.now.bytes.now ends.0 ends.1 one }
@@ -106,7 +106,7 @@ fn number_item(bytes: &[u8], prim: Primitive, from: u32, to: u32) -> Option<Miss
 }
 
 /// An item of a repetition that fails on what is left.
-pub(crate) fn turn(site: &Site<'_>, sym: u32, from: u32, to: u32) -> Option<Miss>
+pub(crate) fn turn(site: &PartSite<'_>, sym: u32, from: u32, to: u32) -> Option<Miss>
     requires { (from ≤ to) × (to ≤ length site.now.bytes.now) }
     ensures { (one : Sym) → slice_get site.now.tables.now.syms sym ≡ Some one
         → result ≡ spec.item_fails site.now.bytes.now from to one (item_end from to one) }

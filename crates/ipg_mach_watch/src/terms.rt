@@ -11,18 +11,18 @@ ghost use Rattle.ipg_core.specs.Meaning.{Frame, State, environment};
 ghost use Rattle.ipg_mach_moves.specs.Moves as moves;
 ghost use Rattle.ipg_table.specs.Rows.{Each, HoldsExpr, HoldsSlot, HoldsCase, HoldsTerm};
 ghost use Rattle.ipg_mach_term.specs.Advance.{IsEntry, environment_at};
-ghost use Rattle.ipg_mach_term.specs.declared.entry.Entry.TheVariants as entries;
+ghost use Rattle.ipg_mach_term.specs.declared.entry.TermEntry.TheVariants as entries;
 ghost use Rattle.ipg_mach_failures.specs.declared.failure.Cause.TheVariants as cause;
 ghost use Rattle.ipg_mach_failures.specs.Failing as spec;
 
 use crate::lent::{behind_first, first};
 use crate::symbols::{symbol, turn};
 use ipg_mach_failures::{Cause, Miss};
-use ipg_mach_slot::{Site, interval, is_zero, value};
-use ipg_mach_term::Entry;
+use ipg_mach_slot::{PartSite, interval, is_zero, value};
+use ipg_mach_term::TermEntry;
 use ipg_num::Answer;
 use ipg_table::results::Results;
-use ipg_table::row::{Action, CaseRow, SlotRow, Span};
+use ipg_table::row::{Action, CaseRow, RowSpan, SlotRow};
 
 /// An expression has no value.
 fn no_value(branch: u64) -> Option<Miss>
@@ -47,7 +47,7 @@ fn no_interval(branch: u64, from: i64, to: i64) -> Option<Miss>
 }
 
 /// A symbol between two values.
-fn slot_between(site: &Site<'_>, branch: u64, sym: u32, from: i64, to: i64) -> Option<Miss>
+fn slot_between(site: &PartSite<'_>, branch: u64, sym: u32, from: i64, to: i64) -> Option<Miss>
     requires { length site.now.bytes.now ≡ site.now.size }
     ensures { (slot : CoreSlot) → slice_get site.now.tables.now.syms sym ≡ Some slot.sym
         → result ≡ spec.on_interval branch from to (part.interval (length site.now.bytes.now) from to)
@@ -61,7 +61,7 @@ fn slot_between(site: &Site<'_>, branch: u64, sym: u32, from: i64, to: i64) -> O
 
 /// A slot with its left end evaluated.
 fn slot_from<R: Results>(
-    site: &Site<'_>,
+    site: &PartSite<'_>,
     results: &R,
     branch: u64,
     row: SlotRow,
@@ -86,7 +86,7 @@ fn slot_from<R: Results>(
 
 /// A slot that fails: its left end, its right end, its interval, its symbol.
 fn slot<R: Results>(
-    site: &Site<'_>,
+    site: &PartSite<'_>,
     results: &R,
     branch: u64,
     row: SlotRow,
@@ -107,7 +107,7 @@ fn slot<R: Results>(
 
 /// A switch that fails: a condition, or the slot of the branch that is taken.
 fn pick<R: Results>(
-    site: &Site<'_>,
+    site: &PartSite<'_>,
     results: &R,
     cases: &[CaseRow],
     other: SlotRow,
@@ -139,7 +139,12 @@ fn pick<R: Results>(
 }
 
 /// An expression that has to have a value.
-fn valued<R: Results>(site: &Site<'_>, results: &R, expr: Span, area: &mut [i64]) -> Option<Miss>
+fn valued<R: Results>(
+    site: &PartSite<'_>,
+    results: &R,
+    expr: RowSpan,
+    area: &mut [i64],
+) -> Option<Miss>
     requires { site.now.tables.now.depth ≤ length area.now }
     ensures fails { (f : Frame) (state : State) (e : CoreExpr) → R.stands results.now (environment f state None) → HoldsExpr site.now.tables.now expr e
         → result ≡ spec.on_value 0 (eval e (environment f state None)) (λ z. None) }
@@ -168,7 +173,12 @@ fn zero(value: i64) -> Option<Miss>
 }
 
 /// A test that has no value, or is 0.
-fn test<R: Results>(site: &Site<'_>, results: &R, cond: Span, area: &mut [i64]) -> Option<Miss>
+fn test<R: Results>(
+    site: &PartSite<'_>,
+    results: &R,
+    cond: RowSpan,
+    area: &mut [i64],
+) -> Option<Miss>
     requires { site.now.tables.now.depth ≤ length area.now }
     ensures fails { (f : Frame) (state : State) (e : CoreExpr) → R.stands results.now (environment f state None) → HoldsExpr site.now.tables.now cond e
         → result ≡ spec.test_fails f state e }
@@ -183,10 +193,10 @@ fn test<R: Results>(site: &Site<'_>, results: &R, cond: Span, area: &mut [i64]) 
 
 /// An array that fails as it is entered: one of its bounds has no value.
 fn bounds<R: Results>(
-    site: &Site<'_>,
+    site: &PartSite<'_>,
     results: &R,
-    first: Span,
-    last: Span,
+    first: RowSpan,
+    last: RowSpan,
     area: &mut [i64],
 ) -> Option<Miss>
     requires { site.now.tables.now.depth ≤ length area.now }
@@ -202,7 +212,7 @@ fn bounds<R: Results>(
 }
 
 /// Two values that are no ends of an interval of the part.
-fn ends_between(site: &Site<'_>, from: i64, to: i64) -> Option<Miss>
+fn ends_between(site: &PartSite<'_>, from: i64, to: i64) -> Option<Miss>
     requires { length site.now.bytes.now ≡ site.now.size }
     ensures { result ≡ spec.on_interval 0 from to (part.interval (length site.now.bytes.now) from to) (λ l r. None) }
 {
@@ -214,10 +224,10 @@ fn ends_between(site: &Site<'_>, from: i64, to: i64) -> Option<Miss>
 
 /// The same with the left end evaluated.
 fn ends_from<R: Results>(
-    site: &Site<'_>,
+    site: &PartSite<'_>,
     results: &R,
     from: i64,
-    to: Span,
+    to: RowSpan,
     area: &mut [i64],
 ) -> Option<Miss>
     requires depth { site.now.tables.now.depth ≤ length area.now }
@@ -235,7 +245,12 @@ fn ends_from<R: Results>(
 }
 
 /// A repetition that fails as it is entered: its left end, its right end, its interval.
-fn ends<R: Results>(site: &Site<'_>, results: &R, row: SlotRow, area: &mut [i64]) -> Option<Miss>
+fn ends<R: Results>(
+    site: &PartSite<'_>,
+    results: &R,
+    row: SlotRow,
+    area: &mut [i64],
+) -> Option<Miss>
     requires depth { site.now.tables.now.depth ≤ length area.now }
     requires size { length site.now.bytes.now ≡ site.now.size }
     ensures fails { (f : Frame) (state : State) (slot : CoreSlot) → R.stands results.now (environment f state None)
@@ -251,7 +266,7 @@ fn ends<R: Results>(site: &Site<'_>, results: &R, row: SlotRow, area: &mut [i64]
 
 /// A term that fails as it is entered.
 fn outside<R: Results>(
-    site: &Site<'_>,
+    site: &PartSite<'_>,
     results: &R,
     action: Action,
     area: &mut [i64],
@@ -273,7 +288,12 @@ fn outside<R: Results>(
 }
 
 /// The next item of an array, where it fails.
-fn item<R: Results>(site: &Site<'_>, results: &R, action: Action, area: &mut [i64]) -> Option<Miss>
+fn item<R: Results>(
+    site: &PartSite<'_>,
+    results: &R,
+    action: Action,
+    area: &mut [i64],
+) -> Option<Miss>
     requires depth { site.now.tables.now.depth ≤ length area.now }
     requires size { length site.now.bytes.now ≡ site.now.size }
     ensures fails { (f : Frame) (state : State) (u k : ℕ) (z : ℤ) (items : List tree.Kid) (term : CoreTerm)
@@ -288,7 +308,7 @@ fn item<R: Results>(site: &Site<'_>, results: &R, action: Action, area: &mut [i6
 }
 
 /// The next item of a repetition, where it fails.
-fn next_turn(site: &Site<'_>, action: Action, at: u32, to: u32) -> Option<Miss>
+fn next_turn(site: &PartSite<'_>, action: Action, at: u32, to: u32) -> Option<Miss>
     requires { length site.now.bytes.now ≡ site.now.size }
     ensures { (f : Frame) (state : State) (u : ℕ) (items : List tree.Kid) (term : CoreTerm) → HoldsTerm site.now.tables.now action term → at ≤ to
         → to ≤ site.now.size → f.bytes ≡ site.now.bytes.now → result ≡ spec.term_fails f state u (moves.Turns at to items) term }
@@ -307,10 +327,10 @@ fn next_turn(site: &Site<'_>, action: Action, at: u32, to: u32) -> Option<Miss>
 
 /// The term at hand, or its next item, where it fails by itself.
 pub(crate) fn term<R: Results>(
-    site: &Site<'_>,
+    site: &PartSite<'_>,
     results: &R,
     action: Action,
-    entry: Entry,
+    entry: TermEntry,
     area: &mut [i64],
 ) -> Option<Miss>
     requires depth { site.now.tables.now.depth ≤ length area.now }
@@ -321,8 +341,8 @@ pub(crate) fn term<R: Results>(
     ensures area { length area.new ≡ length area.old }
 {
     match entry {
-        Entry::Outside => outside(site, results, action, area),
-        Entry::Items { .. } => item(site, results, action, area),
-        Entry::Turns { at, to } => next_turn(site, action, at, to),
+        TermEntry::Outside => outside(site, results, action, area),
+        TermEntry::Items { .. } => item(site, results, action, area),
+        TermEntry::Turns { at, to } => next_turn(site, action, at, to),
     }
 }

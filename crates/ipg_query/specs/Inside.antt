@@ -6,7 +6,7 @@ use Rattle.ipg_mach_nodes.specs.declared.kid.Kid.{Kid}
 use Rattle.ipg_mach_nodes.specs.Stored.{Stored, Source, StandsKid, StandKids, kid_levels, kids_levels}
 use Rattle.ipg_tree_walk.specs.Visits.{Seen, kid_visits, kids_visits, kids_in, place_in, size_in}
 use Rattle.ipg_query.specs.declared.inside.Deep.{Deep}
-use Rattle.ipg_query.specs.declared.inside.Level.{Level}
+use Rattle.ipg_query.specs.declared.inside.OpenList.{OpenList}
 use Rattle.ipg_query.specs.declared.inside.Walk.TheInside.{Inside}
 use Rattle.ipg_query.specs.Picked.{Found, found}
 use Rattle.ipg_query.specs.Spots.{IsNear, AreNear, IsSpot}
@@ -29,7 +29,7 @@ pub record Lot : Type 0 where
   pub at : ℕ
   pub size : ℕ
 
-abbrev pub lot_of : Level → Lot
+abbrev pub lot_of : OpenList → Lot
 lot_of level = record { rows = level.rows.now; at = level.at; size = level.size }
 
 -- the levels, the innermost first, and how many there may be

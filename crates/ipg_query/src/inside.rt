@@ -18,7 +18,7 @@ use std::marker::Model;
 
 /// Rows that are left of a list, and the part that they lie in: the place of the input where it begins, and how many bytes it has.
 #[derive(Clone, Copy)]
-pub(crate) struct Level<'b> {
+pub(crate) struct OpenList<'b> {
     rows: &'b [Kid],
     at: u32,
     size: u32,
@@ -35,7 +35,7 @@ pub struct Deep {
 /// The lists that a walk is in, in memory that was taken for `room` of them.
 #[derive(Drop)]
 pub struct Walk<'b> {
-    levels: Vec<Level<'b>>,
+    levels: Vec<OpenList<'b>>,
     room: u32,
 }
 
@@ -70,7 +70,7 @@ impl<'b> Walk<'b> {
     }
 
     /// Puts a level into the others, where there is room for it.
-    fn push(&mut self, level: Level<'b>)
+    fn push(&mut self, level: OpenList<'b>)
         ensures room { self.new.room ≡ self.old.room }
         ensures pushed { length self.old.levels < self.old.room → self.new.levels ≡ lot_of level.entry ∷ self.old.levels }
         ensures full { self.old.room ≤ length self.old.levels → self.new.levels ≡ self.old.levels }
@@ -81,14 +81,14 @@ impl<'b> Walk<'b> {
     }
 
     /// The innermost level; None where there is none.
-    fn last(&self) -> Option<Level<'b>>
+    fn last(&self) -> Option<OpenList<'b>>
         ensures { MatchOption result (self.now.levels ≡ []) (λ level. IsLast (lot_of level) self.now.levels) }
     {
         self.levels.last().copied()
     }
 
     /// Puts a level in the place of the innermost one.
-    fn replace(&mut self, level: Level<'b>)
+    fn replace(&mut self, level: OpenList<'b>)
         ensures room { self.new.room ≡ self.old.room }
         ensures replaced { Replaces (lot_of level.entry) self.old.levels self.new.levels }
     {
@@ -131,11 +131,11 @@ fn level_in<'b, A: Allocator + Clone + Drop>(
     p: &'b Parsed<'_, A>,
     size: u32,
     spot: Spot,
-) -> Level<'b>
+) -> OpenList<'b>
     ensures { (src : Source) (one : tree.Kid) → StandsKid src p.now.parse.store spot.at spot.kid one → IsNear spot.at one
         → LotOf src p.now.parse.store (lot_of result) spot.at size one }
 {
-    Level {
+    OpenList {
         rows: rows_in(p, spot.kid),
         at: place_in(spot),
         size: size_in(p, size, spot.kid),
@@ -167,7 +167,7 @@ fn go_on<'b, A: Allocator + Clone + Drop>(
     walk: &mut Walk<'b>,
     p: &'b Parsed<'_, A>,
     kid: Kid,
-    rest: Level<'b>,
+    rest: OpenList<'b>,
 ) -> Deep
     ensures room { walk.new.room ≡ walk.old.room }
     ensures ends { (level : Lot) (around : List Lot) → walk.old.levels ≡ level ∷ around → level.rows ≡ kid ∷ rest.entry.rows.now
@@ -199,7 +199,7 @@ pub fn next<'b, A: Allocator + Clone + Drop>(
 {
     while let Some(level) = walk.last() {
         if let Some((kid, rows)) = level.rows.split_first() {
-            let rest = Level {
+            let rest = OpenList {
                 rows,
                 at: level.at,
                 size: level.size,

@@ -14,7 +14,7 @@ use ipg_num::item_at;
 
 /// An alternative among the rules.
 #[derive(Clone, Copy)]
-pub(crate) struct Place<'a> {
+pub(crate) struct AltPlace<'a> {
     pub rules: &'a [CoreRule],
     pub names: &'a [Name],
     pub at: (usize, usize),
@@ -64,7 +64,7 @@ fn is_slot_or_switch(term: Option<&CoreTerm>) -> bool
 }
 
 /// Whether the holder, if there is one, sets the attribute.
-fn holder_sets(place: &Place<'_>, attr: u32) -> bool
+fn holder_sets(place: &AltPlace<'_>, attr: u32) -> bool
     ensures { result ≡ spec.holder_sets (grammar_of place.now) place.now.holder attr }
 {
     match place.holder {
@@ -91,7 +91,7 @@ fn alt_sets(alt: Option<&CoreAlt>, attr: u32) -> bool
     }
 }
 
-fn is_sym(place: &Place<'_>, sym: &Sym) -> bool
+fn is_sym(place: &AltPlace<'_>, sym: &Sym) -> bool
     ensures { result ≡ spec.is_sym (grammar_of place.now) sym.now }
 {
     match sym {
@@ -102,7 +102,7 @@ fn is_sym(place: &Place<'_>, sym: &Sym) -> bool
 }
 
 /// Whether the alternative may call a rule of that holder.
-fn may_call(place: &Place<'_>, other: Option<(u32, u32)>) -> bool
+fn may_call(place: &AltPlace<'_>, other: Option<(u32, u32)>) -> bool
     ensures { result ≡ spec.may_call place.now.at place.now.holder other }
 {
     match other {
@@ -111,7 +111,7 @@ fn may_call(place: &Place<'_>, other: Option<(u32, u32)>) -> bool
     }
 }
 
-fn may_call_rule(place: &Place<'_>, rule: Option<&CoreRule>) -> bool
+fn may_call_rule(place: &AltPlace<'_>, rule: Option<&CoreRule>) -> bool
     ensures { result ≡ spec.may_call_rule place.now.at place.now.holder (option_copied rule.entry) }
 {
     match rule {
@@ -120,7 +120,7 @@ fn may_call_rule(place: &Place<'_>, rule: Option<&CoreRule>) -> bool
     }
 }
 
-fn is_callable(place: &Place<'_>, sym: &Sym) -> bool
+fn is_callable(place: &AltPlace<'_>, sym: &Sym) -> bool
     ensures { result ≡ spec.is_callable (grammar_of place.now) place.now.at place.now.holder sym.now }
 {
     match sym {
@@ -131,7 +131,7 @@ fn is_callable(place: &Place<'_>, sym: &Sym) -> bool
 }
 
 /// Whether each symbol that the term parses may be called.
-fn calls_well(place: &Place<'_>, term: &CoreTerm) -> bool
+fn calls_well(place: &AltPlace<'_>, term: &CoreTerm) -> bool
     ensures { result ≡ spec.calls_well (grammar_of place.now) place.now.at place.now.holder term.now }
 {
     match term {
@@ -146,7 +146,7 @@ fn calls_well(place: &Place<'_>, term: &CoreTerm) -> bool
     }
 }
 
-fn branches_call_well(place: &Place<'_>, cases: &[(CoreExpr, CoreSlot)]) -> bool
+fn branches_call_well(place: &AltPlace<'_>, cases: &[(CoreExpr, CoreSlot)]) -> bool
     ensures { result ≡ list_all (λ c. spec.is_callable (grammar_of place.now) place.now.at place.now.holder c.1.sym) cases.now }
 {
     cases.iter().all(|case| is_callable(place, &case.1.sym))
@@ -162,7 +162,7 @@ fn is_item_sym(sym: &Sym) -> bool
     }
 }
 
-fn has_good_shape(place: &Place<'_>, term: &CoreTerm) -> bool
+fn has_good_shape(place: &AltPlace<'_>, term: &CoreTerm) -> bool
     ensures { result ≡ spec.is_good_shape (grammar_of place.now) term.now }
 {
     match term {
@@ -175,7 +175,7 @@ fn has_good_shape(place: &Place<'_>, term: &CoreTerm) -> bool
     }
 }
 
-fn is_named(place: &Place<'_>, u: usize, field: CoreField) -> bool
+fn is_named(place: &AltPlace<'_>, u: usize, field: CoreField) -> bool
     ensures { result ≡ list_all (spec.is_good_mention (grammar_of place.now) place.now.holder place.now.terms.now u) (field_mentions field) }
 {
     match field {
@@ -187,7 +187,7 @@ fn is_named(place: &Place<'_>, u: usize, field: CoreField) -> bool
 
 /// Whether what the expression of the term `u` names may be named there.
 #[tactic(auto, using(crate::proofs::Appended::all_behind, crate::proofs::Appended::none_behind))]
-fn names_well(place: &Place<'_>, u: usize, e: &CoreExpr) -> bool
+fn names_well(place: &AltPlace<'_>, u: usize, e: &CoreExpr) -> bool
     ensures { result ≡ list_all (spec.is_good_mention (grammar_of place.now) place.now.holder place.now.terms.now u) (mentions e.now) }
 {
     match e {
@@ -225,21 +225,21 @@ fn names_well(place: &Place<'_>, u: usize, e: &CoreExpr) -> bool
 }
 
 #[tactic(auto, using(crate::proofs::Appended::all_behind, crate::proofs::Appended::none_behind))]
-fn slot_names_well(place: &Place<'_>, u: usize, slot: &CoreSlot) -> bool
+fn slot_names_well(place: &AltPlace<'_>, u: usize, slot: &CoreSlot) -> bool
     ensures { result ≡ list_all (spec.is_good_mention (grammar_of place.now) place.now.holder place.now.terms.now u) (slot_mentions slot.now) }
 {
     names_well(place, u, &slot.from) && names_well(place, u, &slot.to)
 }
 
 #[tactic(auto, using(crate::proofs::Appended::all_behind, crate::proofs::Appended::none_behind))]
-fn case_names_well(place: &Place<'_>, u: usize, case: &(CoreExpr, CoreSlot)) -> bool
+fn case_names_well(place: &AltPlace<'_>, u: usize, case: &(CoreExpr, CoreSlot)) -> bool
     ensures { result ≡ list_all (spec.is_good_mention (grammar_of place.now) place.now.holder place.now.terms.now u) (case_mentions case.now) }
 {
     names_well(place, u, &case.0) && slot_names_well(place, u, &case.1)
 }
 
 #[tactic(auto, using(crate::proofs::Appended::all_behind, crate::proofs::Appended::none_behind))]
-fn cases_name_well(place: &Place<'_>, u: usize, cases: &[(CoreExpr, CoreSlot)]) -> bool
+fn cases_name_well(place: &AltPlace<'_>, u: usize, cases: &[(CoreExpr, CoreSlot)]) -> bool
     ensures { result ≡ list_all (spec.is_good_mention (grammar_of place.now) place.now.holder place.now.terms.now u) (flat_map case_mentions cases.now) }
 {
     for case in cases {
@@ -252,7 +252,7 @@ fn cases_name_well(place: &Place<'_>, u: usize, cases: &[(CoreExpr, CoreSlot)]) 
 
 /// Whether what the expressions of the term `u` name may be named there.
 #[tactic(auto, using(crate::proofs::Appended::all_behind, crate::proofs::Appended::none_behind))]
-fn term_names_well(place: &Place<'_>, u: usize, term: &CoreTerm) -> bool
+fn term_names_well(place: &AltPlace<'_>, u: usize, term: &CoreTerm) -> bool
     ensures { result ≡ list_all (spec.is_good_mention (grammar_of place.now) place.now.holder place.now.terms.now u) (term_mentions term.now) }
 {
     match term {
@@ -278,14 +278,14 @@ fn term_names_well(place: &Place<'_>, u: usize, term: &CoreTerm) -> bool
     }
 }
 
-fn is_good_term(place: &Place<'_>, u: usize, term: &CoreTerm) -> bool
+fn is_good_term(place: &AltPlace<'_>, u: usize, term: &CoreTerm) -> bool
     ensures { result ≡ spec.is_good_term (grammar_of place.now) place.now.at place.now.holder place.now.terms.now u term.now }
 {
     has_good_shape(place, term) && calls_well(place, term) && term_names_well(place, u, term)
 }
 
 /// Whether each term names and calls what it may.
-pub(crate) fn has_good_terms(place: &Place<'_>) -> bool
+pub(crate) fn has_good_terms(place: &AltPlace<'_>) -> bool
     ensures { result ≡ spec.all_from (spec.is_good_term (grammar_of place.now) place.now.at place.now.holder place.now.terms.now) 0 place.now.terms.now }
 {
     for (u, term) in place.terms.iter().enumerate() {

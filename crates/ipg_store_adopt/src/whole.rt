@@ -10,7 +10,7 @@ ghost use Rattle.ipg_store_adopt.specs.WellFormed as spec;
 
 use crate::attrs::sets_once;
 use crate::laws::tells_well_formed;
-use crate::place::{Place, has_good_terms};
+use crate::place::{AltPlace, has_good_terms};
 use crate::slots::has_few_slots;
 use ipg_core::grammar::{CoreAlt, CoreRule, Name};
 use ipg_num::item_at;
@@ -80,7 +80,7 @@ fn has_good_alts(rules: &[CoreRule], names: &[Name], number: usize, rule: &CoreR
     ensures { result ≡ spec.has_good_alts (record { rules = rules.now; names = names.now }) number rule.now }
 {
     for (at, alt) in rule.alts.as_slice().iter().enumerate() {
-        let place = Place {
+        let place = AltPlace {
             rules,
             names,
             at: (number, at),

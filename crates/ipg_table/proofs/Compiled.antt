@@ -5,7 +5,7 @@ use Rattle.ipg_core.specs.declared.grammar.CoreRule.{CoreRule}
 use Rattle.ipg_core.specs.Grammar.{Grammar}
 use Rattle.ipg_core.specs.Order.{InOrder, Provides}
 use Rattle.ipg_core.specs.Good.{Good}
-use Rattle.ipg_table.specs.declared.row.Span.{Span}
+use Rattle.ipg_table.specs.declared.row.RowSpan.{RowSpan}
 use Rattle.ipg_table.specs.declared.row.RuleRow.{RuleRow}
 use Rattle.ipg_table.specs.Rows.{Rows, Each, Stands, HoldsRule, StandFor}
 use Rattle.ipg_table.specs.Grows.{NamesTerms, Grows}
@@ -27,7 +27,7 @@ names_terms g good = at_each (λ (rule : CoreRule). AllByRecursion NamesTerms ru
     (good.ordered (r, a) rule alt (record { is_rule = is_rule; is_alt = is_alt }))))
 
 -- rules and names, put to the rest
-pub stands_all : (t u : Rows) (rules : List RuleRow) (names : List Span) (g : Grammar) → Grows t u
+pub stands_all : (t u : Rows) (rules : List RuleRow) (names : List RowSpan) (g : Grammar) → Grows t u
     → Each (HoldsRule t) rules g.rules → Each (Stands u.bytes) names g.names → StandFor (record u { rules = rules; names = names }) g
 stands_all t u rules names g grows rs ns =
     let all = record u { rules = rules; names = names } in

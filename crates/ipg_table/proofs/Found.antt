@@ -2,7 +2,7 @@
 use Rattle.std.proofs.Common.{◌≡◌, ℕ, zero, suc, List, [], ◌∷◌, refl, sym, ap, subst, ◌∙◌, Some, None, slice_get, option_map}
 use Rattle.ipg_core.specs.Grammar.{Grammar, rule_at, holder_of, name_at, or_empty}
 use Rattle.ipg_core.specs.declared.grammar.CoreRule.{CoreRule}
-use Rattle.ipg_table.specs.declared.row.Span.{Span}
+use Rattle.ipg_table.specs.declared.row.RowSpan.{RowSpan}
 use Rattle.ipg_table.specs.declared.row.RuleRow.{RuleRow}
 use Rattle.ipg_table.specs.Rows.{Rows, rows_at, Each, Stands, HoldsRule, StandFor}
 
@@ -36,7 +36,7 @@ module _ (t : Rows) (g : Grammar) (s : StandFor t g) where
       let f = each_there (HoldsRule t) t.rules g.rules rule row s.rules here in
       ap (option_map (λ (r : CoreRule). r.name)) f.1 ∙ ap Some (sym (is ∙ f.2.name.is))
 
-  pub attr_there : (n : ℕ) (at : Span) (name : List ℕ) → slice_get t.names n ≡ Some at → name ≡ rows_at t.bytes at → name ≡ name_at g.names n
+  pub attr_there : (n : ℕ) (at : RowSpan) (name : List ℕ) → slice_get t.names n ≡ Some at → name ≡ rows_at t.bytes at → name ≡ name_at g.names n
   attr_there n at name here is =
       let f = each_there (Stands t.bytes) t.names g.names n at s.names here in
       is ∙ f.2.is ∙ sym (ap or_empty f.1)

@@ -9,7 +9,7 @@ use Rattle.ipg_core.specs.declared.grammar.CoreSlot.{CoreSlot}
 use Rattle.ipg_core.specs.declared.grammar.CoreTerm.{CoreTerm}
 use Rattle.ipg_core.specs.declared.grammar.CoreAlt.{CoreAlt}
 use Rattle.ipg_core.specs.declared.grammar.CoreRule.{CoreRule}
-use Rattle.ipg_table.specs.declared.row.Span.{Span}
+use Rattle.ipg_table.specs.declared.row.RowSpan.{RowSpan}
 use Rattle.ipg_table.specs.declared.row.SlotRow.{SlotRow}
 use Rattle.ipg_table.specs.declared.row.CaseRow.{CaseRow}
 use Rattle.ipg_table.specs.declared.row.Action.{Action}
@@ -50,7 +50,7 @@ grows_trans t u v g h = record {
   depth = le_trans g.depth h.depth;
 }
 
-rows_grow : {A : Type 0} (xs more : List A) (s : Span) → s.from + s.count ≤ length xs → rows_at (xs ++ more) s ≡ rows_at xs s
+rows_grow : {A : Type 0} (xs more : List A) (s : RowSpan) → s.from + s.count ≤ length xs → rows_at (xs ++ more) s ≡ rows_at xs s
 rows_grow xs more s h =
     let f : s.from ≤ length xs = omega arith in
     let c : s.count ≤ length (drop s.from xs) = omega (arith, length-drop s.from xs) in
@@ -59,7 +59,7 @@ rows_grow xs more s h =
 inside_grows : {A : Type 0} (xs more : List A) (n : ℕ) → n ≤ length xs → n ≤ length (xs ++ more)
 inside_grows xs more n h = omega (arith, length-append xs more)
 
-pub stand_grow : {A : Type 0} (xs ys zs : List A) (s : Span) → Begins xs ys → Stands xs s zs → Stands ys s zs
+pub stand_grow : {A : Type 0} (xs ys zs : List A) (s : RowSpan) → Begins xs ys → Stands xs s zs → Stands ys s zs
 stand_grow xs ys zs s b h = record {
   is = ap (λ l. rows_at l s) b.1 ∙ rows_grow xs b.0 s h.inside ∙ h.is;
   inside = subst (λ l. s.from + s.count ≤ length l) (sym b.1) (inside_grows xs b.0 (s.from + s.count) h.inside);
@@ -77,7 +77,7 @@ each_more R (a ∷ xs) (b ∷ ys) x y h r = (h.0, each_more R xs ys x y h.1 r)
 each_more R [] (b ∷ ys) x y h r = absurd h
 each_more R (a ∷ xs) [] x y h r = absurd h
 
-pub stand_each_grow : {A B : Type 0} (R Q : A → B → Type 0) (xs ys : List A) (zs : List B) (s : Span) → ((x : A) (y : B) → R x y → Q x y)
+pub stand_each_grow : {A B : Type 0} (R Q : A → B → Type 0) (xs ys : List A) (zs : List B) (s : RowSpan) → ((x : A) (y : B) → R x y → Q x y)
     → Begins xs ys → StandsEach R xs s zs → StandsEach Q ys s zs
 stand_each_grow R Q xs ys zs s f b h = record {
   each = subst (λ l. Each Q l zs) (sym (ap (λ l. rows_at l s) b.1 ∙ rows_grow xs b.0 s h.inside)) (each_map R Q f (rows_at xs s) zs h.each);
@@ -85,7 +85,7 @@ stand_each_grow R Q xs ys zs s f b h = record {
 }
 
 -- rows that were appended stand at the end
-rows_end : {A : Type 0} (xs ys : List A) (s : Span) → s.from ≡ length xs → s.from + s.count ≡ length (xs ++ ys) → rows_at (xs ++ ys) s ≡ ys
+rows_end : {A : Type 0} (xs ys : List A) (s : RowSpan) → s.from ≡ length xs → s.from + s.count ≡ length (xs ++ ys) → rows_at (xs ++ ys) s ≡ ys
 rows_end xs ys s e n =
     let c : s.count ≡ length ys = omega (arith, length-append xs ys) in
     ap (λ k. take s.count (drop k (xs ++ ys))) e
@@ -93,14 +93,14 @@ rows_end xs ys s e n =
     ∙ ap (λ k. take k ys) c
     ∙ take-length ys
 
-pub stand_end : {A : Type 0} (xs ys zs : List A) (s : Span) → zs ≡ xs ++ ys → s.from ≡ length xs → s.from + s.count ≡ length zs → Stands zs s ys
+pub stand_end : {A : Type 0} (xs ys zs : List A) (s : RowSpan) → zs ≡ xs ++ ys → s.from ≡ length xs → s.from + s.count ≡ length zs → Stands zs s ys
 stand_end xs ys zs s e f n = record {
   is = ap (λ l. rows_at l s) e ∙ rows_end xs ys s f (n ∙ ap length e);
   inside = let i : s.from + s.count ≤ length zs = omega arith in i;
 }
 
 -- rows that stand there, one by one
-pub stand_each : {A B : Type 0} (R Q : A → B → Type 0) (xs ys : List A) (bs : List B) (s : Span)
+pub stand_each : {A B : Type 0} (R Q : A → B → Type 0) (xs ys : List A) (bs : List B) (s : RowSpan)
     → ((x : A) (y : B) → R x y → Q x y) → Stands xs s ys → Each R ys bs → StandsEach Q xs s bs
 stand_each R Q xs ys bs s f h e = record {
   each = subst (λ l. Each Q l bs) (sym h.is) (each_map R Q f ys bs e);
@@ -127,7 +127,7 @@ get_grow xs ys n x b h =
     ∙ ap Some (get_or_append_left xs b.0 x n w ∙ get_or_from_slice_get xs n x x h)
 
 module _ (t u : Rows) (g : Grows t u) where
-  pub expr_grow : (s : Span) (e : CoreExpr) → HoldsExpr t s e → HoldsExpr u s e
+  pub expr_grow : (s : RowSpan) (e : CoreExpr) → HoldsExpr t s e → HoldsExpr u s e
   expr_grow s e h = record { rows = stand_grow t.ops u.ops _ s g.ops h.rows; depth = le_trans h.depth g.depth }
 
   pub slot_grow : (row : SlotRow) (slot : CoreSlot) → HoldsSlot t row slot → HoldsSlot u row slot
@@ -140,7 +140,7 @@ module _ (t u : Rows) (g : Grows t u) where
   pub case_grow : (row : CaseRow) (branch : CoreExpr × CoreSlot) → HoldsCase t row branch → HoldsCase u row branch
   case_grow row branch h = record { cond = expr_grow row.cond branch.0 h.cond; slot = slot_grow row.slot branch.1 h.slot }
 
-  pub cases_grow : (s : Span) (cases : List (CoreExpr × CoreSlot)) → StandsEach (HoldsCase t) t.cases s cases → StandsEach (HoldsCase u) u.cases s cases
+  pub cases_grow : (s : RowSpan) (cases : List (CoreExpr × CoreSlot)) → StandsEach (HoldsCase t) t.cases s cases → StandsEach (HoldsCase u) u.cases s cases
   cases_grow s cases h = stand_each_grow (HoldsCase t) (HoldsCase u) t.cases u.cases cases s case_grow g.cases h
 
   pub term_grow : (action : Action) (term : CoreTerm) → HoldsTerm t action term → HoldsTerm u action term
@@ -155,7 +155,7 @@ module _ (t u : Rows) (g : Grows t u) where
   pub instr_grow : (terms : List CoreTerm) (instr : Instr) (n : ℕ) → HoldsInstr t terms instr n → HoldsInstr u terms instr n
   instr_grow terms instr n h = record { number = h.number; term = h.term; is_term = h.is_term; holds = term_grow instr.action h.term h.holds }
 
-  pub instrs_grow : (terms : List CoreTerm) (s : Span) (order : List ℕ)
+  pub instrs_grow : (terms : List CoreTerm) (s : RowSpan) (order : List ℕ)
       → StandsEach (HoldsInstr t terms) t.instrs s order → StandsEach (HoldsInstr u terms) u.instrs s order
   instrs_grow terms s order h = stand_each_grow (HoldsInstr t terms) (HoldsInstr u terms) t.instrs u.instrs order s (instr_grow terms) g.instrs h
 
@@ -166,7 +166,7 @@ module _ (t u : Rows) (g : Grows t u) where
     terms = h.terms;
   }
 
-  pub alts_grow : (s : Span) (alts : List CoreAlt) → StandsEach (HoldsAlt t) t.alts s alts → StandsEach (HoldsAlt u) u.alts s alts
+  pub alts_grow : (s : RowSpan) (alts : List CoreAlt) → StandsEach (HoldsAlt t) t.alts s alts → StandsEach (HoldsAlt u) u.alts s alts
   alts_grow s alts h = stand_each_grow (HoldsAlt t) (HoldsAlt u) t.alts u.alts alts s alt_grow g.alts h
 
   pub rule_grow : (row : RuleRow) (rule : CoreRule) → HoldsRule t row rule → HoldsRule u row rule
@@ -176,10 +176,10 @@ module _ (t u : Rows) (g : Grows t u) where
     alts = alts_grow row.alts rule.alts h.alts;
   }
 
-  pub name_grow : (s : Span) (name : List ℕ) → Stands t.bytes s name → Stands u.bytes s name
+  pub name_grow : (s : RowSpan) (name : List ℕ) → Stands t.bytes s name → Stands u.bytes s name
   name_grow s name h = stand_grow t.bytes u.bytes name s g.bytes h
 
-pub appended : {A B C : Type 0} (R Q : A → B → Type 0) (r : Result Span C) (old rows new items : List A) (bs : List B) → rows ≡ items
+pub appended : {A B C : Type 0} (R Q : A → B → Type 0) (r : Result RowSpan C) (old rows new items : List A) (bs : List B) → rows ≡ items
     → (new ≡ old ++ rows → (x : A) (y : B) → R x y → Q x y)
     → OnOk r (new ≡ old ++ rows) → IfOk r (λ s. Stands new s rows) → Each R items bs → IfOk r (λ s. StandsEach Q new s bs)
 appended R Q (Ok s) old rows new items bs same grow e h each = stand_each R Q new rows bs s (grow e) h (subst (λ l. Each R l bs) (sym same) each)
@@ -235,7 +235,7 @@ more_alts t xs more e = record {
 }
 
 -- the rules and the names, which come last
-pub finished : (t : Rows) (rules : List RuleRow) (names : List Span) → Grows t (record t { rules = rules; names = names })
+pub finished : (t : Rows) (rules : List RuleRow) (names : List RowSpan) → Grows t (record t { rules = rules; names = names })
 finished t rules names = record {
   alts = begins_refl t.alts;
   instrs = begins_refl t.instrs;

@@ -13,7 +13,7 @@ use Rattle.ipg_core.specs.declared.grammar.CoreRule.{CoreRule}
 use Rattle.ipg_core.specs.Grammar.{Grammar}
 use Rattle.ipg_core.specs.Order.{is_taken, InOrder, Provides}
 use Rattle.ipg_core.specs.Good.{Good}
-use Rattle.ipg_table.specs.declared.row.Span.{Span}
+use Rattle.ipg_table.specs.declared.row.RowSpan.{RowSpan}
 use Rattle.ipg_table.specs.declared.row.SlotRow.{SlotRow}
 use Rattle.ipg_table.specs.declared.row.CaseRow.{CaseRow}
 use Rattle.ipg_table.specs.declared.row.Action.{Action}
@@ -78,7 +78,7 @@ abbrev AllRun : CoreRule → Type 0
 AllRun rule = AllByRecursion RunsAll rule.alts
 
 module _ (t : Rows) where
-  same_expr : (s : Span) (e f : CoreExpr) → HoldsExpr t s e → HoldsExpr t s f → e ≡ f
+  same_expr : (s : RowSpan) (e f : CoreExpr) → HoldsExpr t s e → HoldsExpr t s f → e ≡ f
   same_expr s e f h k = same_code e f (sym h.rows.is ∙ k.rows.is)
 
   same_slot : (row : SlotRow) (a b : CoreSlot) → HoldsSlot t row a → HoldsSlot t row b → a ≡ b

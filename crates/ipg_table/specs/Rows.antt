@@ -10,7 +10,7 @@ use Rattle.ipg_core.specs.declared.grammar.CoreRule.{CoreRule}
 use Rattle.ipg_core.specs.Grammar.{Grammar}
 use Rattle.ipg_core.specs.Good.{Good}
 use Rattle.ipg_core.specs.Total.{Total}
-use Rattle.ipg_table.specs.declared.row.Span.{Span}
+use Rattle.ipg_table.specs.declared.row.RowSpan.{RowSpan}
 use Rattle.ipg_table.specs.declared.row.Op.{Op}
 use Rattle.ipg_table.specs.declared.row.SlotRow.{SlotRow}
 use Rattle.ipg_table.specs.declared.row.CaseRow.{CaseRow}
@@ -34,7 +34,7 @@ pub record Rows : Type 0 where
   -- the bytes of names
   pub bytes : List ℕ
   -- the names of attributes, by their numbers
-  pub names : List Span
+  pub names : List RowSpan
   -- no expression nests deeper
   pub depth : ℕ
 
@@ -54,11 +54,11 @@ rows_of t = record {
 }
 
 -- the rows at a span, as far as there are any
-abbrev pub rows_at : {A : Type 0} → List A → Span → List A
+abbrev pub rows_at : {A : Type 0} → List A → RowSpan → List A
 rows_at xs s = take s.count (drop s.from xs)
 
 -- these are the rows at the span
-pub record Stands {A : Type 0} (xs : List A) (s : Span) (ys : List A) : Type 0 where
+pub record Stands {A : Type 0} (xs : List A) (s : RowSpan) (ys : List A) : Type 0 where
   pub is : rows_at xs s ≡ ys
   pub inside : s.from + s.count ≤ length xs
 
@@ -70,12 +70,12 @@ Each R [] (y ∷ ys) = ⊥
 Each R (x ∷ xs) [] = ⊥
 
 -- one by one, the rows at the span are those of the things
-pub record StandsEach {A B : Type 0} (R : A → B → Type 0) (xs : List A) (s : Span) (ys : List B) : Type 0 where
+pub record StandsEach {A B : Type 0} (R : A → B → Type 0) (xs : List A) (s : RowSpan) (ys : List B) : Type 0 where
   pub each : Each R (rows_at xs s) ys
   pub inside : s.from + s.count ≤ length xs
 
 -- the span holds the rows of the expression
-pub record HoldsExpr (t : Rows) (s : Span) (e : CoreExpr) : Type 0 where
+pub record HoldsExpr (t : Rows) (s : RowSpan) (e : CoreExpr) : Type 0 where
   pub rows : Stands t.ops s (code e)
   pub depth : depth e ≤ t.depth
 

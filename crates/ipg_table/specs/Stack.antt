@@ -3,8 +3,8 @@ use Rattle.std.specs.Prelude.{◌≡◌, ℕ, zero, suc, ◌≤◌, ◌<◌, Lis
 use Rattle.ipg_num.specs.declared.op.Answer.{Answer}
 use Rattle.ipg_core.specs.Environment.{Environment}
 use Rattle.ipg_table.specs.declared.row.Op.{Op}
-use Rattle.ipg_table.specs.declared.value.Turn.{Turn}
-use Rattle.ipg_table.specs.declared.value.Turn.TheVariants.{On, End}
+use Rattle.ipg_table.specs.declared.value.RowTurn.{RowTurn}
+use Rattle.ipg_table.specs.declared.value.RowTurn.TheVariants.{On, End}
 use Rattle.ipg_table.specs.Running.{Next, computed}
 
 -- the stack, from the top down
@@ -13,12 +13,12 @@ stacked area zero = []
 stacked area (suc n) = get_or area n (pos 0) ∷ stacked area n
 
 -- what a row does, whatever comes next
-abbrev pub Turns : Turn → List ℤ → (Next → Answer) → Type 0
+abbrev pub Turns : RowTurn → List ℤ → (Next → Answer) → Type 0
 Turns (On skip top) area does = (next : Next) → does next ≡ next skip (stacked area top)
 Turns (End answer) area does = (next : Next) → does next ≡ answer
 
 -- the stack that is left lies within its area
-abbrev pub StackWithin : Turn → List ℤ → Type 0
+abbrev pub StackWithin : RowTurn → List ℤ → Type 0
 StackWithin (On skip top) area = top ≤ length area
 StackWithin (End answer) area = Unit {0}
 

@@ -8,7 +8,7 @@ ghost use Rattle.ipg_table.specs.Grows.{draft_rows, Grows, NamesTerms};
 
 use crate::emit;
 use crate::emit::{number, sym_of};
-use crate::row::{Action, AltRow, CaseRow, Instr, Op, RuleRow, SlotRow, Span};
+use crate::row::{Action, AltRow, CaseRow, Instr, Op, RowSpan, RuleRow, SlotRow};
 use ipg_core::grammar::{CoreAlt, CoreExpr, CoreRule, CoreSlot, CoreTerm, Sym};
 use smallvec::SmallVec;
 use std::alloc::{AllocError, Global};
@@ -27,18 +27,18 @@ pub(crate) struct Draft {
 }
 
 /// The rows from one place up to another.
-fn span(from: usize, to: usize) -> Result<Span, AllocError>
+fn span(from: usize, to: usize) -> Result<RowSpan, AllocError>
     requires { from ≤ to }
     ensures { IfOk result (λ s. (s.from ≡ from) × (s.from + s.count ≡ to)) }
 {
-    Ok(Span {
+    Ok(RowSpan {
         from: number(from)?,
         count: number(to - from)?,
     })
 }
 
 /// Appends rows to a table; gives where they stand.
-fn append<T: Copy>(table: &mut Vec<T>, rows: &[T]) -> Result<Span, AllocError>
+fn append<T: Copy>(table: &mut Vec<T>, rows: &[T]) -> Result<RowSpan, AllocError>
     ensures grows { OnOk result (table.new.items ≡ table.old.items ++ rows.now) }
     ensures stands { IfOk result (λ s. Stands table.new.items s rows.now) }
 {
@@ -89,7 +89,7 @@ impl Draft {
         }
     }
 
-    fn expr(&mut self, alloc: Global, e: &CoreExpr) -> Result<Span, AllocError>
+    fn expr(&mut self, alloc: Global, e: &CoreExpr) -> Result<RowSpan, AllocError>
         ensures grows { OnOk result (Grows (draft_rows self.old) (draft_rows self.new)) }
         ensures holds { IfOk result (λ s. HoldsExpr (draft_rows self.new) s e.now) }
     {
@@ -151,7 +151,11 @@ impl Draft {
     }
 
     /// The branches of a switch but for the last.
-    fn cases(&mut self, alloc: Global, cases: &[(CoreExpr, CoreSlot)]) -> Result<Span, AllocError>
+    fn cases(
+        &mut self,
+        alloc: Global,
+        cases: &[(CoreExpr, CoreSlot)],
+    ) -> Result<RowSpan, AllocError>
         ensures grows { OnOk result (Grows (draft_rows self.old) (draft_rows self.new)) }
         ensures holds { IfOk result (λ s. StandsEach (HoldsCase (draft_rows self.new)) (draft_rows self.new).cases s cases.now) }
     {
@@ -233,7 +237,7 @@ impl Draft {
         alloc: Global,
         terms: &[CoreTerm],
         order: &[u32],
-    ) -> Result<Span, AllocError>
+    ) -> Result<RowSpan, AllocError>
         requires { AllByRecursion (λ u. u < length terms.now) order.now }
         ensures grows { OnOk result (Grows (draft_rows self.old) (draft_rows self.new)) }
         ensures holds { IfOk result (λ s. StandsEach (HoldsInstr (draft_rows self.new) terms.now) (draft_rows self.new).instrs s order.now) }
@@ -276,7 +280,7 @@ impl Draft {
         Ok(rows)
     }
 
-    fn alts(&mut self, alloc: Global, alts: &[CoreAlt]) -> Result<Span, AllocError>
+    fn alts(&mut self, alloc: Global, alts: &[CoreAlt]) -> Result<RowSpan, AllocError>
         requires { AllByRecursion NamesTerms alts.now }
         ensures grows { OnOk result (Grows (draft_rows self.old) (draft_rows self.new)) }
         ensures holds { IfOk result (λ s. StandsEach (HoldsAlt (draft_rows self.new)) (draft_rows self.new).alts s alts.now) }
@@ -286,7 +290,7 @@ impl Draft {
     }
 
     /// A name, by where its bytes stand.
-    pub fn name(&mut self, name: &[u8]) -> Result<Span, AllocError>
+    pub fn name(&mut self, name: &[u8]) -> Result<RowSpan, AllocError>
         ensures grows { OnOk result (Grows (draft_rows self.old) (draft_rows self.new)) }
         ensures holds { IfOk result (λ s. Stands (draft_rows self.new).bytes s name.now) }
     {

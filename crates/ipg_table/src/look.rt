@@ -3,7 +3,7 @@
 ghost use Rattle.std.specs.Prelude.{◌≡◌, drop, take};
 ghost use Rattle.ipg_table.specs.Rows.{rows_at};
 
-use crate::row::Span;
+use crate::row::RowSpan;
 
 /// The rows behind the first `count`; none where there are fewer.
 pub(crate) fn past<T>(rows: &[T], count: usize) -> &[T]
@@ -30,7 +30,7 @@ pub(crate) fn first<T>(rows: &[T], count: usize) -> &[T]
 /// The rows at a span that reaches past the last one: as far as there are any.
 #[cold]
 #[inline(never)]
-fn rows_left<T>(rows: &[T], at: Span) -> &[T]
+fn rows_left<T>(rows: &[T], at: RowSpan) -> &[T]
     ensures { result.now ≡ rows_at rows.now at }
 {
     first(past(rows, at.from as usize), at.count as usize)
@@ -38,7 +38,7 @@ fn rows_left<T>(rows: &[T], at: Span) -> &[T]
 
 /// The rows at a span, as far as there are any.
 #[inline(always)]
-pub(crate) fn rows_in<T>(rows: &[T], at: Span) -> &[T]
+pub(crate) fn rows_in<T>(rows: &[T], at: RowSpan) -> &[T]
     ensures { result.now ≡ rows_at rows.now at }
 {
     let from = at.from as usize;

@@ -5,7 +5,7 @@ use ipg_num::Op2;
 
 /// Rows of a table that stand side by side: the place of the first, and how many there are.
 #[derive(Clone, Copy, Debug, Default, PartialEq, Eq)]
-pub struct Span {
+pub struct RowSpan {
     pub from: u32,
     pub count: u32,
 }
@@ -65,14 +65,14 @@ pub enum Op {
 #[derive(Clone, Copy, Debug, Default, PartialEq, Eq)]
 pub struct SlotRow {
     pub sym: u32,
-    pub from: Span,
-    pub to: Span,
+    pub from: RowSpan,
+    pub to: RowSpan,
 }
 
 /// A branch of a switch.
 #[derive(Clone, Copy, Debug, Default, PartialEq, Eq)]
 pub struct CaseRow {
-    pub cond: Span,
+    pub cond: RowSpan,
     pub slot: SlotRow,
 }
 
@@ -82,24 +82,24 @@ pub enum Action {
     Slot(SlotRow),
     Set {
         attr: u32,
-        value: Span,
+        value: RowSpan,
     },
-    Test(Span),
+    Test(RowSpan),
     Repeat {
-        first: Span,
-        last: Span,
+        first: RowSpan,
+        last: RowSpan,
         item: SlotRow,
     },
     Many(SlotRow),
     Pick {
-        cases: Span,
+        cases: RowSpan,
         other: SlotRow,
     },
 }
 
 impl Default for Action {
     fn default() -> Action {
-        Action::Test(Span::default())
+        Action::Test(RowSpan::default())
     }
 }
 
@@ -114,15 +114,15 @@ pub struct Instr {
 /// many terms it has.
 #[derive(Clone, Copy, Debug, Default, PartialEq, Eq)]
 pub struct AltRow {
-    pub instrs: Span,
-    pub sets: Span,
+    pub instrs: RowSpan,
+    pub sets: RowSpan,
     pub terms: u32,
 }
 
 /// A rule: its name, its holder by rule and alternative if it is local, and its alternatives.
 #[derive(Clone, Copy, Debug, PartialEq, Eq)]
 pub struct RuleRow {
-    pub name: Span,
+    pub name: RowSpan,
     pub holder: Option<(u32, u32)>,
-    pub alts: Span,
+    pub alts: RowSpan,
 }

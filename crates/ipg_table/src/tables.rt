@@ -13,7 +13,7 @@ ghost use Rattle.ipg_table.specs.Grows.{draft_rows, Grows, NamesTerms};
 use crate::draft::Draft;
 use crate::look::rows_in;
 use crate::results::Results;
-use crate::row::{AltRow, CaseRow, Instr, Op, RuleRow, Span};
+use crate::row::{AltRow, CaseRow, Instr, Op, RowSpan, RuleRow};
 use crate::value::evaluate;
 use ipg_core::accepted::Checked;
 use ipg_core::grammar::{CoreRule, Name, Sym};
@@ -32,7 +32,7 @@ pub struct Tables {
     sets: Vec<u32>,
     syms: Vec<Sym>,
     bytes: Vec<u8>,
-    names: Vec<Span>,
+    names: Vec<RowSpan>,
     depth: u32,
 }
 
@@ -63,7 +63,7 @@ fn rule_rows(
     Ok(rows)
 }
 
-fn name_rows(alloc: Global, draft: &mut Draft, names: &[Name]) -> Result<Vec<Span>, AllocError>
+fn name_rows(alloc: Global, draft: &mut Draft, names: &[Name]) -> Result<Vec<RowSpan>, AllocError>
     ensures grows { OnOk result (Grows (draft_rows draft.old) (draft_rows draft.new)) }
     ensures holds { IfOk result (λ rows. Each (Stands (draft_rows draft.new).bytes) rows.items names.now) }
 {
@@ -138,14 +138,14 @@ impl Tables {
     }
 
     /// The branches of a switch but for the last.
-    pub fn cases(&self, cases: Span) -> &[CaseRow]
+    pub fn cases(&self, cases: RowSpan) -> &[CaseRow]
         ensures { result.now ≡ rows_at self.now.cases cases }
     {
         rows_in(self.cases.as_slice(), cases)
     }
 
     /// The rows of an expression.
-    pub fn ops(&self, expr: Span) -> &[Op]
+    pub fn ops(&self, expr: RowSpan) -> &[Op]
         ensures { result.now ≡ rows_at self.now.ops expr }
     {
         rows_in(self.ops.as_slice(), expr)
@@ -153,7 +153,7 @@ impl Tables {
 
     /// The value of an expression. `area` is the stack of operands, of which nothing is read before it is written.
     #[inline(always)]
-    pub fn value<R: Results>(&self, expr: Span, results: &R, area: &mut [i64]) -> Answer
+    pub fn value<R: Results>(&self, expr: RowSpan, results: &R, area: &mut [i64]) -> Answer
         requires { self.now.depth ≤ length area.now }
         ensures value { (env : Environment) (e : CoreExpr) → R.stands results.now env → HoldsExpr self.now expr e → result ≡ eval e env }
         ensures area { length area.new ≡ length area.old }

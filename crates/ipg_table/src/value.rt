@@ -20,7 +20,7 @@ use ipg_num::{Answer, Op2, apply, negate};
 
 /// What a row leads to: so many rows are passed over, and the stack is so high; or the answer is known.
 #[derive(Clone, Copy)]
-pub(crate) enum Turn {
+pub(crate) enum RowTurn {
     On { skip: u32, top: usize },
     End(Answer),
 }
@@ -67,7 +67,7 @@ fn take(area: &[i64], top: usize) -> Option<Taken>
 }
 
 /// Puts a number on the stack, where there is room.
-fn place(area: &mut [i64], top: usize, value: i64, skip: u32) -> Turn
+fn place(area: &mut [i64], top: usize, value: i64, skip: u32) -> RowTurn
     requires { top ≤ length area.now }
     ensures turn { Turns result area.new (λ next. if nat_lt (length (stacked area.old top)) (length area.old)
         then next skip (value ∷ stacked area.old top) else Answer.Fail) }
@@ -76,14 +76,14 @@ fn place(area: &mut [i64], top: usize, value: i64, skip: u32) -> Turn
 {
     if top < area.len() {
         area[top] = value;
-        Turn::On { skip, top: top + 1 }
+        RowTurn::On { skip, top: top + 1 }
     } else {
-        Turn::End(Answer::Fail)
+        RowTurn::End(Answer::Fail)
     }
 }
 
 /// Puts a value on the stack, where it is one, and passes `skip` rows over.
-fn put(area: &mut [i64], top: usize, answer: Answer, skip: u32) -> Turn
+fn put(area: &mut [i64], top: usize, answer: Answer, skip: u32) -> RowTurn
     requires { top ≤ length area.now }
     ensures turn { Turns result area.new (running.put (length area.old) answer skip (stacked area.old top)) }
     ensures within { StackWithin result area.new }
@@ -91,12 +91,18 @@ fn put(area: &mut [i64], top: usize, answer: Answer, skip: u32) -> Turn
 {
     match kept(answer) {
         Answer::Val(value) => place(area, top, value, skip),
-        Answer::Fail => Turn::End(Answer::Fail),
-        Answer::Range => Turn::End(Answer::Range),
+        Answer::Fail => RowTurn::End(Answer::Fail),
+        Answer::Range => RowTurn::End(Answer::Range),
     }
 }
 
-fn item<R: Results>(results: &R, area: &mut [i64], top: usize, term: u32, field: CoreField) -> Turn
+fn item<R: Results>(
+    results: &R,
+    area: &mut [i64],
+    top: usize,
+    term: u32,
+    field: CoreField,
+) -> RowTurn
     requires { top ≤ length area.now }
     ensures turn { (env : Environment) → R.stands results.now env
         → Turns result area.new (λ next. on_top (stacked area.old top)
@@ -112,11 +118,11 @@ fn item<R: Results>(results: &R, area: &mut [i64], top: usize, term: u32, field:
             found(results.item_field(term, i.value, field)),
             0,
         ),
-        None => Turn::End(Answer::Fail),
+        None => RowTurn::End(Answer::Fail),
     }
 }
 
-fn end<R: Results>(results: &R, area: &mut [i64], top: usize, term: u32, skip: u32) -> Turn
+fn end<R: Results>(results: &R, area: &mut [i64], top: usize, term: u32, skip: u32) -> RowTurn
     requires { top ≤ length area.now }
     ensures turn { (env : Environment) → R.stands results.now env
         → Turns result area.new (running.put_end (length area.old) (spec.greatest_end (envs.items_so_far (envs.done_at env.done term))) skip
@@ -127,11 +133,11 @@ fn end<R: Results>(results: &R, area: &mut [i64], top: usize, term: u32, skip: u
     let end = results.greatest_end(term);
     match end {
         Some(_) => put(area, top, found(end), skip),
-        None => Turn::On { skip: 0, top },
+        None => RowTurn::On { skip: 0, top },
     }
 }
 
-fn neg(area: &mut [i64], top: usize) -> Turn
+fn neg(area: &mut [i64], top: usize) -> RowTurn
     requires { top ≤ length area.now }
     ensures turn { Turns result area.new (λ next. on_top (stacked area.old top) (λ x rest. running.put (length area.old) (negate_of x) 0 rest next)) }
     ensures within { StackWithin result area.new }
@@ -139,11 +145,11 @@ fn neg(area: &mut [i64], top: usize) -> Turn
 {
     match take(area, top) {
         Some(a) => put(area, a.top, negate(a.value), 0),
-        None => Turn::End(Answer::Fail),
+        None => RowTurn::End(Answer::Fail),
     }
 }
 
-fn inverse(area: &mut [i64], top: usize) -> Turn
+fn inverse(area: &mut [i64], top: usize) -> RowTurn
     requires { top ≤ length area.now }
     ensures turn { Turns result area.new (λ next. on_top (stacked area.old top) (λ x rest. running.put (length area.old) (flag (spec.is_zero x)) 0 rest next)) }
     ensures within { StackWithin result area.new }
@@ -151,11 +157,11 @@ fn inverse(area: &mut [i64], top: usize) -> Turn
 {
     match take(area, top) {
         Some(a) => put(area, a.top, denied(a), 0),
-        None => Turn::End(Answer::Fail),
+        None => RowTurn::End(Answer::Fail),
     }
 }
 
-fn two(area: &mut [i64], top: usize, op: Op2) -> Turn
+fn two(area: &mut [i64], top: usize, op: Op2) -> RowTurn
     requires { top ≤ length area.now }
     ensures turn { Turns result area.new
         (λ next. on_top (stacked area.old top) (λ y rest. on_top rest (λ x rest. running.put (length area.old) (apply_of op x y) 0 rest next))) }
@@ -163,15 +169,15 @@ fn two(area: &mut [i64], top: usize, op: Op2) -> Turn
     ensures area { length area.new ≡ length area.old }
 {
     let Some(b) = take(area, top) else {
-        return Turn::End(Answer::Fail);
+        return RowTurn::End(Answer::Fail);
     };
     match take(area, b.top) {
         Some(a) => put(area, a.top, apply(op, a.value, b.value), 0),
-        None => Turn::End(Answer::Fail),
+        None => RowTurn::End(Answer::Fail),
     }
 }
 
-fn both(area: &mut [i64], top: usize, skip: u32) -> Turn
+fn both(area: &mut [i64], top: usize, skip: u32) -> RowTurn
     requires { top ≤ length area.now }
     ensures turn { Turns result area.new
         (λ next. on_top (stacked area.old top) (λ x rest. if spec.is_zero x then running.put (length area.old) (flag false) skip rest next
@@ -184,17 +190,17 @@ fn both(area: &mut [i64], top: usize, skip: u32) -> Turn
             if is_zero(a) {
                 put(area, a.top, truth(false), skip)
             } else {
-                Turn::On {
+                RowTurn::On {
                     skip: 0,
                     top: a.top,
                 }
             }
         }
-        None => Turn::End(Answer::Fail),
+        None => RowTurn::End(Answer::Fail),
     }
 }
 
-fn either(area: &mut [i64], top: usize, skip: u32) -> Turn
+fn either(area: &mut [i64], top: usize, skip: u32) -> RowTurn
     requires { top ≤ length area.now }
     ensures turn { Turns result area.new
         (λ next. on_top (stacked area.old top) (λ x rest. if spec.is_zero x then next 0 rest else running.put (length area.old) (flag true) skip rest
@@ -205,7 +211,7 @@ fn either(area: &mut [i64], top: usize, skip: u32) -> Turn
     match take(area, top) {
         Some(a) => {
             if is_zero(a) {
-                Turn::On {
+                RowTurn::On {
                     skip: 0,
                     top: a.top,
                 }
@@ -213,11 +219,11 @@ fn either(area: &mut [i64], top: usize, skip: u32) -> Turn
                 put(area, a.top, truth(true), skip)
             }
         }
-        None => Turn::End(Answer::Fail),
+        None => RowTurn::End(Answer::Fail),
     }
 }
 
-fn as_truth(area: &mut [i64], top: usize) -> Turn
+fn as_truth(area: &mut [i64], top: usize) -> RowTurn
     requires { top ≤ length area.now }
     ensures turn { Turns result area.new
         (λ next. on_top (stacked area.old top) (λ y rest. running.put (length area.old) (flag (not (spec.is_zero y))) 0 rest next)) }
@@ -226,11 +232,11 @@ fn as_truth(area: &mut [i64], top: usize) -> Turn
 {
     match take(area, top) {
         Some(a) => put(area, a.top, asserted(a), 0),
-        None => Turn::End(Answer::Fail),
+        None => RowTurn::End(Answer::Fail),
     }
 }
 
-fn cond(area: &mut [i64], top: usize, skip: u32) -> Turn
+fn cond(area: &mut [i64], top: usize, skip: u32) -> RowTurn
     requires { top ≤ length area.now }
     ensures turn { Turns result area.new (λ next. on_top (stacked area.old top) (λ x rest. if spec.is_zero x then next skip rest else next 0 rest)) }
     ensures within { StackWithin result area.new }
@@ -239,20 +245,20 @@ fn cond(area: &mut [i64], top: usize, skip: u32) -> Turn
     match take(area, top) {
         Some(a) => {
             if is_zero(a) {
-                Turn::On { skip, top: a.top }
+                RowTurn::On { skip, top: a.top }
             } else {
-                Turn::On {
+                RowTurn::On {
                     skip: 0,
                     top: a.top,
                 }
             }
         }
-        None => Turn::End(Answer::Fail),
+        None => RowTurn::End(Answer::Fail),
     }
 }
 
 /// One row.
-fn step<R: Results>(op: &Op, results: &R, area: &mut [i64], top: usize) -> Turn
+fn step<R: Results>(op: &Op, results: &R, area: &mut [i64], top: usize) -> RowTurn
     requires { top ≤ length area.now }
     ensures turn { (env : Environment) → R.stands results.now env → Turns result area.new (computed env (length area.old) op.now (stacked area.old top)) }
     ensures within { StackWithin result area.new }
@@ -276,8 +282,8 @@ fn step<R: Results>(op: &Op, results: &R, area: &mut [i64], top: usize) -> Turn
         Op::Either { skip } => either(area, top, *skip),
         Op::Truth => as_truth(area, top),
         Op::Cond { skip } => cond(area, top, *skip),
-        Op::Else { skip } => Turn::On { skip: *skip, top },
-        Op::Close => Turn::On { skip: 0, top },
+        Op::Else { skip } => RowTurn::On { skip: *skip, top },
+        Op::Close => RowTurn::On { skip: 0, top },
     }
 }
 
@@ -291,11 +297,11 @@ fn on_stack<R: Results>(ops: &[Op], results: &R, area: &mut [i64]) -> Answer
     let mut top = 0;
     while !left.is_empty() {
         match step(&left[0], results, area, top) {
-            Turn::On { skip, top: next } => {
+            RowTurn::On { skip, top: next } => {
                 left = past(left, skip as usize + 1);
                 top = next;
             }
-            Turn::End(answer) => return answer,
+            RowTurn::End(answer) => return answer,
         }
     }
     match take(area, top) {

@@ -11,12 +11,12 @@ use Rattle.ipg_tree_walk.specs.declared.walk.Visit.{Visit}
 use Rattle.ipg_tree_walk.specs.Left.{NodeOf, StandsNode, Shows}
 use Rattle.ipg_tree_walk.specs.Parse.{Walked, Left}
 use Rattle.ipg_tree_walk.specs.Visits.{Seen, visits, from_of}
-use Rattle.ipg_tree_rows.specs.declared.row.Row.{Row}
+use Rattle.ipg_tree_rows.specs.declared.row.TreeRow.{TreeRow}
 use Rattle.ipg_tree_rows.specs.Rows.{head_rows, child_rows, rows_seen, rows_of}
 use Rattle.ipg_tree_rows.specs.Sees.{Says, IsLeafRow}
 
 -- the rows of visits, one after another
-abbrev pub all_rows : List Seen → List Row
+abbrev pub all_rows : List Seen → List TreeRow
 all_rows [] = []
 all_rows (one ∷ more) = rows_seen one ++ all_rows more
 
@@ -31,7 +31,7 @@ IsNodeRow (row.Array n items) = ⊥
 IsNodeRow (row.Many n items) = ⊥
 
 -- a tree stands at the node of a visit, and these are its rows
-pub record TreeSeen (src : Source) (st : Stored) (visit : Visit) (rows : List Row) : Type 0 where
+pub record TreeSeen (src : Source) (st : Stored) (visit : Visit) (rows : List TreeRow) : Type 0 where
   pub at : ℕ
   pub one : Tree
   pub stands : StandsNode src st at visit.node one
@@ -59,7 +59,7 @@ tree_seen src st visit one is h = tree_seen_at src st visit one.depth one.at one
 -- ---- a walk
 
 -- these are the rows of the visits so far, and what is left gives the rest
-pub record SoFar (src : Source) (p : Walked) (before rows whole : List Row) : Type 0 where
+pub record SoFar (src : Source) (p : Walked) (before rows whole : List TreeRow) : Type 0 where
   pub rest : List Seen
   pub left : Left src p rest
   pub is : rows ++ all_rows rest ≡ before ++ whole
@@ -68,7 +68,7 @@ pub flat : (seen : List Seen) → flat_map rows_seen seen ≡ all_rows seen
 flat [] = refl
 flat (one ∷ seen) = ap (λ these. rows_seen one ++ these) (flat seen)
 
-pub begin : (src : Source) (p : Walked) (before rows : List Row) (one : Tree) → Left src p (visits one) → rows ≡ before
+pub begin : (src : Source) (p : Walked) (before rows : List TreeRow) (one : Tree) → Left src p (visits one) → rows ≡ before
     → SoFar src p before rows (rows_of one)
 begin src p before rows one left same = record {
   rest = visits one;
@@ -77,14 +77,14 @@ begin src p before rows one left same = record {
 }
 
 -- what the next visit came to
-pub record Next (src : Source) (p next : Walked) (visit : Visit) (before rows whole : List Row) : Type 0 where
+pub record Next (src : Source) (p next : Walked) (visit : Visit) (before rows whole : List TreeRow) : Type 0 where
   pub first : Seen
   pub shows : Shows src p.parse.store visit first
-  pub behind : (to : List Row) → to ≡ rows ++ rows_seen first → SoFar src next before to whole
+  pub behind : (to : List TreeRow) → to ≡ rows ++ rows_seen first → SoFar src next before to whole
 
-module _ (src : Source) (p next : Walked) (before rows whole : List Row) where
+module _ (src : Source) (p next : Walked) (before rows whole : List TreeRow) where
   one_more : (first : Seen) (more : List Seen) → rows ++ all_rows (first ∷ more) ≡ before ++ whole → Left src next more
-      → (to : List Row) → to ≡ rows ++ rows_seen first → SoFar src next before to whole
+      → (to : List TreeRow) → to ≡ rows ++ rows_seen first → SoFar src next before to whole
   one_more first more is left to made = record {
     rest = more;
     left = left;

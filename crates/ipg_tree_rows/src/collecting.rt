@@ -5,7 +5,7 @@ ghost use Rattle.ipg_mach_nodes.specs.Stored.{Source};
 ghost use Rattle.ipg_tree_rows.specs.Rows as spec;
 ghost use Rattle.ipg_tree_rows.specs.Sees.{IsTree};
 
-use crate::row::Row;
+use crate::row::TreeRow;
 use crate::visited::add_visit;
 use ipg_tree_walk::Parsed;
 use std::alloc::{AllocError, Allocator};
@@ -13,7 +13,7 @@ use std::alloc::{AllocError, Allocator};
 /// Adds the rows of a parsed tree, in the order of a walk: each before those of what lies in it. Those of a shared node come as often as it
 /// is met. Where memory is wanting some may have been added.
 pub fn add_rows<A: Allocator + Clone + Drop>(
-    rows: &mut Vec<Row>,
+    rows: &mut Vec<TreeRow>,
     p: &mut Parsed<'_, A>,
 ) -> Result<(), AllocError>
     ensures parse { p.new.parse ≡ p.old.parse }

@@ -7,4 +7,4 @@ mod row;
 mod visited;
 
 pub use collecting::add_rows;
-pub use row::Row;
+pub use row::TreeRow;

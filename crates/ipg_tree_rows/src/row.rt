@@ -17,7 +17,7 @@
 /// lies in a row; an attribute has its node's.
 #[repr(C)]
 #[derive(Clone, Copy, Debug, PartialEq, Eq)]
-pub struct Row {
+pub struct TreeRow {
     pub kind: u32,
     pub of: u32,
     pub name: u32,

@@ -8,17 +8,17 @@ ghost use Rattle.ipg_tree_rows.specs.Rows as spec;
 ghost use Rattle.ipg_tree_rows.specs.Sees.{IsSource, IsLeafRow, Says};
 
 use crate::naming::{Named, primitive_number, sym_name};
-use crate::row::Row;
+use crate::row::TreeRow;
 use ipg_core::grammar::Primitive;
 use ipg_mach_nodes::{Kid, Node};
 use ipg_tree_walk::{Parsed, Visit};
 use std::alloc::{AllocError, Allocator};
 
 /// A row with an interval of the input and nothing else.
-fn plain(kind: u32, named: Named, depth: u64, from: u64, to: u64) -> Row
+fn plain(kind: u32, named: Named, depth: u64, from: u64, to: u64) -> TreeRow
     ensures { result ≡ spec.plain kind (named.of, named.number) depth from to }
 {
-    Row {
+    TreeRow {
         kind,
         of: named.of,
         name: named.number,
@@ -34,28 +34,28 @@ fn plain(kind: u32, named: Named, depth: u64, from: u64, to: u64) -> Row
 }
 
 /// The row of an attribute.
-fn attr_row(depth: u64, attr: (u32, i64)) -> Row
+fn attr_row(depth: u64, attr: (u32, i64)) -> TreeRow
     ensures { result ≡ spec.attr_row depth attr }
 {
     let named = Named {
         of: 3,
         number: attr.0,
     };
-    Row {
+    TreeRow {
         value: attr.1,
         ..plain(1, named, depth, 0, 0)
     }
 }
 
 /// The row of a number.
-fn number_row(visit: Visit, prim: Primitive, high: u32, low: u32) -> Row
+fn number_row(visit: Visit, prim: Primitive, high: u32, low: u32) -> TreeRow
     ensures { result ≡ spec.number_row visit.depth visit.from visit.to prim high low }
 {
     let named = Named {
         of: 1,
         number: primitive_number(prim),
     };
-    Row {
+    TreeRow {
         high,
         low,
         ..plain(3, named, visit.depth, visit.from, visit.to)
@@ -63,7 +63,7 @@ fn number_row(visit: Visit, prim: Primitive, high: u32, low: u32) -> Row
 }
 
 /// Adds the rows of attributes.
-fn add_attrs(rows: &mut Vec<Row>, depth: u64, attrs: &[(u32, i64)]) -> Result<(), AllocError>
+fn add_attrs(rows: &mut Vec<TreeRow>, depth: u64, attrs: &[(u32, i64)]) -> Result<(), AllocError>
     ensures { OnOk result (rows.new.items ≡ rows.old.items ++ map (spec.attr_row depth) attrs.now) }
 {
     for attr in attrs {
@@ -80,7 +80,7 @@ fn place(at: u64, offset: u32) -> u64
 }
 
 /// The row of a node whose part begins at `at`.
-fn node_row(depth: u64, at: u64, node: Node) -> Row
+fn node_row(depth: u64, at: u64, node: Node) -> TreeRow
     ensures { at + 2 ^ 32 ≤ 2 ^ 64 → result ≡ spec.node_row depth at node.head.rule node.head.size node.head.start node.head.end }
 {
     let head = node.head;
@@ -88,7 +88,7 @@ fn node_row(depth: u64, at: u64, node: Node) -> Row
         of: 0,
         number: head.rule,
     };
-    Row {
+    TreeRow {
         start: place(at, head.start),
         end: place(at, head.end),
         ..plain(0, named, depth, at, place(at, head.size))
@@ -97,7 +97,7 @@ fn node_row(depth: u64, at: u64, node: Node) -> Row
 
 /// Adds the rows of a node whose part begins at `at`.
 fn add_node<A: Allocator + Clone + Drop>(
-    rows: &mut Vec<Row>,
+    rows: &mut Vec<TreeRow>,
     p: &Parsed<'_, A>,
     depth: u64,
     at: u64,
@@ -112,7 +112,7 @@ fn add_node<A: Allocator + Clone + Drop>(
 
 /// Adds the rows of the node of a visit; none where it comes to none.
 fn add_tree<A: Allocator + Clone + Drop>(
-    rows: &mut Vec<Row>,
+    rows: &mut Vec<TreeRow>,
     p: &Parsed<'_, A>,
     visit: Visit,
 ) -> Result<(), AllocError>
@@ -126,7 +126,7 @@ fn add_tree<A: Allocator + Clone + Drop>(
 }
 
 /// The row of a child that isn't a node.
-fn child_row<A: Allocator + Clone + Drop>(p: &Parsed<'_, A>, visit: Visit) -> Row
+fn child_row<A: Allocator + Clone + Drop>(p: &Parsed<'_, A>, visit: Visit) -> TreeRow
     ensures { (src : Source) (one : Seen) → IsSource p.now.parse src → Shows src p.now.parse.store visit one → IsLeafRow visit.kid
         → spec.rows_seen one ≡ result ∷ [] }
 {
@@ -153,7 +153,7 @@ fn child_row<A: Allocator + Clone + Drop>(p: &Parsed<'_, A>, visit: Visit) -> Ro
 
 /// Adds the rows of a visit.
 pub(crate) fn add_visit<A: Allocator + Clone + Drop>(
-    rows: &mut Vec<Row>,
+    rows: &mut Vec<TreeRow>,
     p: &Parsed<'_, A>,
     visit: Visit,
 ) -> Result<(), AllocError>

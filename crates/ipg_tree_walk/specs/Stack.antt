@@ -1,7 +1,7 @@
 -- The levels of a walk, and the room for them.
 use Rattle.std.specs.Prelude.{◌≡◌, ℕ, ◌<◌, ◌≤◌, ◌^◌, List, ◌∷◌, reverse, vec_capacity}
 use Rattle.ipg_tree_walk.specs.declared.stack.Level.{Level}
-use Rattle.ipg_tree_walk.specs.declared.stack.Stack.TheInside.{Inside}
+use Rattle.ipg_tree_walk.specs.declared.stack.LevelStack.TheInside.{Inside}
 
 -- the levels, the innermost first, and how many there may be
 pub record Stacked : Type 0 where

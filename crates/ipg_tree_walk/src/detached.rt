@@ -4,7 +4,7 @@ ghost use Rattle.std.specs.Prelude.{◌≡◌, IfOk, slice_get, Some, ◌∷◌,
 ghost use Rattle.ipg_mach_nodes.specs.declared.kid.Node.{Node};
 
 use crate::parsed::Counts;
-use crate::stack::Stack;
+use crate::stack::LevelStack;
 use ipg_mach_nodes::{RunId, Store};
 use std::alloc::{AllocError, Allocator};
 use std::marker::Model;
@@ -16,7 +16,7 @@ pub struct Detached<A: Allocator> {
     store: Store<A>,
     root: RunId,
     counts: Counts,
-    stack: Stack<A>,
+    stack: LevelStack<A>,
 }
 
 impl<A: Allocator> Model for Detached<A> {
@@ -52,7 +52,7 @@ impl<A: Allocator + Clone + Drop> Detached<A> {
         ensures { IfOk result (λ d. d ≡ record { store = store; root = root; counts = counts }) }
     {
         let room = levels_at(&store, root);
-        let stack = Stack::with_room(alloc, room)?;
+        let stack = LevelStack::with_room(alloc, room)?;
         Ok(Detached {
             store,
             root,
@@ -66,7 +66,7 @@ impl<A: Allocator + Clone + Drop> Detached<A> {
         store: Store<A>,
         root: RunId,
         counts: Counts,
-        stack: Stack<A>,
+        stack: LevelStack<A>,
     ) -> Detached<A>
         requires { (node : Node) → slice_get store.nodes root.place ≡ Some (node ∷ []) → node.levels ≤ stack.room }
         ensures { result ≡ record { store = store; root = root; counts = counts } }
@@ -80,7 +80,7 @@ impl<A: Allocator + Clone + Drop> Detached<A> {
     }
 
     /// Its parts, the memory of the walk among them.
-    pub(crate) fn into_parts(self) -> (Store<A>, RunId, Counts, Stack<A>)
+    pub(crate) fn into_parts(self) -> (Store<A>, RunId, Counts, LevelStack<A>)
         ensures parts { record { store = result.0; root = result.1; counts = result.2 } ≡ self }
         ensures room { (node : Node) → slice_get result.0.nodes result.1.place ≡ Some (node ∷ []) → node.levels ≤ result.3.room }
     {

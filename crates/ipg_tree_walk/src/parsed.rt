@@ -16,7 +16,7 @@ ghost use Rattle.ipg_tree_walk.specs.Steps.{wide};
 
 use crate::bytes::part;
 use crate::detached::Detached;
-use crate::stack::Stack;
+use crate::stack::LevelStack;
 use crate::walk::{Visit, enter, root_visit, step};
 use ipg_mach_nodes::{Kid, RunId, Store};
 use ipg_mach_results::value_at;
@@ -48,7 +48,7 @@ pub struct Parsed<'a, A: Allocator> {
     store: Store<A>,
     root: RunId,
     counts: Counts,
-    stack: Stack<A>,
+    stack: LevelStack<A>,
     is_ahead: bool,
 }
 

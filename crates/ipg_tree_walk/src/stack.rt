@@ -19,12 +19,12 @@ pub struct Level {
 
 /// Levels that lie within one another, in memory that was taken for `room` of them.
 #[derive(Drop)]
-pub(crate) struct Stack<A: Allocator> {
+pub(crate) struct LevelStack<A: Allocator> {
     levels: Vec<Level, A>,
     room: u32,
 }
 
-impl<A: Allocator> Model for Stack<A> {
+impl<A: Allocator> Model for LevelStack<A> {
     ghost use Rattle.ipg_tree_walk.specs.Stack.{Stacked};
 
     ghost Value = { Stacked };
@@ -36,12 +36,12 @@ impl<A: Allocator> Model for Stack<A> {
     ghost invariant = { λ s. IsRoomy s };
 }
 
-impl<A: Allocator + Clone + Drop> Stack<A> {
+impl<A: Allocator + Clone + Drop> LevelStack<A> {
     /// No levels, and room for so many.
-    pub(crate) fn with_room(alloc: A, room: u32) -> Result<Stack<A>, AllocError>
+    pub(crate) fn with_room(alloc: A, room: u32) -> Result<LevelStack<A>, AllocError>
         ensures { IfOk result (λ stack. stack ≡ record { levels = []; room = room }) }
     {
-        Ok(Stack {
+        Ok(LevelStack {
             levels: Vec::with_capacity(alloc, room as usize)?,
             room,
         })

@@ -1,4 +1,4 @@
-use crate::stack::Stack;
+use crate::stack::LevelStack;
 use crate::walk::{Visit, enter, root_visit, step};
 use ipg_mach_nodes::{Head, Kid, Node, RunId, Store};
 use linked_list_allocator::LocalHeap;
@@ -60,7 +60,7 @@ fn visits_in_order<A: Allocator + Clone + Drop>(
     let mut store = Store::new(alloc)?;
     let id = leaf(&mut store)?;
     let top = root(&mut store, id, 3)?;
-    let mut stack = Stack::with_room(again, 3)?;
+    let mut stack = LevelStack::with_room(again, 3)?;
     let node = store.node(id);
     let first = root_visit(top, store.node(top));
     enter(&mut stack, first.kid, first.node, 0, 0);

@@ -10,7 +10,7 @@ ghost use Rattle.ipg_region.specs.declared.region.RunId.{RunId as Place};
 ghost use Rattle.ipg_tree_walk.specs.Left.{NodeAt, NodeOf, Shows, Holds, Takes, TakesIf, Follows, Leave, EntersIf};
 ghost use Rattle.ipg_tree_walk.specs.Steps.{wide, steps};
 
-use crate::stack::{Level, Stack};
+use crate::stack::{Level, LevelStack};
 use ipg_mach_nodes::{Kid, Node, RunId, Store};
 use ipg_num::item_at;
 use std::alloc::Allocator;
@@ -101,7 +101,7 @@ fn level_in(kid: Kid, node: Option<Node>, at: u64, size: u32) -> Option<Level>
 
 /// Goes into a child of a part of `size` bytes that begins at `at`.
 pub(crate) fn enter<A: Allocator + Clone + Drop>(
-    stack: &mut Stack<A>,
+    stack: &mut LevelStack<A>,
     kid: Kid,
     node: Option<Node>,
     at: u64,
@@ -189,7 +189,11 @@ fn shown(depth: u64, at: u64, size: u32, kid: Kid, node: Option<Node>) -> Visit
 /// The visit of a row that came next in the innermost level: that level goes on without it, and the level of what lies in
 /// the child is put into it.
 #[inline(always)]
-fn go_on<A: Allocator + Clone + Drop>(store: &Store<A>, stack: &mut Stack<A>, taken: Taken) -> Visit
+fn go_on<A: Allocator + Clone + Drop>(
+    store: &Store<A>,
+    stack: &mut LevelStack<A>,
+    taken: Taken,
+) -> Visit
     ensures room { stack.new.room ≡ stack.old.room }
     ensures ends { (level : Level) (around : List Level) → stack.old.levels ≡ level ∷ around → Takes store.now level taken
         → steps stack.new.room stack.new.levels < steps stack.old.room (level ∷ around) }
@@ -210,7 +214,7 @@ fn go_on<A: Allocator + Clone + Drop>(store: &Store<A>, stack: &mut Stack<A>, ta
 #[inline(always)]
 pub(crate) fn step<A: Allocator + Clone + Drop>(
     store: &Store<A>,
-    stack: &mut Stack<A>,
+    stack: &mut LevelStack<A>,
 ) -> Option<Visit>
     ensures room { stack.new.room ≡ stack.old.room }
     ensures ends { OnSome result (steps stack.new.room stack.new.levels < steps stack.old.room stack.old.levels) }

@@ -3,7 +3,7 @@ use Rattle.ipg_core.specs.Meaning.{Place}
 use Rattle.ipg_mach_moves.specs.Moves as moves
 use Rattle.ipg_mach_moves.specs.Moves.{silent}
 use Rattle.ipg_table.specs.Rows.{HoldsTerm}
-use Rattle.ipg_mach_term.specs.declared.entry.Entry.TheVariants as entry
+use Rattle.ipg_mach_term.specs.declared.entry.TermEntry.TheVariants as entry
 use Rattle.ipg_mach_term.specs.Advance.{IsEntry, IsAtHand}
 use Rattle.ipg_mach_term.proofs.Ending as ending
 use Rattle.ipg_mach_term.proofs.Shapes as shapes

@@ -3,7 +3,7 @@ use Rattle.ipg_table.specs.Rows.{attrs_in}
 use Rattle.ipg_core.specs.Within.{TreeWithin}
 use Rattle.ipg_core.specs.Meaning.{node_of}
 use Rattle.ipg_mach_slot.specs.Now.{AreResults}
-use Rattle.ipg_mach.specs.declared.frame.Held.TheVariants.{Node}
+use Rattle.ipg_mach.specs.declared.frame.HeldAnswer.TheVariants.{Node}
 use Rattle.ipg_mach.specs.Calls.{shown, size_of}
 use Rattle.ipg_mach.proofs.Working as working
 use Rattle.ipg_mach.proofs.top.Top.close.Goals as goal

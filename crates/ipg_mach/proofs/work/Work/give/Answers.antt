@@ -1,7 +1,7 @@
 use Rattle.std.proofs.Common.{refl, sym, ap, ◌∙◌, subst, OnOk, Some, Ok, Err}
 use Rattle.ipg_core.specs.Run.{NoTree}
 use Rattle.ipg_mach_moves.specs.Moves.{move, move_by, Holds}
-use Rattle.ipg_mach.specs.declared.frame.Held.TheVariants as held
+use Rattle.ipg_mach.specs.declared.frame.HeldAnswer.TheVariants as held
 use Rattle.ipg_mach.specs.Stage.{staged, IsAt}
 use Rattle.ipg_mach.proofs.Stepping as stepping
 use Rattle.ipg_mach.proofs.work.Work.give.Goals as goal
