@@ -1,6 +1,7 @@
 //! The term at hand of the highest call, with what its expressions read.
 
-ghost use Rattle.std.specs.Prelude.{◌≡◌, ◌∷◌, ℕ, List, length, Option, Some, IfSome};
+ghost use Rattle.std.specs.Prelude.{◌≡◌, ◌<◌, ◌^◌, ◌∷◌, ℕ, List, length};
+ghost use Rattle.ipg_core.specs.Part.{part as part_of};
 ghost use Rattle.ipg_mach_moves.specs.Moves.{OpenCall, Evaluation};
 ghost use Rattle.ipg_mach_nodes.specs.Stored.{Source};
 ghost use Rattle.ipg_table.specs.Rows.{HoldsInstr};
@@ -35,20 +36,28 @@ pub struct Scene<'s, A: Allocator> {
 }
 
 impl<'m, A: Allocator + Clone + Drop> Reader<'m, A> {
-    /// The highest call at an instruction.
-    fn scene_at<'s>(&'s self, top: &'s Top<'m, A>, instr: &'s Instr) -> Scene<'s, A>
-        ensures scene { (src : Source) (frames : List Frame) (lower : List OpenCall) (c : OpenCall) (u : ℕ) (rest : List ℕ)
-            → src.input ≡ self.now.input.now → IsWorking self.now.tables.now src (shown top.now) frames lower c → c.left ≡ u ∷ rest
-            → HoldsInstr self.now.tables.now c.terms instr.now u → IsScene src result c }
-        ensures sized { length result.site.bytes.now ≡ result.site.size }
+    /// A part of the input, with the tables.
+    fn site<'s>(&'s self, from: u32, to: u32) -> PartSite<'s>
+        ensures tables { result.tables.now ≡ self.now.tables.now }
+        ensures part { result.bytes.now ≡ part_of self.now.input.now from to }
+        ensures small { length result.bytes.now < 2 ^ 32 }
     {
-        let frame = top.frame;
-        let bytes = part(self.input, frame.from, frame.to);
-        let site = PartSite {
+        let bytes = part(self.input, from, to);
+        PartSite {
             tables: self.tables,
             bytes,
             size: bytes.len() as u32,
-        };
+        }
+    }
+
+    /// The highest call at an instruction.
+    fn scene_at<'s>(&'s self, top: &'s Top<'m, A>, instr: &'s Instr) -> Scene<'s, A>
+        ensures { (src : Source) (frames : List Frame) (lower : List OpenCall) (c : OpenCall) (u : ℕ) (rest : List ℕ)
+            → src.input ≡ self.now.input.now → IsWorking self.now.tables.now src (shown top.now) frames lower c → c.left ≡ u ∷ rest
+            → HoldsInstr self.now.tables.now c.terms instr.now u → IsScene src result c }
+    {
+        let frame = top.frame;
+        let site = self.site(frame.from, frame.to);
         let view = View {
             tables: self.tables,
             top,
@@ -70,9 +79,8 @@ impl<'m, A: Allocator + Clone + Drop> Reader<'m, A> {
 
     /// The term at hand of the highest call.
     fn scene<'s>(&'s self, top: &'s Top<'m, A>) -> Option<Scene<'s, A>>
-        ensures scene { (src : Source) (frames : List Frame) (lower : List OpenCall) (c : OpenCall) → src.input ≡ self.now.input.now
+        ensures { (src : Source) (frames : List Frame) (lower : List OpenCall) (c : OpenCall) → src.input ≡ self.now.input.now
             → IsWorking self.now.tables.now src (shown top.now) frames lower c → ShowsAtHand src result c }
-        ensures sized { IfSome result (λ s. length s.site.bytes.now ≡ s.site.size) }
     {
         match item_at(top.frame.left, 0) {
             Some(instr) => Some(self.scene_at(top, instr)),
@@ -84,8 +92,7 @@ impl<'m, A: Allocator + Clone + Drop> Reader<'m, A> {
 impl<'m, A: Allocator + Clone + Drop> Machine<'m, A> {
     /// The term at hand of the highest call; None where that holds its answer. Takes no memory.
     pub fn scene(&self) -> Option<Scene<'_, A>>
-        ensures scene { (src : Source) (e : Evaluation) → IsAt src (staged self.now.work) e → IsSceneOf src result e.highest }
-        ensures sized { IfSome result (λ s. length s.site.bytes.now ≡ s.site.size) }
+        ensures { (src : Source) (e : Evaluation) → IsAt src (staged self.now.work) e → IsSceneOf src result e.highest }
     {
         match self.work.top.answer {
             Some(_) => None,

@@ -28,6 +28,7 @@ pub struct PartSite<'m> {
     pub tables: &'m Tables,
     pub bytes: &'m [u8],
     pub size: u32,
+    ghost counted: { length bytes.now ≡ size },
 }
 
 /// The value of an expression. `area` is the stack of operands; `depth` of the tables says how long it has to be.
@@ -50,7 +51,6 @@ pub fn value<R: Results>(tables: &Tables, results: &R, expr: RowSpan, area: &mut
 /// A symbol between two values, where they are the ends of an interval.
 #[inline(always)]
 fn slot_between(site: &PartSite<'_>, sym: u32, from: i64, to: i64) -> Found
-    requires { length site.now.bytes.now ≡ site.now.size }
     ensures { (src : Source) (st : Stored) (at : ℕ) (f : Frame) (place : Place) (state : State) (slot : CoreSlot)
         → slice_get site.now.tables.now.syms sym ≡ Some slot.sym → Shares src at f site.now.tables.now site.now.bytes.now
         → IsFound src st at f state.own result (found.slot_between f place state slot from to) }
@@ -70,8 +70,7 @@ fn slot_from<R: Results>(
     from: i64,
     area: &mut [i64],
 ) -> Found
-    requires depth { site.now.tables.now.depth ≤ length area.now }
-    requires size { length site.now.bytes.now ≡ site.now.size }
+    requires { site.now.tables.now.depth ≤ length area.now }
     ensures found { (src : Source) (st : Stored) (at : ℕ) (f : Frame) (place : Place) (state : State) (item : Option ℤ) (slot : CoreSlot)
         → R.stands results.now (environment f state item) → HoldsSlot site.now.tables.now row slot
         → Shares src at f site.now.tables.now site.now.bytes.now → IsFound src st at f state.own result (found.slot_from f place state item slot from) }
@@ -87,8 +86,7 @@ fn slot_from<R: Results>(
 /// A slot: its left end, its right end, a valid interval, its symbol.
 #[inline(always)]
 pub fn slot<R: Results>(site: &PartSite<'_>, results: &R, row: SlotRow, area: &mut [i64]) -> Found
-    requires depth { site.now.tables.now.depth ≤ length area.now }
-    requires size { length site.now.bytes.now ≡ site.now.size }
+    requires { site.now.tables.now.depth ≤ length area.now }
     ensures found { (src : Source) (st : Stored) (at : ℕ) (f : Frame) (place : Place) (state : State) (item : Option ℤ) (slot : CoreSlot)
         → R.stands results.now (environment f state item) → HoldsSlot site.now.tables.now row slot
         → Shares src at f site.now.tables.now site.now.bytes.now → IsFound src st at f state.own result (spec.slot_on silent f place state item slot) }
@@ -129,8 +127,7 @@ fn branch<R: Results>(
     other: SlotRow,
     area: &mut [i64],
 ) -> Found
-    requires depth { site.now.tables.now.depth ≤ length area.now }
-    requires size { length site.now.bytes.now ≡ site.now.size }
+    requires { site.now.tables.now.depth ≤ length area.now }
     ensures found { (src : Source) (st : Stored) (at : ℕ) (f : Frame) (place : Place) (state : State) (branches : List (CoreExpr × CoreSlot))
         (last : CoreSlot) → R.stands results.now (environment f state None) → Each (HoldsCase site.now.tables.now) cases.now branches
         → HoldsSlot site.now.tables.now other last → Shares src at f site.now.tables.now site.now.bytes.now
@@ -162,8 +159,7 @@ pub fn pick<R: Results>(
     other: SlotRow,
     area: &mut [i64],
 ) -> Found
-    requires depth { site.now.tables.now.depth ≤ length area.now }
-    requires size { length site.now.bytes.now ≡ site.now.size }
+    requires { site.now.tables.now.depth ≤ length area.now }
     ensures found { (src : Source) (st : Stored) (at : ℕ) (f : Frame) (place : Place) (state : State) (branches : List (CoreExpr × CoreSlot))
         (last : CoreSlot) → R.stands results.now (environment f state None) → Each (HoldsCase site.now.tables.now) cases.now branches
         → HoldsSlot site.now.tables.now other last → Shares src at f site.now.tables.now site.now.bytes.now
@@ -178,7 +174,6 @@ pub fn pick<R: Results>(
 /// An item of a repetition on what is left of its interval.
 pub fn turn(site: &PartSite<'_>, sym: u32, from: u32, to: u32) -> Found
     requires inside { (from ≤ to) × (to ≤ site.now.size) }
-    requires size { length site.now.bytes.now ≡ site.now.size }
     ensures { (src : Source) (st : Stored) (at : ℕ) (f : Frame) (place : Place) (own : Values) (one : Sym)
         → slice_get site.now.tables.now.syms sym ≡ Some one → Shares src at f site.now.tables.now site.now.bytes.now
         → IsFound src st at f own result (spec.item_on silent f place own from to one) }

@@ -60,8 +60,7 @@ fn outside<R: Results, A: Allocator + Clone + Drop>(
     action: Action,
     area: &mut [i64],
 ) -> AtHand
-    requires depth { site.now.tables.now.depth ≤ length area.now }
-    requires size { length site.now.bytes.now ≡ site.now.size }
+    requires { site.now.tables.now.depth ≤ length area.now }
     ensures found { (src : Source) (at u : ℕ) (f : Frame) (state : State) (term : CoreTerm) → R.stands results.now (environment f state None)
         → HoldsTerm site.now.tables.now action term → Shares src at f site.now.tables.now site.now.bytes.now
         → IsAtHand src store.now at site.now.size u state [] f entries.Outside result (moves.advance silent f state u moves.Outside (Some term)) }
@@ -96,8 +95,7 @@ fn item<R: Results, A: Allocator + Clone + Drop>(
     entry: TermEntry,
     area: &mut [i64],
 ) -> AtHand
-    requires depth { site.now.tables.now.depth ≤ length area.now }
-    requires size { length site.now.bytes.now ≡ site.now.size }
+    requires { site.now.tables.now.depth ≤ length area.now }
     ensures found { (src : Source) (at u left : ℕ) (z : ℤ) (f : Frame) (state : State) (items : List tree.Kid) (e : moves.Entry) (term : CoreTerm)
         → entry ≡ entries.Items left z → R.stands results.now (environment_at f state u e term) → HoldsTerm site.now.tables.now action term
         → IsEntry site.now.size entry items e → Shares src at f site.now.tables.now site.now.bytes.now
@@ -115,7 +113,6 @@ fn item<R: Results, A: Allocator + Clone + Drop>(
 
 /// An item of a repetition, on what is left of an interval of the part.
 fn turn_within(site: &PartSite<'_>, sym: u32, at: u32, to: u32) -> Found
-    requires { length site.now.bytes.now ≡ site.now.size }
     ensures { (src : Source) (st : Stored) (begin : ℕ) (f : Frame) (place : Place) (own : Values) (one : Sym) → at ≤ to → to ≤ site.now.size
         → slice_get site.now.tables.now.syms sym ≡ Some one → Shares src begin f site.now.tables.now site.now.bytes.now
         → IsFound src st begin f own result (spec.item_on silent f place own at to one) }
@@ -138,7 +135,6 @@ fn next_turn<A: Allocator + Clone + Drop>(
     at: u32,
     to: u32,
 ) -> AtHand
-    requires { length site.now.bytes.now ≡ site.now.size }
     ensures { (src : Source) (begin u : ℕ) (f : Frame) (state : State) (items : List tree.Kid) (e : moves.Entry) (term : CoreTerm)
         → HoldsTerm site.now.tables.now action term → IsEntry site.now.size (entries.Turns at to) items e
         → Shares src begin f site.now.tables.now site.now.bytes.now
@@ -168,8 +164,7 @@ pub fn at_hand<R: Results, A: Allocator + Clone + Drop>(
     entry: TermEntry,
     area: &mut [i64],
 ) -> AtHand
-    requires depth { site.now.tables.now.depth ≤ length area.now }
-    requires size { length site.now.bytes.now ≡ site.now.size }
+    requires { site.now.tables.now.depth ≤ length area.now }
     ensures found { (src : Source) (at u : ℕ) (f : Frame) (state : State) (items : List tree.Kid) (e : moves.Entry) (term : CoreTerm)
         → R.stands results.now (environment_at f state u e term) → HoldsTerm site.now.tables.now instr.action term → instr.term ≡ u
         → IsEntry site.now.size entry items e → Shares src at f site.now.tables.now site.now.bytes.now

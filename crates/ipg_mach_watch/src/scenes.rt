@@ -101,8 +101,7 @@ pub(crate) fn failure_in<A: Allocator + Clone + Drop>(
     scene: &Scene<'_, A>,
     area: &mut [i64],
 ) -> Result<Option<Failure>, AllocError>
-    requires depth { scene.now.site.tables.now.depth ≤ length area.now }
-    requires size { length scene.now.site.bytes.now ≡ scene.now.site.size }
+    requires { scene.now.site.tables.now.depth ≤ length area.now }
     ensures fails { (src : Source) (c : OpenCall) → IsScene src scene.entry.now c → IfOk result (λ found. found ≡ spec.call_fails c) }
     ensures area { length area.new ≡ length area.old }
 {

@@ -48,7 +48,6 @@ fn no_interval(branch: u64, from: i64, to: i64) -> Option<Miss>
 
 /// A symbol between two values.
 fn slot_between(site: &PartSite<'_>, branch: u64, sym: u32, from: i64, to: i64) -> Option<Miss>
-    requires { length site.now.bytes.now ≡ site.now.size }
     ensures { (slot : CoreSlot) → slice_get site.now.tables.now.syms sym ≡ Some slot.sym
         → result ≡ spec.on_interval branch from to (part.interval (length site.now.bytes.now) from to)
         (λ l r. spec.symbol_fails branch site.now.bytes.now l r slot.sym) }
@@ -68,8 +67,7 @@ fn slot_from<R: Results>(
     from: i64,
     area: &mut [i64],
 ) -> Option<Miss>
-    requires depth { site.now.tables.now.depth ≤ length area.now }
-    requires size { length site.now.bytes.now ≡ site.now.size }
+    requires { site.now.tables.now.depth ≤ length area.now }
     ensures fails { (f : Frame) (state : State) (item : Option ℤ) (slot : CoreSlot) → R.stands results.now (environment f state item)
         → HoldsSlot site.now.tables.now row slot
         → result ≡ spec.on_value branch (eval slot.to (environment f state item)) (λ r.
@@ -92,8 +90,7 @@ fn slot<R: Results>(
     row: SlotRow,
     area: &mut [i64],
 ) -> Option<Miss>
-    requires depth { site.now.tables.now.depth ≤ length area.now }
-    requires size { length site.now.bytes.now ≡ site.now.size }
+    requires { site.now.tables.now.depth ≤ length area.now }
     ensures fails { (f : Frame) (state : State) (item : Option ℤ) (slot : CoreSlot) → R.stands results.now (environment f state item)
         → HoldsSlot site.now.tables.now row slot → f.bytes ≡ site.now.bytes.now → result ≡ spec.slot_fails f state branch item slot }
     ensures area { length area.new ≡ length area.old }
@@ -113,8 +110,7 @@ fn pick<R: Results>(
     other: SlotRow,
     area: &mut [i64],
 ) -> Option<Miss>
-    requires depth { site.now.tables.now.depth ≤ length area.now }
-    requires size { length site.now.bytes.now ≡ site.now.size }
+    requires { site.now.tables.now.depth ≤ length area.now }
     ensures fails { (f : Frame) (state : State) (branches : List (CoreExpr × CoreSlot)) (last : CoreSlot)
         → R.stands results.now (environment f state None) → Each (HoldsCase site.now.tables.now) cases.now branches
         → HoldsSlot site.now.tables.now other last → f.bytes ≡ site.now.bytes.now → result ≡ spec.pick_fails f state 0 branches last }
@@ -213,7 +209,6 @@ fn bounds<R: Results>(
 
 /// Two values that are no ends of an interval of the part.
 fn ends_between(site: &PartSite<'_>, from: i64, to: i64) -> Option<Miss>
-    requires { length site.now.bytes.now ≡ site.now.size }
     ensures { result ≡ spec.on_interval 0 from to (part.interval (length site.now.bytes.now) from to) (λ l r. None) }
 {
     match interval(site.size, from, to) {
@@ -230,8 +225,7 @@ fn ends_from<R: Results>(
     to: RowSpan,
     area: &mut [i64],
 ) -> Option<Miss>
-    requires depth { site.now.tables.now.depth ≤ length area.now }
-    requires size { length site.now.bytes.now ≡ site.now.size }
+    requires { site.now.tables.now.depth ≤ length area.now }
     ensures fails { (f : Frame) (state : State) (e : CoreExpr) → R.stands results.now (environment f state None) → HoldsExpr site.now.tables.now to e
         → result ≡ spec.on_value 0 (eval e (environment f state None)) (λ r.
         spec.on_interval 0 from r (part.interval (length site.now.bytes.now) from r) (λ l r. None)) }
@@ -251,8 +245,7 @@ fn ends<R: Results>(
     row: SlotRow,
     area: &mut [i64],
 ) -> Option<Miss>
-    requires depth { site.now.tables.now.depth ≤ length area.now }
-    requires size { length site.now.bytes.now ≡ site.now.size }
+    requires { site.now.tables.now.depth ≤ length area.now }
     ensures fails { (f : Frame) (state : State) (slot : CoreSlot) → R.stands results.now (environment f state None)
         → HoldsSlot site.now.tables.now row slot → f.bytes ≡ site.now.bytes.now → result ≡ spec.ends_fail f state slot.from slot.to }
     ensures area { length area.new ≡ length area.old }
@@ -271,8 +264,7 @@ fn outside<R: Results>(
     action: Action,
     area: &mut [i64],
 ) -> Option<Miss>
-    requires depth { site.now.tables.now.depth ≤ length area.now }
-    requires size { length site.now.bytes.now ≡ site.now.size }
+    requires { site.now.tables.now.depth ≤ length area.now }
     ensures fails { (f : Frame) (state : State) (u : ℕ) (term : CoreTerm) → R.stands results.now (environment f state None)
         → HoldsTerm site.now.tables.now action term → f.bytes ≡ site.now.bytes.now → result ≡ spec.term_fails f state u moves.Outside term }
     ensures area { length area.new ≡ length area.old }
@@ -294,8 +286,7 @@ fn item<R: Results>(
     action: Action,
     area: &mut [i64],
 ) -> Option<Miss>
-    requires depth { site.now.tables.now.depth ≤ length area.now }
-    requires size { length site.now.bytes.now ≡ site.now.size }
+    requires { site.now.tables.now.depth ≤ length area.now }
     ensures fails { (f : Frame) (state : State) (u k : ℕ) (z : ℤ) (items : List tree.Kid) (term : CoreTerm)
         → R.stands results.now (environment_at f state u (moves.Items (suc k) z items) term) → HoldsTerm site.now.tables.now action term
         → f.bytes ≡ site.now.bytes.now → result ≡ spec.term_fails f state u (moves.Items (suc k) z items) term }
@@ -309,7 +300,6 @@ fn item<R: Results>(
 
 /// The next item of a repetition, where it fails.
 fn next_turn(site: &PartSite<'_>, action: Action, at: u32, to: u32) -> Option<Miss>
-    requires { length site.now.bytes.now ≡ site.now.size }
     ensures { (f : Frame) (state : State) (u : ℕ) (items : List tree.Kid) (term : CoreTerm) → HoldsTerm site.now.tables.now action term → at ≤ to
         → to ≤ site.now.size → f.bytes ≡ site.now.bytes.now → result ≡ spec.term_fails f state u (moves.Turns at to items) term }
 {
@@ -333,8 +323,7 @@ pub(crate) fn term<R: Results>(
     entry: TermEntry,
     area: &mut [i64],
 ) -> Option<Miss>
-    requires depth { site.now.tables.now.depth ≤ length area.now }
-    requires size { length site.now.bytes.now ≡ site.now.size }
+    requires { site.now.tables.now.depth ≤ length area.now }
     ensures fails { (f : Frame) (state : State) (u : ℕ) (items : List tree.Kid) (e : moves.Entry) (term : CoreTerm)
         → R.stands results.now (environment_at f state u e term) → HoldsTerm site.now.tables.now action term → IsEntry site.now.size entry items e
         → f.bytes ≡ site.now.bytes.now → result ≡ spec.term_fails f state u e term }

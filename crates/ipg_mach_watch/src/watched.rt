@@ -61,7 +61,6 @@ impl<A: Allocator + Clone + Drop> Watch<A> {
 
     /// Looks at the term at hand of the highest call.
     fn see(&mut self, scene: &Scene<'_, A>) -> Result<(), AllocError>
-        requires { length scene.now.site.bytes.now ≡ scene.now.site.size }
         ensures furthest { (src : Source) (c : OpenCall) (f : spec.Furthest) → IsScene src scene.entry.now c → IsFurthest self.old.furthest f
             → OnOk result (IsFurthest self.new.furthest (spec.furthest_with f (spec.story_with self.old.calls.items (values_of c) (call_fails c)))) }
         ensures last { (src : Source) (c : OpenCall) → IsScene src scene.entry.now c → OnOk result (self.new.last ≡ Some (call_of c)) }

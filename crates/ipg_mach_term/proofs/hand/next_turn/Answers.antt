@@ -1,4 +1,4 @@
-use Rattle.std.proofs.Common.{refl, ap, subst, ◌∙◌, length, Some}
+use Rattle.std.proofs.Common.{refl, ap, subst, ◌∙◌, length, Some, ◌≡◌, rules}
 use Rattle.ipg_core.specs.Meaning.{Place}
 use Rattle.ipg_mach_moves.specs.Moves as moves
 use Rattle.ipg_mach_moves.specs.Moves.{silent}
@@ -11,9 +11,10 @@ use Rattle.ipg_mach_term.proofs.hand.next_turn.Goals as goal
 
 pub returns-in-Many : goal.returns-in-Many
 returns-in-Many g c src begin u f state items e term holds is shares =
+    let counted : length c.args.site.now.bytes.now ≡ c.args.site.now.size = search rules in
     let site = c.args.site.now in
     let place : Place = record { term = u; branch = 0 } in
-    let size = ap length shares.part ∙ c.requires in
+    let size = ap length shares.part ∙ counted in
     let h = subst (λ a. HoldsTerm site.tables.now a term) c.in-Many.is holds in
     let found = c.turn_within-found.ensures src c.args.store.now begin f place state.own h.0.sym is.1 is.2 h.2.sym shares in
     let ends = ending.turn_ends f place state.own c.args.at c.args.to h.0.sym src c.args.store.now begin _ found in

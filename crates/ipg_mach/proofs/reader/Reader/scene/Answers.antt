@@ -4,14 +4,14 @@ use Rattle.ipg_table.specs.Rows.{HoldsInstr}
 use Rattle.ipg_mach.proofs.Rows as rows
 use Rattle.ipg_mach.proofs.reader.Reader.scene.Goals as goal
 
-pub returns-in-Some-clause-scene : goal.returns-in-Some-clause-scene
-returns-in-Some-clause-scene g c src frames lower call input work =
+pub returns-in-Some : goal.returns-in-Some
+returns-in-Some g c src frames lower call input work =
     let top = c.args.top.now in
     let one = rows.some_left (HoldsInstr c.args.self.now.tables.now call.terms) top.frame.left.now call.left _ work.at_work.is_open.left
     (sym c.item_at.ensures ∙ ap option_copied c.in-Some.is) in
-    c.scene_at.ensures.scene src frames lower call one.0 _ input work one.2 one.1
+    c.scene_at.ensures src frames lower call one.0 _ input work one.2 one.1
 
-pub returns-in-None-clause-scene : goal.returns-in-None-clause-scene
-returns-in-None-clause-scene g c src frames lower call input work =
+pub returns-in-None : goal.returns-in-None
+returns-in-None g c src frames lower call input work =
     rows.none_left (HoldsInstr c.args.self.now.tables.now call.terms) c.args.top.now.frame.left.now call.left work.at_work.is_open.left
     (sym c.item_at.ensures ∙ ap option_copied c.in-None.is)

@@ -8,7 +8,7 @@ use Rattle.ipg_mach_watch.proofs.watched.Watch.look.Goals as goal
 
 pub returns-in-Some-clause-furthest : goal.returns-in-Some-clause-furthest
 returns-in-Some-clause-furthest g c src e f at calls is =
-    let it = showing.works_in src c.in-Some.scene e.highest (c.in-Some.ensures.scene src e at) in
+    let it = showing.works_in src c.in-Some.scene e.highest (c.in-Some.ensures src e at) in
     subst (λ cs. OnOk c.see.result (IsFurthest c.see.new.self.furthest
     (spec.furthest_with f (spec.story_with cs (spec.highest_reads e.highest) (spec.highest_fails e.highest))))) calls
     (subst (λ (h : Highest). OnOk c.see.result (IsFurthest c.see.new.self.furthest
