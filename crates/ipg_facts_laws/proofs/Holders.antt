@@ -51,7 +51,7 @@ pub record Holder (g : Grammar) (marks : Marks) (o : Option (ℕ × ℕ)) (calle
   pub env : Environment
   pub own : env.own ≡ outer
   pub size : env.eoi ≤ 2 ^ 30
-  pub so : (v : Valuation) → ((known : Quantity) → v (variable_of holder_side known) ≡ clamped (of_quantity env known))
+  pub so : (v : Valuation) → ((quantity : Quantity) → v (variable_of holder_side quantity) ≡ clamped (of_quantity env quantity))
       → (here : Environment) → here.eoi ≡ length s → Fits v (first_scope g marks caller_side caller) here → AreSo v (holder_facts g marks o caller)
 
 no_syms : (term : CoreTerm) (terms : List CoreTerm) (u v attr callee : ℕ) → slice_get terms u ≡ Some term → Contains (term_syms term) (Rule callee)
@@ -119,7 +119,7 @@ module _ (lies : LiesWithin) (must : TouchingTouches) (g : Grammar) (good : Good
         some_ran scope env comes.before (holder_work.ran comes.state None (stays_same done comes.state)) these
         (kept_taken g at terms caller.terms done holder_work.provided wanted comes.alt.order)
 
-    module _ (v : Valuation) (agree : (known : Quantity) → v (variable_of holder_side known) ≡ clamped (of_quantity env known))
+    module _ (v : Valuation) (agree : (quantity : Quantity) → v (variable_of holder_side quantity) ≡ clamped (of_quantity env quantity))
         (here : Environment) (size : here.eoi ≡ length s) (fits : Fits v (first_scope g marks caller_side caller) here) where
       holder_fits : Fits v scope env
       holder_fits =

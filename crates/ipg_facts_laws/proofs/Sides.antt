@@ -56,13 +56,13 @@ module _ (lies : LiesWithin) (must : TouchingTouches) (g : Grammar) (good : Good
     values : Valuation
     values variable = if same_variable variable (whole point_side) then z else values_of env held_by.env variable
 
-    agrees : (known : Quantity) → values (variable_of caller_side known) ≡ clamped (of_quantity env known)
+    agrees : (quantity : Quantity) → values (variable_of caller_side quantity) ≡ clamped (of_quantity env quantity)
     unfolding values values_of same_variable
-    agrees known = refl
+    agrees quantity = refl
 
-    holder_agrees : (known : Quantity) → values (variable_of holder_side known) ≡ clamped (of_quantity held_by.env known)
+    holder_agrees : (quantity : Quantity) → values (variable_of holder_side quantity) ≡ clamped (of_quantity held_by.env quantity)
     unfolding values values_of same_variable
-    holder_agrees known = refl
+    holder_agrees quantity = refl
 
     outer_is : (a : ℕ) (y : ℤ) → value_at outer a ≡ Some y → limited y ≡ Val y → values (attribute holder_side a) ≡ y
     outer_is a y there n =

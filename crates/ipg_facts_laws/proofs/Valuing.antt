@@ -24,7 +24,7 @@ use Rattle.ipg_core.specs.Eval.{eval, greatest_end}
 use Rattle.ipg_facts_variables.specs.declared.variable.Side.{Side}
 use Rattle.ipg_facts_variables.specs.declared.variable.Side.TheVariants.{Caller, Holder, Point}
 use Rattle.ipg_facts_variables.specs.declared.variable.Quantity.{Quantity}
-use Rattle.ipg_facts_variables.specs.declared.variable.Quantity.TheVariants as variables
+use Rattle.ipg_facts_variables.specs.declared.variable.Quantity.TheVariants as quantities
 use Rattle.ipg_facts_variables.specs.declared.variable.Quantity.TheVariants.{Whole, Attribute, Loop, Named, Value}
 use Rattle.ipg_facts_variables.specs.declared.variable.Variable.{Variable}
 use Rattle.ipg_facts_variables.specs.Variable.{attribute, field, named, value, holder_side}
@@ -122,8 +122,8 @@ abbrev pub of_quantity : Environment → Quantity → ℤ
 of_quantity env Whole = pos env.eoi
 of_quantity env (Attribute a) = or_zero (value_at env.own a)
 of_quantity env Loop = or_zero env.item
-of_quantity env (variables.Start term) = start_in (done_at env.done term)
-of_quantity env (variables.End term) = end_in (done_at env.done term)
+of_quantity env (quantities.Start term) = start_in (done_at env.done term)
+of_quantity env (quantities.End term) = end_in (done_at env.done term)
 of_quantity env (Named term name) = named_in env.names name (done_at env.done term)
 of_quantity env (Value e) = value_by (eval e env)
 
@@ -133,7 +133,7 @@ of_side caller holder Holder = holder
 of_side caller holder Point = holder
 
 abbrev pub variable_of : Side → Quantity → Variable
-variable_of side known = record { side = side; of = known }
+variable_of side quantity = record { side = side; of = quantity }
 
 abbrev of_variable : Environment → Environment → Variable → ℤ
 of_variable caller holder variable = of_quantity (of_side caller holder variable.side) variable.of
@@ -165,12 +165,12 @@ seen_is names one f None z e = absurd (cc)
 seen_is names one f (Some d) z e = (d, refl, if_read (is_read_by d one) (field_of names f d.kid) z e)
 
 module _ (v : Valuation) (scope : Scope) (env : Environment) (names : ℕ)
-    (agree : (known : Quantity) → v (variable_of scope.side known) ≡ clamped (of_quantity env known))
+    (agree : (quantity : Quantity) → v (variable_of scope.side quantity) ≡ clamped (of_quantity env quantity))
     (distinct : IsDistinct bytes_eq env.names) (same : env.names ≡ scope.names) (few : length env.names ≡ names)
     (named_kids : (t : ℕ) (d : Done) → done_at env.done t ≡ Some d → KidNamed names d.kid) where
   -- by the value that a variable stands for
-  stands_for : (known : Quantity) (z : ℤ) → of_quantity env known ≡ z → limited z ≡ Val z → v (variable_of scope.side known) ≡ z
-  stands_for known z e n = agree known ∙ ap clamped e ∙ clamped_is z n
+  stands_for : (quantity : Quantity) (z : ℤ) → of_quantity env quantity ≡ z → limited z ≡ Val z → v (variable_of scope.side quantity) ≡ z
+  stands_for quantity z e n = agree quantity ∙ ap clamped e ∙ clamped_is z n
 
   kid_attr : (a : ℕ) (k : Kid) (z : ℤ) → KidNamed names k → field_of env.names (Attr a) k ≡ Some z → attr_named env.names (name_at env.names a) k ≡ Some z
   kid_attr a (Sub from to tree) z h e =
@@ -186,8 +186,8 @@ module _ (v : Valuation) (scope : Scope) (env : Environment) (names : ℕ)
   result_is term (Attr a) z d there e n =
       stands_for (Named term (name_at env.names a)) z
       (ap (named_in env.names (name_at env.names a)) there ∙ ap or_zero (kid_attr a d.kid z (named_kids term d there) e)) n
-  result_is term Start z d there e n = stands_for (variables.Start term) z (ap start_in there ∙ start_is env.names d.kid z e) n
-  result_is term End z d there e n = stands_for (variables.End term) z (ap end_in there ∙ end_is env.names d.kid z e) n
+  result_is term Start z d there e n = stands_for (quantities.Start term) z (ap start_in there ∙ start_is env.names d.kid z e) n
+  result_is term End z d there e n = stands_for (quantities.End term) z (ap end_in there ∙ end_is env.names d.kid z e) n
 
   number_is : (term : ℕ) (d : Done) (from to : ℕ) (prim : Primitive) (high low : ℕ) (name : List ℕ) (z : ℤ) → done_at env.done term ≡ Some d
       → d.kid ≡ Number from to prim high low → number_attr prim name high low ≡ Some z → limited z ≡ Val z → v (named scope.side term name) ≡ z

@@ -134,7 +134,7 @@ none_touching false o e = refl
 pub work_fits : (g : Grammar) → Good g → (marks : Marks) (at : ℕ × ℕ) (alt : CoreAlt) (s : List ℕ) → IsInput s
     → (outer : Values) (side : Side) (end : State) (item : Option ℤ)
     → Results marks (length g.names) alt (length s) end → (v : Valuation)
-    → ((known : Quantity) → v (variable_of side known) ≡ clamped (of_quantity (environment (at_work g at s outer) end item) known))
+    → ((quantity : Quantity) → v (variable_of side quantity) ≡ clamped (of_quantity (environment (at_work g at s outer) end item) quantity))
     → ((a : ℕ) (z : ℤ) → value_at outer a ≡ Some z → limited z ≡ Val z → v (attribute holder_side a) ≡ z)
     → Fits v (first_scope g marks side alt) (environment (at_work g at s outer) end item)
 unfolding environment

@@ -1,4 +1,4 @@
-use Rattle.std.proofs.Common.{sym, ap, ◌∙◌, List, drop, arith, ℕ, ◌-◌}
+use Rattle.std.proofs.Common.{sym, ap, ◌∙◌, arith, ◌-◌}
 use Rattle.std.specs.Prelude.{get_or}
 use Rattle.ipg_facts_holder.specs.Holder.{with_term}
 use Rattle.ipg_facts_holder.specs.Outers.{matters_by}
