@@ -17,7 +17,11 @@ use ipg_proof::{CallGraph, keep_of};
 use ipg_solve::{Decision, decide};
 use std::alloc::{AllocError, Global};
 
-fn refuted_edge(alloc: Global, calls: CallGraph, edge: u32) -> Result<Option<Refutation>, AllocError>
+fn refuted_edge(
+    alloc: Global,
+    calls: CallGraph,
+    edge: u32,
+) -> Result<Option<Refutation>, AllocError>
     requires { edge < length calls.edges.now }
     ensures { IfOk result (λ found. IfSome found (λ r. IsTrue (edge_checks (seen calls.entry) (edge, r)))) }
 {
