@@ -14,8 +14,8 @@ use Rattle.ipg_lin.specs.Formula.{assigned}
 use Rattle.ipg_lin.specs.declared.formula.Formula.{Formula}
 use Rattle.ipg_lin.specs.declared.formula.Boxed.{Boxed}
 use Rattle.ipg_facts_edges.specs.Edges.{edges_of}
-use Rattle.ipg_facts.specs.Numbers.{keep}
-use Rattle.ipg_facts.specs.Joint.{joint}
+use Rattle.ipg_facts.specs.Keep.{keep}
+use Rattle.ipg_facts_forms.specs.Joint.{joint}
 use Rattle.ipg_facts_laws.specs.Bounded.{JointIsPart}
 use Rattle.ipg_facts_laws.specs.Laws.{ArePartsWith, ConditionsAreParts}
 use Rattle.ipg_proof.specs.Calls.{calls_of, joint_of, keeps, live_graph}

@@ -6,7 +6,7 @@ use Rattle.ipg_core.specs.MustTouch.{Marks}
 use Rattle.ipg_graph.specs.declared.edge.Edge.{Edge}
 use Rattle.ipg_lin.specs.declared.formula.Formula.{Formula}
 use Rattle.ipg_lin.specs.declared.formula.Boxed.{Boxed}
-use Rattle.ipg_facts.specs.Numbers.{keep, variables}
+use Rattle.ipg_facts.specs.Keep.{keep, variables}
 use Rattle.ipg_facts_edges.specs.Edges.{edges_of}
 use Rattle.ipg_solve_sure.specs.Laws.{TellsOnce}
 use Rattle.ipg_solve_sure.specs.Sure.{Tells}
@@ -27,7 +27,8 @@ module _ (tells_once : TellsOnce) where
   one_line g core marks eoi (Some edge) one other (values, each, h) (others, all, k) =
       let site : CallSite = record { written = g; core = core; edge = edge } in
       let part = keep core marks edge in
-      let same = once (IsValueOn site part eoi) (λ n key s t. one_value part.0 (on_length part.1 eoi) n (name_of site key) s t) 0 (variables core marks edge)
+      let same = once (IsValueOn site part eoi) (λ n variable s t. one_value part.0 (on_length part.1 eoi) n (name_of site variable) s t) 0
+          (variables core marks edge)
       values others each all
       in
       h ∙ ap (values_line (rule_name g edge.caller)) same ∙ sym k
@@ -53,7 +54,7 @@ some_line g core marks eoi None none = none [] refl
 some_line g core marks eoi (Some edge) none =
     let site : CallSite = record { written = g; core = core; edge = edge } in
     let part = keep core marks edge in
-    somehow (IsValueOn site part eoi) (λ n key. some_value part.0 (on_length part.1 eoi) n (name_of site key)) 0 (variables core marks edge)
+    somehow (IsValueOn site part eoi) (λ n variable. some_value part.0 (on_length part.1 eoi) n (name_of site variable)) 0 (variables core marks edge)
     (λ values each. none (values_line (rule_name g edge.caller) values) (values, each, refl))
 
 pub noted_somehow : NotedSomehow

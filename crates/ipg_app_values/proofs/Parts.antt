@@ -4,7 +4,8 @@ use Rattle.std.specs.Prelude.{slice_set}
 use Rattle.ipg_core.specs.Grammar.{Grammar}
 use Rattle.ipg_graph.specs.declared.edge.Edge.{Edge}
 use Rattle.ipg_lin.specs.declared.formula.Boxed.{Boxed}
-use Rattle.ipg_facts.specs.Numbers.{keep, variables, bounds_of}
+use Rattle.ipg_facts_forms.specs.Numbers.{bounds_of}
+use Rattle.ipg_facts.specs.Keep.{keep, variables}
 use Rattle.ipg_app_values.specs.declared.values.Conditions.{Conditions}
 use Rattle.ipg_app_values.specs.Seen.{AreOf}
 

@@ -3,11 +3,11 @@ use Rattle.std.specs.Prelude.{ℕ, List, [], ◌∷◌, ◌++◌, codes, Option,
 use Rattle.ipg_ast.specs.declared.grammar.Grammar as written
 use Rattle.ipg_core.specs.Grammar.{Grammar, holder_of, name_at, rule_at}
 use Rattle.ipg_graph.specs.declared.edge.Edge.{Edge}
-use Rattle.ipg_facts.specs.declared.key.Side.{Side}
-use Rattle.ipg_facts.specs.declared.key.Side.TheVariants.{Caller, Holder, Point}
-use Rattle.ipg_facts.specs.declared.key.Known.{Known}
-use Rattle.ipg_facts.specs.declared.key.Known.TheVariants.{Whole, Attribute, Loop, Start, End, Named, Value}
-use Rattle.ipg_facts.specs.declared.key.Key.{Key}
+use Rattle.ipg_facts_variables.specs.declared.variable.Side.{Side}
+use Rattle.ipg_facts_variables.specs.declared.variable.Side.TheVariants.{Caller, Holder, Point}
+use Rattle.ipg_facts_variables.specs.declared.variable.Quantity.{Quantity}
+use Rattle.ipg_facts_variables.specs.declared.variable.Quantity.TheVariants.{Whole, Attribute, Loop, Start, End, Named, Value}
+use Rattle.ipg_facts_variables.specs.declared.variable.Variable.{Variable}
 use Rattle.ipg_app_explain.specs.Named.{cut, label_at, loop_name, rule_name}
 
 -- where a call stands, in a grammar as it is written and in its core grammar
@@ -46,14 +46,14 @@ turn_name site Caller = loop_name site.written site.edge.caller site.edge.alt si
 turn_name site Holder = []
 turn_name site Point = []
 
-abbrev pub known_name : CallSite → Side → Known → List ℕ
-known_name site side Whole = whole_name side
-known_name site side (Attribute a) = cut (name_at site.core.names a)
-known_name site side Loop = turn_name site side
-known_name site side (Start term) = result_field site side term (codes "start")
-known_name site side (End term) = result_field site side term (codes "end")
-known_name site side (Named term name) = result_field site side term (cut name)
-known_name site side (Value e) = []
+abbrev pub quantity_name : CallSite → Side → Quantity → List ℕ
+quantity_name site side Whole = whole_name side
+quantity_name site side (Attribute a) = cut (name_at site.core.names a)
+quantity_name site side Loop = turn_name site side
+quantity_name site side (Start term) = result_field site side term (codes "start")
+quantity_name site side (End term) = result_field site side term (codes "end")
+quantity_name site side (Named term name) = result_field site side term (cut name)
+quantity_name site side (Value e) = []
 
 abbrev pub rule_in : written.Grammar → Option (ℕ × ℕ) → List ℕ
 rule_in g None = []
@@ -69,5 +69,5 @@ abbrev pub owned : List ℕ → List ℕ → List ℕ
 owned [] whose = []
 owned (b ∷ name) whose = b ∷ (name ++ whose)
 
-abbrev pub name_of : CallSite → Key → List ℕ
-name_of site key = owned (known_name site key.side key.of) (owner site key.side)
+abbrev pub name_of : CallSite → Variable → List ℕ
+name_of site variable = owned (quantity_name site variable.side variable.of) (owner site variable.side)

@@ -7,8 +7,8 @@ use Rattle.ipg_core.specs.MustTouch.{Marks}
 use Rattle.ipg_graph.specs.declared.edge.Edge.{Edge}
 use Rattle.ipg_lin.specs.declared.formula.Formula.{Formula}
 use Rattle.ipg_lin.specs.declared.formula.Boxed.{Boxed}
-use Rattle.ipg_facts.specs.declared.key.Key.{Key}
-use Rattle.ipg_facts.specs.Numbers.{keep, variables}
+use Rattle.ipg_facts_variables.specs.declared.variable.Variable.{Variable}
+use Rattle.ipg_facts.specs.Keep.{keep, variables}
 use Rattle.ipg_facts_edges.specs.Edges.{edges_of}
 use Rattle.ipg_solve_sure.specs.Narrowed.{narrowed}
 use Rattle.ipg_solve_sure.specs.Sure.{Tells}
@@ -28,8 +28,8 @@ abbrev pub IsNamed : Formula → Boxed → ℕ → List ℕ → List ℕ → Typ
 IsNamed formula box x [] text = text ≡ []
 IsNamed formula box x (b ∷ name) text = (value : Option ℤ) × Tells formula box x value × (text ≡ valued (b ∷ name) value)
 
-abbrev pub IsValue : CallSite → Formula → Boxed → ℕ → Key → List ℕ → Type 0
-IsValue site formula box x key text = IsNamed formula box x (name_of site key) text
+abbrev pub IsValue : CallSite → Formula → Boxed → ℕ → Variable → List ℕ → Type 0
+IsValue site formula box x variable text = IsNamed formula box x (name_of site variable) text
 
 -- ---- a call
 
@@ -37,7 +37,7 @@ IsValue site formula box x key text = IsNamed formula box x (name_of site key) t
 abbrev pub on_length : Boxed → ℤ → Boxed
 on_length box eoi = narrowed box 0 eoi eoi
 
-abbrev pub IsValueOn : CallSite → Formula × Boxed → ℤ → ℕ → Key → List ℕ → Type 0
+abbrev pub IsValueOn : CallSite → Formula × Boxed → ℤ → ℕ → Variable → List ℕ → Type 0
 IsValueOn site part eoi = IsValue site part.0 (on_length part.1 eoi)
 
 -- a line, where there are such values

@@ -4,13 +4,13 @@ ghost use Rattle.std.specs.Prelude.{◌≡◌, ◌++◌, IfOk, OnOk};
 ghost use Rattle.ipg_core.specs.Grammar.{holder_of, name_at, rule_at};
 ghost use Rattle.ipg_app_explain.specs.Named as named;
 ghost use Rattle.ipg_app_values.specs.Names as spec;
-ghost use Rattle.ipg_app_values.specs.Names.{alternative, field_of, known_name, label_in, owner, result_field, rule_in, turn_name, whole_name};
+ghost use Rattle.ipg_app_values.specs.Names.{alternative, field_of, quantity_name, label_in, owner, result_field, rule_in, turn_name, whole_name};
 ghost use Rattle.ipg_app_values.specs.Seen.{site_of};
 
 use ipg_app_explain::{TermAt, add_label, cut, loop_name, rule_name};
 use ipg_ast::Grammar;
 use ipg_core::accepted::Core;
-use ipg_facts::{Key, Known, Side};
+use ipg_facts_variables::{Quantity, Side, Variable};
 use ipg_graph::Edge;
 use ipg_num::item_at;
 use std::alloc::{AllocError, Global};
@@ -114,17 +114,17 @@ fn attribute_name(core: &Core, attr: u32) -> &[u8]
     }
 }
 
-fn known_name(alloc: Global, site: CallSite, side: Side, of: &Known) -> Result<Vec<u8>, AllocError>
-    ensures { IfOk result (λ name. name.items ≡ known_name (site_of site.entry) side of.now) }
+fn quantity_name(alloc: Global, site: CallSite, side: Side, of: &Quantity) -> Result<Vec<u8>, AllocError>
+    ensures { IfOk result (λ name. name.items ≡ quantity_name (site_of site.entry) side of.now) }
 {
     match of {
-        Known::Whole => Vec::from_slice(alloc, whole_name(side)),
-        Known::Attribute(attr) => Vec::from_slice(alloc, attribute_name(site.core, *attr)),
-        Known::Loop => Vec::from_slice(alloc, turn_name(site, side)),
-        Known::Start(term) => result_field(alloc, site, side, *term, b"start"),
-        Known::End(term) => result_field(alloc, site, side, *term, b"end"),
-        Known::Named(term, name) => result_field(alloc, site, side, *term, cut(name.as_slice())),
-        Known::Value(_) => Ok(Vec::new(alloc)),
+        Quantity::Whole => Vec::from_slice(alloc, whole_name(side)),
+        Quantity::Attribute(attr) => Vec::from_slice(alloc, attribute_name(site.core, *attr)),
+        Quantity::Loop => Vec::from_slice(alloc, turn_name(site, side)),
+        Quantity::Start(term) => result_field(alloc, site, side, *term, b"start"),
+        Quantity::End(term) => result_field(alloc, site, side, *term, b"end"),
+        Quantity::Named(term, name) => result_field(alloc, site, side, *term, cut(name.as_slice())),
+        Quantity::Value(_) => Ok(Vec::new(alloc)),
     }
 }
 
@@ -151,13 +151,13 @@ fn add_owner(out: &mut Vec<u8>, site: CallSite, side: Side) -> Result<(), AllocE
 }
 
 /// What the variable is called; nothing where it has no name in the text.
-pub fn name_of(alloc: Global, site: CallSite, key: &Key) -> Result<Vec<u8>, AllocError>
-    ensures { IfOk result (λ name. name.items ≡ spec.name_of (site_of site.entry) key.now) }
+pub fn name_of(alloc: Global, site: CallSite, variable: &Variable) -> Result<Vec<u8>, AllocError>
+    ensures { IfOk result (λ name. name.items ≡ spec.name_of (site_of site.entry) variable.now) }
 {
-    let mut name = known_name(alloc, site, key.side, &key.of)?;
+    let mut name = quantity_name(alloc, site, variable.side, &variable.of)?;
     if name.is_empty() {
         return Ok(name);
     }
-    add_owner(&mut name, site, key.side)?;
+    add_owner(&mut name, site, variable.side)?;
     Ok(name)
 }

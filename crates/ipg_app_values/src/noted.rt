@@ -17,7 +17,7 @@ use ipg_facts::variables;
 use ipg_facts_edges::edges;
 use ipg_graph::Edge;
 use ipg_num::item_at;
-use ipg_proof::Calls;
+use ipg_proof::CallGraph;
 use ipg_touch::laws::one_limit;
 use ipg_touch::must_touch;
 use itoa::Buffer;
@@ -27,7 +27,7 @@ use std::alloc::{AllocError, Global};
 #[derive(Clone, Copy)]
 struct Ground<'a> {
     written: &'a Grammar,
-    calls: Calls<'a>,
+    calls: CallGraph<'a>,
     eoi: i64,
 }
 
@@ -58,8 +58,8 @@ fn site_line(alloc: Global, ground: Ground, number: u32, edge: Edge) -> Result<V
         edge,
     };
     let conditions = conditions_of(alloc, ground.calls, number, ground.eoi)?;
-    let keys = variables(alloc, ground.calls.grammar, ground.calls.marks, edge)?;
-    let told = values(alloc, site, &conditions, keys.as_slice())?;
+    let all = variables(alloc, ground.calls.grammar, ground.calls.marks, edge)?;
+    let told = values(alloc, site, &conditions, all.as_slice())?;
     values_line(alloc, rule_name(ground.written, edge.caller), &told)
 }
 
@@ -111,7 +111,7 @@ pub fn notes<'a>(
     one_limit();
     let edges = edges(alloc, core)?;
     let marks = must_touch(alloc, core)?;
-    let calls = Calls {
+    let calls = CallGraph {
         grammar: core,
         marks: marks.as_slice(),
         edges: edges.as_slice(),

@@ -2,7 +2,7 @@
 
 ghost use Rattle.std.specs.Prelude.{◌≡◌, ◌<◌, ◌≤◌, length, IfOk, Some};
 ghost use Rattle.std.specs.List.{slice_get};
-ghost use Rattle.ipg_facts.specs.Numbers.{keep};
+ghost use Rattle.ipg_facts.specs.Keep.{keep};
 ghost use Rattle.ipg_graph.specs.declared.edge.Edge as graph;
 ghost use Rattle.ipg_lin.specs.Formula.{width};
 ghost use Rattle.ipg_solve_sure.specs.Sure.{Tells};
@@ -12,10 +12,10 @@ ghost use Rattle.ipg_app_values.specs.Seen.{AreOf, AreSound, IsFound, site_of};
 ghost use Rattle.ipg_app_values.specs.Turn.{InTurn};
 
 use crate::names::{CallSite, name_of};
-use ipg_facts::Key;
+use ipg_facts_variables::Variable;
 use ipg_lin::{Boxed, Formula};
 use ipg_num::List;
-use ipg_proof::{Calls, keep_of};
+use ipg_proof::{CallGraph, keep_of};
 use ipg_solve::{Decision, decide};
 use ipg_solve_sure::{narrowed, sure};
 use itoa::Buffer;
@@ -42,7 +42,7 @@ fn found(alloc: Global, f: &Formula, b: &Boxed) -> Result<Option<List<i64>>, All
 /// The conditions of the edge of a number, where the part has this length.
 pub fn conditions_of(
     alloc: Global,
-    calls: Calls,
+    calls: CallGraph,
     number: u32,
     eoi: i64,
 ) -> Result<Conditions, AllocError>
@@ -93,13 +93,13 @@ fn told(
     site: CallSite,
     c: &Conditions,
     x: usize,
-    key: &Key,
+    variable: &Variable,
 ) -> Result<Vec<u8>, AllocError>
     requires sound { AreSound c.now }
     requires there { x < length c.now.bounds.bounds }
-    ensures { IfOk result (λ text. IsValue (site_of site.entry) c.now.formula c.now.bounds x key.now text.items) }
+    ensures { IfOk result (λ text. IsValue (site_of site.entry) c.now.formula c.now.bounds x variable.now text.items) }
 {
-    let name = name_of(alloc, site, key)?;
+    let name = name_of(alloc, site, variable)?;
     if name.is_empty() {
         return Ok(name);
     }
@@ -112,15 +112,15 @@ pub fn values(
     alloc: Global,
     site: CallSite,
     c: &Conditions,
-    keys: &[Key],
+    variables: &[Variable],
 ) -> Result<Vec<u8>, AllocError>
     requires sound { AreSound c.now }
-    requires there { length keys.now ≡ length c.now.bounds.bounds }
-    ensures { IfOk result (λ text. InTurn (IsValue (site_of site.entry) c.now.formula c.now.bounds) 0 keys.now text.items) }
+    requires there { length variables.now ≡ length c.now.bounds.bounds }
+    ensures { IfOk result (λ text. InTurn (IsValue (site_of site.entry) c.now.formula c.now.bounds) 0 variables.now text.items) }
 {
     let mut text = Vec::new(alloc);
-    for (x, key) in keys.iter().enumerate() {
-        let own = told(alloc, site, c, x, key)?;
+    for (x, variable) in variables.iter().enumerate() {
+        let own = told(alloc, site, c, x, variable)?;
         text.extend_from_slice(&own)?;
     }
     Ok(text)

@@ -6,8 +6,8 @@ use Rattle.ipg_core.specs.declared.grammar.CoreSlot.{CoreSlot}
 use Rattle.ipg_core.specs.declared.grammar.CoreTerm.{CoreTerm}
 use Rattle.ipg_core.specs.declared.grammar.CoreTerm.TheVariants.{Slot, Set, Test, Repeat, Many, Pick}
 use Rattle.ipg_facts.specs.declared.aim.Aim.TheVariants.{Keep, Gap}
-use Rattle.ipg_facts.specs.declared.fact.Fact.{Fact}
-use Rattle.ipg_facts.specs.declared.fact.Fact.TheVariants.{All, Any}
+use Rattle.ipg_facts_forms.specs.declared.fact.Fact.{Fact}
+use Rattle.ipg_facts_forms.specs.declared.fact.Fact.TheVariants.{All, Any}
 use Rattle.ipg_facts.specs.Reading.{Scope, read}
 use Rattle.ipg_facts.specs.Members.{slot_members, branches, members, passed, terms_members}
 use Rattle.ipg_facts.specs.Gap.{slot_gap, gap_branches, gap_members, gap_terms}

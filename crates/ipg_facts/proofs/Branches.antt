@@ -4,8 +4,8 @@ use Rattle.std.proofs.lemmas.List.{drop_all}
 use Rattle.std.proofs.Math.Seq.{drop-cons}
 use Rattle.ipg_core.specs.declared.grammar.CoreExpr.{CoreExpr}
 use Rattle.ipg_core.specs.declared.grammar.CoreSlot.{CoreSlot}
-use Rattle.ipg_facts.specs.declared.fact.Fact.{Fact}
-use Rattle.ipg_facts.specs.declared.fact.Fact.TheVariants.{All}
+use Rattle.ipg_facts_forms.specs.declared.fact.Fact.{Fact}
+use Rattle.ipg_facts_forms.specs.declared.fact.Fact.TheVariants.{All}
 use Rattle.ipg_facts.specs.Reading.{Scope, read}
 use Rattle.std.specs.Prelude.{slice_get}
 use Rattle.ipg_facts.specs.Members.{takes, is_whole, terms_members, passed, passed_all}
@@ -15,11 +15,11 @@ use Rattle.std.proofs.Common.{Bool}
 use Rattle.ipg_core.specs.Grammar.{Grammar}
 use Rattle.ipg_core.specs.declared.grammar.CoreAlt.{CoreAlt}
 use Rattle.ipg_graph.specs.declared.edge.Edge.{Edge}
-use Rattle.ipg_facts.specs.Key.{caller_side}
+use Rattle.ipg_facts_variables.specs.Variable.{caller_side}
 use Rattle.ipg_facts.specs.Members.{own_at}
 use Rattle.ipg_facts.specs.declared.edition.Edition.{Edition}
 use Rattle.ipg_facts.specs.Keep.{opening, before, caller_facts}
-use Rattle.ipg_facts.proofs.Parts.{at_item}
+use Rattle.ipg_facts_forms.specs.Pieces.{at_item}
 
 module _ (aim : Aim) (scope : Scope) (term : ℕ) (other : CoreSlot) where
   pub branches_more : (cases : List (CoreExpr × CoreSlot)) (i : ℕ) (c : CoreExpr × CoreSlot) (made earlier all : List Fact) → i < length cases

@@ -6,8 +6,8 @@ use Rattle.ipg_core.specs.declared.grammar.CoreTerm.{CoreTerm}
 use Rattle.ipg_core.specs.declared.grammar.CoreTerm.TheVariants.{Slot, Pick}
 use Rattle.ipg_facts.specs.declared.aim.Aim.{Aim}
 use Rattle.ipg_facts.specs.declared.aim.Aim.TheVariants.{Keep, Gap}
-use Rattle.ipg_facts.specs.declared.fact.Fact.{Fact}
-use Rattle.ipg_facts.specs.declared.fact.Fact.TheVariants.{All, Any}
+use Rattle.ipg_facts_forms.specs.declared.fact.Fact.{Fact}
+use Rattle.ipg_facts_forms.specs.declared.fact.Fact.TheVariants.{All, Any}
 use Rattle.ipg_facts.specs.Reading.{Scope, read}
 use Rattle.ipg_facts.specs.Members.{slot_members, members, passed}
 use Rattle.ipg_facts.specs.Gap.{slot_gap}

@@ -15,26 +15,26 @@ use Rattle.ipg_core.specs.Grammar.{Grammar, rule_at}
 use Rattle.ipg_core.specs.Touch.{width}
 use Rattle.ipg_lin.specs.declared.formula.Formula.{Formula}
 use Rattle.ipg_lin.specs.declared.formula.Boxed.{Boxed}
-use Rattle.ipg_facts.specs.declared.fact.Form.{Form}
-use Rattle.ipg_facts.specs.declared.fact.Fact.{Fact}
-use Rattle.ipg_facts.specs.declared.fact.Fact.TheVariants.{All, Any}
+use Rattle.ipg_facts_forms.specs.declared.fact.Form.{Form}
+use Rattle.ipg_facts_forms.specs.declared.fact.Fact.{Fact}
+use Rattle.ipg_facts_forms.specs.declared.fact.Fact.TheVariants.{All, Any}
 use Rattle.ipg_facts.specs.declared.edition.Edition.TheVariants.{Later}
-use Rattle.ipg_facts.specs.declared.key.Side.{Side}
-use Rattle.ipg_facts.specs.declared.key.Side.TheVariants.{Point}
-use Rattle.ipg_facts.specs.Key.{caller_side, whole}
-use Rattle.ipg_facts.specs.Form.{variable, shifted, leq, less, choice}
+use Rattle.ipg_facts_variables.specs.declared.variable.Side.{Side}
+use Rattle.ipg_facts_variables.specs.declared.variable.Side.TheVariants.{Point}
+use Rattle.ipg_facts_variables.specs.Variable.{caller_side, whole}
+use Rattle.ipg_facts_forms.specs.Form.{mention, shifted, leq, less, choice}
 use Rattle.ipg_facts.specs.Reading.{Scope, length_of, nought, read, form}
 use Rattle.ipg_facts.specs.Members.{slot_members, members, passed}
 use Rattle.ipg_facts.specs.Keep.{opening, holder_facts, alt_at}
-use Rattle.ipg_facts.specs.Numbers.{all_of}
+use Rattle.ipg_facts_forms.specs.Numbers.{all_of}
 
--- a side of its own, so that no key of an alternative is the place's
+-- a side of its own, so that no variable of an alternative is the place's
 abbrev pub point_side : Side
 point_side = Point
 
 -- the place, a number of 64 bits
 abbrev pub point : Form
-point = variable (whole point_side) []
+point = mention (whole point_side) []
 
 -- the place isn't one of the first bytes from l
 unfoldable pub misses_first : Form → ℕ → List Fact

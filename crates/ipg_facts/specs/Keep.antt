@@ -1,17 +1,21 @@
--- The conditions under which the call of an edge keeps its caller's whole part: facts over keys, then a formula over numbers.
+-- The conditions under which the call of an edge keeps its caller's whole part: facts over variables, then a formula over numbers.
 use Rattle.std.specs.Prelude.{ℕ, List, [], ◌∷◌, ◌++◌, length, replicate, Option, Some, None, Bool, nat_eq, slice_get, if◌then◌else◌}
 use Rattle.std.specs.List.{list_any}
 use Rattle.ipg_core.specs.declared.grammar.CoreAlt.{CoreAlt}
 use Rattle.ipg_core.specs.declared.grammar.CoreRule.{CoreRule}
 use Rattle.ipg_core.specs.Grammar.{Grammar, rule_at}
 use Rattle.ipg_graph.specs.declared.edge.Edge.{Edge}
-use Rattle.ipg_facts.specs.declared.fact.Fact.{Fact}
+use Rattle.ipg_lin.specs.declared.formula.Formula.{Formula}
+use Rattle.ipg_lin.specs.declared.formula.Boxed.{Boxed}
+use Rattle.ipg_facts_forms.specs.declared.fact.Fact.{Fact}
 use Rattle.ipg_facts.specs.declared.edition.Edition.{Edition}
-use Rattle.ipg_facts.specs.declared.edition.Edition.TheVariants.{Later}
+use Rattle.ipg_facts.specs.declared.edition.Edition.TheVariants.{Earlier, Later}
 use Rattle.ipg_facts_holder.specs.declared.mention.Ask.TheVariants.{AnyOuter}
-use Rattle.ipg_facts.specs.declared.key.Side.{Side}
-use Rattle.ipg_facts.specs.Key.{caller_side, holder_side}
-use Rattle.ipg_facts.specs.Form.{leq}
+use Rattle.ipg_facts_variables.specs.declared.variable.Side.{Side}
+use Rattle.ipg_facts_variables.specs.declared.variable.Variable.{Variable}
+use Rattle.ipg_facts_variables.specs.Variable.{caller_side, holder_side}
+use Rattle.ipg_facts_forms.specs.Form.{leq}
+use Rattle.ipg_facts_forms.specs.Numbers.{variables_of, all_of}
 use Rattle.ipg_facts.specs.Reading.{Scope, length_of, if_later}
 use Rattle.ipg_facts.specs.Members.{terms_members, passed_all, own_at}
 use Rattle.ipg_facts_holder.specs.Holder.{mentions_some, kept}
@@ -73,3 +77,15 @@ rule_facts g marks edition e None alt = []
 -- the members of the edge's conditions, in order
 unfoldable pub edge_facts : Grammar → List Bool → Edition → Edge → List Fact
 edge_facts g marks edition e = rule_facts g marks edition e (rule_at g e.caller) (alt_at g (e.caller, e.alt))
+
+-- the conditions of an edge
+unfoldable pub keep : Grammar → List Bool → Edge → Formula × Boxed
+keep g marks e = all_of (edge_facts g marks Later e)
+
+-- the variables of an edge's conditions, by their numbers
+unfoldable pub variables : Grammar → List Bool → Edge → List Variable
+variables g marks e = variables_of (edge_facts g marks Later e)
+
+-- as they were when they knew less
+unfoldable pub keep_before : Grammar → List Bool → Edge → Formula × Boxed
+keep_before g marks e = all_of (edge_facts g marks Earlier e)

@@ -10,14 +10,14 @@ use Rattle.ipg_core.specs.declared.grammar.CoreTerm.{CoreTerm}
 use Rattle.ipg_core.specs.declared.grammar.CoreTerm.TheVariants.{Slot, Set, Test, Repeat, Many, Pick}
 use Rattle.ipg_core.specs.Touch.{width}
 use Rattle.ipg_core.specs.MustTouch.{is_marked}
-use Rattle.ipg_facts.specs.declared.fact.Form.{Form}
-use Rattle.ipg_facts.specs.declared.fact.Fact.{Fact}
-use Rattle.ipg_facts.specs.declared.fact.Fact.TheVariants.{All, Any}
-use Rattle.ipg_facts.specs.declared.fact.Bounds.{Bounds}
+use Rattle.ipg_facts_forms.specs.declared.fact.Form.{Form}
+use Rattle.ipg_facts_forms.specs.declared.fact.Fact.{Fact}
+use Rattle.ipg_facts_forms.specs.declared.fact.Fact.TheVariants.{All, Any}
+use Rattle.ipg_facts.specs.declared.bounds.Bounds.{Bounds}
 use Rattle.ipg_facts.specs.declared.edition.Edition.{Edition}
 use Rattle.ipg_facts.specs.declared.edition.Edition.TheVariants.{Earlier, Later}
-use Rattle.ipg_facts.specs.Key.{start, end, named, attribute, loop}
-use Rattle.ipg_facts.specs.Form.{variable, shifted, leq, less, equal, choice}
+use Rattle.ipg_facts_variables.specs.Variable.{start, end, named, attribute, loop}
+use Rattle.ipg_facts_forms.specs.Form.{mention, shifted, leq, less, equal, choice}
 use Rattle.ipg_facts.specs.Reading.{Scope, length_of, nought, ranges, greatest, read, form}
 
 -- the interval [l, r] is valid
@@ -25,10 +25,10 @@ unfoldable pub is_valid : Scope → Form → Form → List Fact
 is_valid scope l r = leq nought l ++ (leq l r ++ leq r (length_of scope))
 
 abbrev pub start_of : Scope → ℕ → Form
-start_of scope term = variable (start scope.side term) []
+start_of scope term = mention (start scope.side term) []
 
 abbrev pub end_of : Scope → ℕ → Form
-end_of scope term = variable (end scope.side term) []
+end_of scope term = mention (end scope.side term) []
 
 -- the result of a term on [l, r] touches nothing
 unfoldable pub touches_none : Scope → ℕ → Form → Form → List Fact
@@ -49,7 +49,7 @@ unfoldable pub touches_all : Scope → ℕ → Form → Form → List Fact
 touches_all scope term l r = equal (start_of scope term) l ++ equal (end_of scope term) r
 
 unfoldable pub attr_ranges : Scope → ℕ → Primitive → List ℕ → List Fact
-attr_ranges scope term prim name = ranges (variable (named scope.side term name) []) (greatest prim name)
+attr_ranges scope term prim name = ranges (mention (named scope.side term name) []) (greatest prim name)
 
 -- a number's attributes are from 0 to their greatest values
 unfoldable pub number_ranges : Scope → ℕ → Primitive → List Fact
@@ -94,7 +94,7 @@ branches scope term earlier (c ∷ cases) other =
 unfoldable pub members : Scope → ℕ → Option CoreTerm → List Fact
 members scope term None = []
 members scope term (Some (Slot slot)) = slot_members scope term slot
-members scope term (Some (Set attr e)) = equal (variable (attribute scope.side attr) []) (form scope e)
+members scope term (Some (Set attr e)) = equal (mention (attribute scope.side attr) []) (form scope e)
 members scope term (Some (Test e)) = (read scope e).holds
 members scope term (Some (Repeat first last item from to)) = []
 members scope term (Some (Many item from to)) = is_valid scope (form scope from) (form scope to)
@@ -135,7 +135,7 @@ takes scope (c ∷ cases) other (suc b) = (read scope c.0).fails ++ takes scope 
 -- the loop variable is within the bounds
 unfoldable pub runs : Scope → CoreExpr → CoreExpr → List Fact
 runs scope first last =
-    leq (form scope first) (variable (loop scope.side) []) ++ less (variable (loop scope.side) []) (form scope last)
+    leq (form scope first) (mention (loop scope.side) []) ++ less (mention (loop scope.side) []) (form scope last)
 
 -- the edge's own members: its call is made on the whole part; of a repetition that is the first item's
 unfoldable pub own_members : Scope → ℕ → Option CoreTerm → List Fact

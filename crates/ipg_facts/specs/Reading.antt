@@ -15,14 +15,14 @@ use Rattle.ipg_core.specs.declared.grammar.CoreTerm.TheVariants.{Slot, Set, Test
 use Rattle.ipg_core.specs.Grammar.{name_at}
 use Rattle.ipg_core.specs.Touch.{width}
 use Rattle.ipg_core.specs.MustTouch.{is_marked}
-use Rattle.ipg_facts.specs.declared.fact.Form.{Form}
-use Rattle.ipg_facts.specs.declared.fact.Fact.{Fact}
-use Rattle.ipg_facts.specs.declared.fact.Bounds.{Bounds}
+use Rattle.ipg_facts_forms.specs.declared.fact.Form.{Form}
+use Rattle.ipg_facts_forms.specs.declared.fact.Fact.{Fact}
+use Rattle.ipg_facts.specs.declared.bounds.Bounds.{Bounds}
 use Rattle.ipg_facts.specs.declared.edition.Edition.{Edition}
 use Rattle.ipg_facts.specs.declared.edition.Edition.TheVariants.{Earlier, Later}
-use Rattle.ipg_facts.specs.declared.key.Side.{Side}
-use Rattle.ipg_facts.specs.Key.{whole, attribute, loop, field, value, holder_side}
-use Rattle.ipg_facts.specs.Form.{variable, number, plus, minus, scaled, shifted, is_constant, in_limits, leq, less, equal, differ, choice}
+use Rattle.ipg_facts_variables.specs.declared.variable.Side.{Side}
+use Rattle.ipg_facts_variables.specs.Variable.{whole, attribute, loop, field, value, holder_side}
+use Rattle.ipg_facts_forms.specs.Form.{mention, number, plus, minus, scaled, shifted, is_constant, in_limits, leq, less, equal, differ, choice}
 
 -- an alternative whose expressions are read
 pub record Scope : Type 0 where
@@ -45,11 +45,11 @@ pub record Reading : Type 0 where
   pub fails : List Fact
 
 abbrev pub length_of : Scope → Form
-length_of scope = variable (whole scope.side) []
+length_of scope = mention (whole scope.side) []
 
 -- a variable without facts, known by the expression
 abbrev pub opaque : Scope → CoreExpr → Form
-opaque scope said = variable (value scope.side said) []
+opaque scope said = mention (value scope.side said) []
 
 abbrev pub nought : Form
 nought = number (pos 0)
@@ -189,17 +189,17 @@ denied _ a b e = equal e nought
 unfoldable pub reading : Scope → CoreExpr-F Reading → Reading
 reading scope (CoreExpr-F.Num z) = plain (roll-CoreExpr (CoreExpr-F.Num z)) (number z)
 reading scope CoreExpr-F.Eoi = plain (roll-CoreExpr CoreExpr-F.Eoi) (length_of scope)
-reading scope (CoreExpr-F.Own a) = plain (roll-CoreExpr (CoreExpr-F.Own a)) (variable (attribute scope.side a) [])
-reading scope (CoreExpr-F.Outer a) = plain (roll-CoreExpr (CoreExpr-F.Outer a)) (variable (attribute holder_side a) [])
-reading scope CoreExpr-F.Loop = plain (roll-CoreExpr CoreExpr-F.Loop) (variable (loop scope.side) [])
+reading scope (CoreExpr-F.Own a) = plain (roll-CoreExpr (CoreExpr-F.Own a)) (mention (attribute scope.side a) [])
+reading scope (CoreExpr-F.Outer a) = plain (roll-CoreExpr (CoreExpr-F.Outer a)) (mention (attribute holder_side a) [])
+reading scope CoreExpr-F.Loop = plain (roll-CoreExpr CoreExpr-F.Loop) (mention (loop scope.side) [])
 reading scope (CoreExpr-F.Seen term sym f) =
-    plain (roll-CoreExpr (CoreExpr-F.Seen term sym f)) (variable (field scope.names scope.side term f) [])
+    plain (roll-CoreExpr (CoreExpr-F.Seen term sym f)) (mention (field scope.names scope.side term f) [])
 reading scope (CoreExpr-F.Item term index f) =
     let said = roll-CoreExpr (CoreExpr-F.Item term index.said f) in
-    plain said (variable (value scope.side said) (if_later scope.edition (item_facts scope (item_at scope term) f (opaque scope said))))
+    plain said (mention (value scope.side said) (if_later scope.edition (item_facts scope (item_at scope term) f (opaque scope said))))
 reading scope (CoreExpr-F.After term left) =
     let said = roll-CoreExpr (CoreExpr-F.After term left.said) in
-    plain said (variable (value scope.side said) (after_facts scope (touching scope term) (opaque scope said) left.form))
+    plain said (mention (value scope.side said) (after_facts scope (touching scope term) (opaque scope said) left.form))
 reading scope (CoreExpr-F.Neg a) =
     let said = roll-CoreExpr (CoreExpr-F.Neg a.said) in
     plain said (limited scope said (Some (scaled (negsuc 0) a.form)))
@@ -221,7 +221,7 @@ reading scope (CoreExpr-F.Cond c a b) =
     let v = opaque scope said in
     record {
       said = said;
-      form = variable (value scope.side said) (choice (c.holds ++ equal v a.form) (c.fails ++ equal v b.form));
+      form = mention (value scope.side said) (choice (c.holds ++ equal v a.form) (c.fails ++ equal v b.form));
       holds = choice (c.holds ++ a.holds) (c.fails ++ b.holds);
       fails = choice (c.holds ++ a.fails) (c.fails ++ b.fails);
     }

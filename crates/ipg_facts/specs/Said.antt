@@ -3,7 +3,7 @@ use Rattle.std.proofs.Common.{◌≡◌, refl, ap, ◌∙◌}
 use Rattle.ipg_core.specs.declared.grammar.CoreExpr.{CoreExpr, map-CoreExpr, roll-CoreExpr, fold-roll-CoreExpr}
 use Rattle.ipg_core.specs.declared.grammar.CoreExpr.TheOpen.{CoreExpr-F}
 use Rattle.ipg_facts.specs.Reading.{Scope, Reading, plain, reading, read}
-use Rattle.ipg_facts.specs.Induct.{Sure, bare, induct}
+use Rattle.ipg_facts_variables.specs.Induct.{Sure, bare, induct}
 
 module _ (scope : Scope) where
   abbrev IsSaid : CoreExpr → Type 0

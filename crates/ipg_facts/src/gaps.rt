@@ -6,18 +6,18 @@ ghost use Rattle.ipg_facts.specs.Keep as keeping;
 ghost use Rattle.ipg_facts.specs.Gap as spec;
 
 use crate::edition::Edition;
-use crate::fact::Fact;
 use crate::keeping::{Ground, alt_of, numbered, opening, put_holder_facts};
-use crate::key::Side;
 use crate::members::put_gap_terms;
 use crate::missing::put_is_place;
 use ipg_core::accepted::Core;
 use ipg_core::grammar::{CoreAlt, CoreRule};
+use ipg_facts_forms::Fact;
+use ipg_facts_variables::Side;
 use ipg_lin::{Boxed, Formula};
 use ipg_num::item_at;
 use std::alloc::{AllocError, Global};
 
-#[tactic(auto, unfolding(crate::specs::Gap::gap_facts), using(crate::proofs::Puts::then, crate::proofs::Puts::then_last))]
+#[tactic(auto, unfolding(crate::specs::Gap::gap_facts), using(crate::proofs::Puts::in_turn))]
 fn put_gap_facts(
     alloc: Global,
     out: &mut Vec<Fact>,

@@ -3,19 +3,18 @@ ghost use Rattle.std.specs.Option.{option_copied};
 ghost use Rattle.ipg_core.specs.Grammar.{rule_at};
 ghost use Rattle.ipg_facts.specs.Reading as reading;
 ghost use Rattle.ipg_facts.specs.Keep as spec;
-ghost use Rattle.ipg_facts.specs.Numbers as numbers;
+ghost use Rattle.ipg_facts_forms.specs.Numbers as numbers;
 ghost use Rattle.ipg_facts.specs.View.{scope_of};
 
+use crate::bounds::Bounds;
 use crate::edition::Edition;
-use crate::fact::{Bounds, Fact};
-use crate::key::{Key, Side, whole};
 use crate::members::{put_own_members, put_terms_members};
-use crate::numbers::{box_of, copies, formulas_of, keys_of};
-use crate::put::put_leq;
 use crate::scope::{Scope, length_of};
 use ipg_core::accepted::Core;
 use ipg_core::grammar::{CoreAlt, CoreRule};
+use ipg_facts_forms::{Fact, box_of, copies, formulas_of, put_leq, variables_of};
 use ipg_facts_holder::{kept, mentions_holder};
+use ipg_facts_variables::{Side, Variable, whole};
 use ipg_graph::Edge;
 use ipg_lin::{Boxed, Formula};
 use ipg_num::item_at;
@@ -89,7 +88,7 @@ fn before(alloc: Global, term: u32, order: &[u32]) -> Result<Vec<u32>, AllocErro
 }
 
 /// The holder's part is at least as long, and these of its terms have run.
-#[tactic(auto, unfolding(crate::specs::Keep::held_facts), using(crate::proofs::Puts::then, crate::proofs::Puts::then_first))]
+#[tactic(auto, unfolding(crate::specs::Keep::held_facts), using(ipg_facts_forms::specs::Pieces::then, ipg_facts_forms::specs::Pieces::then_first))]
 fn put_held_facts(
     alloc: Global,
     out: &mut Vec<Fact>,
@@ -174,7 +173,7 @@ fn put_later_holder_facts(
 }
 
 /// The terms before the edge's term have run, and its call is made on the whole part.
-#[tactic(auto, unfolding(crate::specs::Keep::caller_facts), using(crate::proofs::Puts::then, crate::proofs::Puts::then_last))]
+#[tactic(auto, unfolding(crate::specs::Keep::caller_facts), using(crate::proofs::Puts::in_turn))]
 fn put_caller_facts(
     alloc: Global,
     out: &mut Vec<Fact>,
@@ -191,7 +190,7 @@ fn put_caller_facts(
     put_own_members(alloc, out, &scope, edge.term, edge.branch)
 }
 
-#[tactic(auto, unfolding(crate::specs::Keep::rule_facts), using(crate::proofs::Puts::then, crate::proofs::Puts::then_last))]
+#[tactic(auto, unfolding(crate::specs::Keep::rule_facts), using(crate::proofs::Puts::in_turn))]
 fn put_rule_facts(
     alloc: Global,
     out: &mut Vec<Fact>,
@@ -232,21 +231,43 @@ fn edge_facts(
 }
 
 /// Facts as a formula over numbered variables, and the variables' bounds.
-#[tactic(auto, unfolding(crate::specs::Numbers::keys_of))]
+#[tactic(auto, unfolding(ipg_facts_forms::specs::Numbers::variables_of))]
 pub fn numbered(alloc: Global, facts: &[Fact]) -> Result<(Formula, Boxed), AllocError>
     ensures { IfOk result (λ made. made ≡ numbers.all_of facts.now) }
 {
     let first = whole(Side::Caller);
-    let keys = keys_of(alloc, &first, facts)?;
-    let members = formulas_of(alloc, &keys, facts)?;
-    Ok((Formula::All(members), box_of(alloc, &keys)?))
+    let variables = variables_of(alloc, &first, facts)?;
+    let members = formulas_of(alloc, &variables, facts)?;
+    Ok((Formula::All(members), box_of(alloc, &variables)?))
+}
+
+/// The conditions of the edge `edges[e]`, as `edition` has them.
+fn conditions(
+    alloc: Global,
+    g: &Core,
+    touch: &[bool],
+    edition: Edition,
+    edges: &[Edge],
+    e: u32,
+) -> Result<(Formula, Boxed), AllocError>
+    requires { e < length edges.now }
+    ensures { IfOk result
+        (λ made. option_map (λ edge. numbers.all_of (spec.edge_facts g.now touch.now edition edge)) (slice_get edges.now e) ≡ Some made) }
+{
+    let edge = edges[e as usize];
+    let ground = Ground {
+        grammar: g,
+        marks: touch,
+    };
+    let facts = edge_facts(alloc, ground, edition, edge)?;
+    numbered(alloc, facts.as_slice())
 }
 
 /// The conditions under which the call of the edge `edges[e]` is made on its caller's whole part: a formula over
 /// whole numbers, and the bounds of its variables, of which the first is the length of the part. `touch` says
 /// which rules must touch a byte, `edges` are those of the grammar. It takes time in proportion to the formula and
 /// to the expressions that it copies from; a conditional's facts stand once for each mention of it.
-#[tactic(auto, unfolding(crate::specs::Numbers::keep))]
+#[tactic(auto, unfolding(crate::specs::Keep::keep))]
 pub fn keep(
     alloc: Global,
     g: &Core,
@@ -255,26 +276,20 @@ pub fn keep(
     e: u32,
 ) -> Result<(Formula, Boxed), AllocError>
     requires { e < length edges.now }
-    ensures { IfOk result (λ made. option_map (numbers.keep g.now touch.now) (slice_get edges.now e) ≡ Some made) }
+    ensures { IfOk result (λ made. option_map (spec.keep g.now touch.now) (slice_get edges.now e) ≡ Some made) }
 {
-    let edge = edges[e as usize];
-    let ground = Ground {
-        grammar: g,
-        marks: touch,
-    };
-    let facts = edge_facts(alloc, ground, Edition::Later, edge)?;
-    numbered(alloc, facts.as_slice())
+    conditions(alloc, g, touch, Edition::Later, edges, e)
 }
 
 /// The variables of the conditions by their numbers, with the same arguments as `keep`: the first is the length of the part.
-#[tactic(auto, unfolding(crate::specs::Numbers::variables, crate::specs::Numbers::keys_of))]
+#[tactic(auto, unfolding(crate::specs::Keep::variables, ipg_facts_forms::specs::Numbers::variables_of))]
 pub fn variables(
     alloc: Global,
     g: &Core,
     touch: &[bool],
     edge: Edge,
-) -> Result<Vec<Key>, AllocError>
-    ensures { IfOk result (λ made. made.items ≡ numbers.variables g.now touch.now edge) }
+) -> Result<Vec<Variable>, AllocError>
+    ensures { IfOk result (λ made. made.items ≡ spec.variables g.now touch.now edge) }
 {
     let ground = Ground {
         grammar: g,
@@ -282,12 +297,12 @@ pub fn variables(
     };
     let facts = edge_facts(alloc, ground, Edition::Later, edge)?;
     let first = whole(Side::Caller);
-    copies(alloc, &keys_of(alloc, &first, facts.as_slice())?)
+    copies(alloc, &variables_of(alloc, &first, facts.as_slice())?)
 }
 
 /// The conditions as they were when they knew less (`Edition::Earlier`), with the same arguments as `keep`. Whatever
 /// solves `keep` gives a solution of these with the same length of the part.
-#[tactic(auto, unfolding(crate::specs::Numbers::keep_before))]
+#[tactic(auto, unfolding(crate::specs::Keep::keep_before))]
 pub fn keep_before(
     alloc: Global,
     g: &Core,
@@ -296,13 +311,7 @@ pub fn keep_before(
     e: u32,
 ) -> Result<(Formula, Boxed), AllocError>
     requires { e < length edges.now }
-    ensures { IfOk result (λ made. option_map (numbers.keep_before g.now touch.now) (slice_get edges.now e) ≡ Some made) }
+    ensures { IfOk result (λ made. option_map (spec.keep_before g.now touch.now) (slice_get edges.now e) ≡ Some made) }
 {
-    let edge = edges[e as usize];
-    let ground = Ground {
-        grammar: g,
-        marks: touch,
-    };
-    let facts = edge_facts(alloc, ground, Edition::Earlier, edge)?;
-    numbered(alloc, facts.as_slice())
+    conditions(alloc, g, touch, Edition::Earlier, edges, e)
 }

@@ -2,8 +2,8 @@
 
 ghost use Rattle.std.specs.Prelude.{◌≡◌, IfOk, OnOk, ◌++◌, ◌∷◌, slice_get, slice_set, [], length, ◌<◌};
 ghost use Rattle.std.specs.Option.{option_copied};
-ghost use Rattle.ipg_facts.specs.Form as forms;
-ghost use Rattle.ipg_facts.specs.Key as keys;
+ghost use Rattle.ipg_facts_forms.specs.Form as forms;
+ghost use Rattle.ipg_facts_variables.specs.Variable as variables;
 ghost use Rattle.ipg_facts.specs.Reading as reading;
 ghost use Rattle.ipg_facts.specs.Members as spec;
 ghost use Rattle.ipg_facts.specs.Gap as gaps;
@@ -11,52 +11,17 @@ ghost use Rattle.ipg_facts.specs.Aim as aims;
 ghost use Rattle.ipg_facts.specs.View.{scope_of};
 
 use crate::aim::Aim;
-use crate::copying::copy_members;
+use crate::bounds::Bounds;
 use crate::edition::Edition;
-use crate::fact::{Bounds, Fact, Form};
-use crate::form::variable;
-use crate::key::{attribute, loop_variable};
 use crate::missing::put_misses;
-use crate::put::{put_equal, put_leq, put_less};
 use crate::reading::{form_of, put_fails, put_holds};
 use crate::scope::{Scope, length_of, nought};
 use crate::touching::{Taken, put_is_valid, put_on_interval};
 use ipg_core::grammar::{CoreExpr, CoreSlot, CoreTerm};
+use ipg_facts_forms::{Fact, Form, copy_members, mention, put_equal, put_leq, put_less};
+use ipg_facts_variables::{attribute, loop_variable};
 use ipg_num::{List, item_at};
 use std::alloc::{AllocError, Global};
-
-fn put_slot_members(
-    alloc: Global,
-    out: &mut Vec<Fact>,
-    scope: &Scope,
-    term: u32,
-    slot: &CoreSlot,
-) -> Result<(), AllocError>
-    ensures { OnOk result (out.new.items ≡ out.old.items ++ spec.slot_members (scope_of scope.now) term slot.now) }
-{
-    let l = form_of(alloc, scope, &slot.from)?;
-    let r = form_of(alloc, scope, &slot.to)?;
-    let taken = Taken { term, l: &l, r: &r };
-    put_on_interval(alloc, out, scope, &taken, &slot.sym)
-}
-
-/// What a slot puts, and that it misses the place.
-#[tactic(auto, using(crate::proofs::Puts::then, crate::proofs::Puts::then_last))]
-fn put_slot_gap(
-    alloc: Global,
-    out: &mut Vec<Fact>,
-    scope: &Scope,
-    term: u32,
-    slot: &CoreSlot,
-) -> Result<(), AllocError>
-    ensures { OnOk result (out.new.items ≡ out.old.items ++ gaps.slot_gap (scope_of scope.now) term slot.now) }
-{
-    let l = form_of(alloc, scope, &slot.from)?;
-    let r = form_of(alloc, scope, &slot.to)?;
-    let taken = Taken { term, l: &l, r: &r };
-    put_on_interval(alloc, out, scope, &taken, &slot.sym)?;
-    put_misses(alloc, out, &taken, &slot.sym)
-}
 
 /// A term that has run, and what its members are put for.
 #[derive(Clone, Copy)]
@@ -65,7 +30,8 @@ struct Ran {
     aim: Aim,
 }
 
-#[tactic(auto, unfolding(crate::specs::Aim::slot_for))]
+/// What a slot puts, and for a gap also that it misses the place.
+#[tactic(auto, unfolding(crate::specs::Aim::slot_for), using(crate::proofs::Puts::in_turn))]
 fn put_slot(
     alloc: Global,
     out: &mut Vec<Fact>,
@@ -75,14 +41,22 @@ fn put_slot(
 ) -> Result<(), AllocError>
     ensures { OnOk result (out.new.items ≡ out.old.items ++ aims.slot_for ran.aim (scope_of scope.now) ran.term slot.now) }
 {
+    let l = form_of(alloc, scope, &slot.from)?;
+    let r = form_of(alloc, scope, &slot.to)?;
+    let taken = Taken {
+        term: ran.term,
+        l: &l,
+        r: &r,
+    };
+    put_on_interval(alloc, out, scope, &taken, &slot.sym)?;
     match ran.aim {
-        Aim::Keep => put_slot_members(alloc, out, scope, ran.term, slot),
-        Aim::Gap => put_slot_gap(alloc, out, scope, ran.term, slot),
+        Aim::Keep => Ok(()),
+        Aim::Gap => put_misses(alloc, out, &taken, &slot.sym),
     }
 }
 
 /// The member of a branch: the conditions before it false, its own true, and what it puts as a slot.
-#[tactic(auto, using(crate::proofs::Puts::then, crate::proofs::Puts::then_last))]
+#[tactic(auto, using(crate::proofs::Puts::in_turn))]
 fn put_case(
     alloc: Global,
     out: &mut Vec<Fact>,
@@ -103,7 +77,7 @@ fn put_case(
     Ok(())
 }
 
-#[tactic(auto, using(crate::proofs::Puts::then, crate::proofs::Puts::then_last))]
+#[tactic(auto, using(crate::proofs::Puts::in_turn))]
 fn put_else(
     alloc: Global,
     out: &mut Vec<Fact>,
@@ -165,9 +139,10 @@ fn put_set(
     value: &CoreExpr,
 ) -> Result<(), AllocError>
     ensures { OnOk result
-        (out.new.items ≡ out.old.items ++ forms.equal (forms.variable (keys.attribute scope.now.side attr) []) (reading.form (scope_of scope.now) value.now)) }
+        (out.new.items ≡ out.old.items
+        ++ forms.equal (forms.mention (variables.attribute scope.now.side attr) []) (reading.form (scope_of scope.now) value.now)) }
 {
-    let set = variable(alloc, attribute(scope.side, attr), Vec::new(alloc))?;
+    let set = mention(alloc, attribute(scope.side, attr), Vec::new(alloc))?;
     put_equal(alloc, out, &set, &form_of(alloc, scope, value)?)
 }
 
@@ -341,7 +316,7 @@ pub fn put_gap_terms(
 }
 
 /// The call is made on the whole part.
-#[tactic(auto, unfolding(crate::specs::Members::is_whole), using(crate::proofs::Puts::then, crate::proofs::Puts::then_last))]
+#[tactic(auto, unfolding(crate::specs::Members::is_whole), using(crate::proofs::Puts::in_turn))]
 fn put_is_whole(
     alloc: Global,
     out: &mut Vec<Fact>,
@@ -361,7 +336,7 @@ fn put_is_whole(
 }
 
 /// The loop variable is within the bounds.
-#[tactic(auto, unfolding(crate::specs::Members::runs), using(crate::proofs::Puts::then, crate::proofs::Puts::then_last))]
+#[tactic(auto, unfolding(crate::specs::Members::runs), using(crate::proofs::Puts::in_turn))]
 fn put_runs(
     alloc: Global,
     out: &mut Vec<Fact>,
@@ -371,12 +346,12 @@ fn put_runs(
 ) -> Result<(), AllocError>
     ensures { OnOk result (out.new.items ≡ out.old.items ++ spec.runs (scope_of scope.now) first.now last.now) }
 {
-    let turn = variable(alloc, loop_variable(scope.side), Vec::new(alloc))?;
+    let turn = mention(alloc, loop_variable(scope.side), Vec::new(alloc))?;
     put_leq(alloc, out, &form_of(alloc, scope, first)?, &turn)?;
     put_less(alloc, out, &turn, &form_of(alloc, scope, last)?)
 }
 
-#[tactic(auto, using(crate::proofs::Puts::then, crate::proofs::Puts::then_last))]
+#[tactic(auto, using(crate::proofs::Puts::in_turn))]
 fn put_taken_case(
     alloc: Global,
     out: &mut Vec<Fact>,
@@ -411,7 +386,7 @@ fn put_takes(
     put_is_whole(alloc, out, scope, &other.from, &other.to)
 }
 
-#[tactic(auto, unfolding(crate::specs::Members::own_members), using(crate::proofs::Puts::then, crate::proofs::Puts::then_last))]
+#[tactic(auto, unfolding(crate::specs::Members::own_members), using(crate::proofs::Puts::in_turn))]
 fn put_own_term(
     alloc: Global,
     out: &mut Vec<Fact>,

@@ -4,24 +4,22 @@ ghost use Rattle.std.specs.Prelude.{◌≡◌, IfOk, OnOk, ◌++◌};
 ghost use Rattle.ipg_facts.specs.Gap as spec;
 ghost use Rattle.ipg_facts.specs.View.{scope_of};
 
-use crate::fact::{Fact, Form};
-use crate::form::{shifted, variable};
-use crate::key::{Side, whole};
-use crate::put::{put_choice, put_leq, put_less};
 use crate::scope::{Scope, length_of, nought, width};
 use crate::touching::Taken;
 use ipg_core::grammar::{Primitive, Sym};
+use ipg_facts_forms::{Fact, Form, mention, put_choice, put_leq, put_less, shifted};
+use ipg_facts_variables::{Side, whole};
 use std::alloc::{AllocError, Global};
 
 /// The place.
 fn point(alloc: Global) -> Result<Form, AllocError>
     ensures { IfOk result (λ form. form ≡ spec.point) }
 {
-    variable(alloc, whole(Side::Point), Vec::new(alloc))
+    mention(alloc, whole(Side::Point), Vec::new(alloc))
 }
 
 /// The place is one of the part.
-#[tactic(auto, unfolding(crate::specs::Gap::is_place), using(crate::proofs::Puts::then, crate::proofs::Puts::then_last))]
+#[tactic(auto, unfolding(crate::specs::Gap::is_place), using(crate::proofs::Puts::in_turn))]
 pub fn put_is_place(alloc: Global, out: &mut Vec<Fact>, scope: &Scope) -> Result<(), AllocError>
     ensures { OnOk result (out.new.items ≡ out.old.items ++ spec.is_place (scope_of scope.now)) }
 {

@@ -2,31 +2,33 @@
 
 ghost use Rattle.std.specs.Prelude.{◌≡◌, IfOk, OnOk, ◌++◌, [], pos, negsuc, Option, slice_get, option_map, Result, Ok, Err, true, false};
 ghost use Rattle.std.specs.Option.{option_copied};
-ghost use Rattle.ipg_facts.specs.Form as forms;
-ghost use Rattle.ipg_facts.specs.Key as keys;
+ghost use Rattle.ipg_facts_forms.specs.Form as forms;
+ghost use Rattle.ipg_facts_variables.specs.Variable as variables;
 ghost use Rattle.ipg_facts.specs.Reading as spec;
 ghost use Rattle.ipg_facts.specs.View.{scope_of};
 
+use crate::bounds::Bounds;
 use crate::edition::Edition;
-use crate::fact::{Bounds, Fact, Form};
-use crate::form::{in_limits, is_constant, minus, number, plus, scaled, shifted, variable};
-use crate::key::{Key, Side, attribute, field, loop_variable, value};
-use crate::put::{put_choice, put_differ, put_equal, put_leq, put_less};
-use crate::scope::{Scope, greatest_of, item_sym, least_width, length_of, name_of, nought};
+use crate::scope::{Scope, greatest_of, item_sym, least_width, length_of, nought};
 use ipg_core::grammar::{CoreExpr, CoreField, Sym};
+use ipg_facts_forms::{
+    Fact, Form, in_limits, is_constant, mention, minus, number, plus, put_choice, put_differ,
+    put_equal, put_leq, put_less, scaled, shifted,
+};
+use ipg_facts_variables::{Side, Variable, attribute, field, loop_variable, name_of, value};
 use ipg_num::{Op2, item_at};
 use std::alloc::{AllocError, Global};
 
-fn bare_variable(alloc: Global, key: Key) -> Result<Form, AllocError>
-    ensures { IfOk result (λ form. form ≡ forms.variable key []) }
+fn bare_variable(alloc: Global, variable: Variable) -> Result<Form, AllocError>
+    ensures { IfOk result (λ form. form ≡ forms.mention variable []) }
 {
-    variable(alloc, key, Vec::new(alloc))
+    mention(alloc, variable, Vec::new(alloc))
 }
 
-/// The key of an expression's value.
+/// The variable of an expression's value.
 #[tactic(auto, using(crate::specs::Said::said_is))]
-fn value_key(alloc: Global, scope: &Scope, e: &CoreExpr) -> Result<Key, AllocError>
-    ensures { IfOk result (λ key. key ≡ keys.value scope.now.side (spec.read (scope_of scope.now) e.now).said) }
+fn value_variable(alloc: Global, scope: &Scope, e: &CoreExpr) -> Result<Variable, AllocError>
+    ensures { IfOk result (λ variable. variable ≡ variables.value scope.now.side (spec.read (scope_of scope.now) e.now).said) }
 {
     value(alloc, scope.side, e)
 }
@@ -35,10 +37,10 @@ fn value_key(alloc: Global, scope: &Scope, e: &CoreExpr) -> Result<Key, AllocErr
 fn opaque(alloc: Global, scope: &Scope, e: &CoreExpr) -> Result<Form, AllocError>
     ensures { IfOk result (λ form. form ≡ spec.opaque (scope_of scope.now) (spec.read (scope_of scope.now) e.now).said) }
 {
-    bare_variable(alloc, value_key(alloc, scope, e)?)
+    bare_variable(alloc, value_variable(alloc, scope, e)?)
 }
 
-#[tactic(auto, unfolding(crate::specs::Reading::ranges), using(crate::proofs::Puts::then, crate::proofs::Puts::then_last))]
+#[tactic(auto, unfolding(crate::specs::Reading::ranges), using(crate::proofs::Puts::in_turn))]
 pub fn put_ranges(
     alloc: Global,
     out: &mut Vec<Fact>,
@@ -57,7 +59,7 @@ pub fn put_ranges(
 }
 
 /// What is known of a field of an item.
-#[tactic(auto, unfolding(crate::specs::Reading::item_facts), using(crate::proofs::Puts::then, crate::proofs::Puts::then_last))]
+#[tactic(auto, unfolding(crate::specs::Reading::item_facts), using(crate::proofs::Puts::in_turn))]
 fn put_item_facts(
     alloc: Global,
     out: &mut Vec<Fact>,
@@ -114,7 +116,7 @@ fn put_later_facts(
     }
 }
 
-#[tactic(auto, unfolding(crate::specs::Reading::inside), using(crate::proofs::Puts::then, crate::proofs::Puts::then_last))]
+#[tactic(auto, unfolding(crate::specs::Reading::inside), using(crate::proofs::Puts::in_turn))]
 fn put_inside(
     alloc: Global,
     out: &mut Vec<Fact>,
@@ -149,7 +151,7 @@ fn touching<'a>(scope: &'a Scope, term: u32) -> Option<&'a Bounds>
 }
 
 /// What is known of the place behind the items of an array or a repetition.
-#[tactic(auto, unfolding(crate::specs::Reading::after_facts), using(crate::proofs::Puts::then, crate::proofs::Puts::then_last))]
+#[tactic(auto, unfolding(crate::specs::Reading::after_facts), using(crate::proofs::Puts::in_turn))]
 fn put_after_facts(
     alloc: Global,
     out: &mut Vec<Fact>,
@@ -257,13 +259,13 @@ fn item_form(
     field: CoreField,
 ) -> Result<Form, AllocError>
     ensures { IfOk result
-        (λ form. form ≡ forms.variable (keys.value scope.now.side (spec.read (scope_of scope.now) e.now).said)
+        (λ form. form ≡ forms.mention (variables.value scope.now.side (spec.read (scope_of scope.now) e.now).said)
         (spec.if_later scope.now.edition (spec.item_facts (scope_of scope.now) (spec.item_at (scope_of scope.now) term) field
         (spec.opaque (scope_of scope.now) (spec.read (scope_of scope.now) e.now).said)))) }
 {
     let mut facts = Vec::new(alloc);
-    let key = value_key(alloc, scope, e)?;
-    let known = bare_variable(alloc, key.copy()?)?;
+    let variable = value_variable(alloc, scope, e)?;
+    let known = bare_variable(alloc, variable.copy()?)?;
     put_later_facts(
         alloc,
         &mut facts,
@@ -272,7 +274,7 @@ fn item_form(
         field,
         &known,
     )?;
-    variable(alloc, key, facts)
+    mention(alloc, variable, facts)
 }
 
 fn after_form(
@@ -283,13 +285,13 @@ fn after_form(
     left: &Form,
 ) -> Result<Form, AllocError>
     ensures { IfOk result
-        (λ form. form ≡ forms.variable (keys.value scope.now.side (spec.read (scope_of scope.now) e.now).said)
+        (λ form. form ≡ forms.mention (variables.value scope.now.side (spec.read (scope_of scope.now) e.now).said)
         (spec.after_facts (scope_of scope.now) (spec.touching (scope_of scope.now) term)
         (spec.opaque (scope_of scope.now) (spec.read (scope_of scope.now) e.now).said) left.now)) }
 {
     let mut facts = Vec::new(alloc);
-    let key = value_key(alloc, scope, e)?;
-    let known = bare_variable(alloc, key.copy()?)?;
+    let variable = value_variable(alloc, scope, e)?;
+    let known = bare_variable(alloc, variable.copy()?)?;
     put_after_facts(
         alloc,
         &mut facts,
@@ -298,7 +300,7 @@ fn after_form(
         &known,
         left,
     )?;
-    variable(alloc, key, facts)
+    mention(alloc, variable, facts)
 }
 
 #[tactic(auto, unfolding(crate::specs::Reading::asserted))]
@@ -345,42 +347,38 @@ fn put_denied(
     }
 }
 
-/// What is known of a condition, and the form of the value that is then taken.
+/// The facts that an expression is true, and those that it is false.
 #[derive(Drop)]
-struct Case {
-    facts: Vec<Fact>,
-    form: Form,
+struct Truth {
+    holds: Vec<Fact>,
+    fails: Vec<Fact>,
 }
 
-/// The facts of a case, and that a variable has its value.
-fn case_facts(alloc: Global, known: &Form, case: Case) -> Result<Vec<Fact>, AllocError>
-    ensures { IfOk result (λ facts. facts.items ≡ case.facts.items ++ forms.equal known.now case.form) }
-{
-    let mut facts = case.facts;
-    put_equal(alloc, &mut facts, known, &case.form)?;
-    Ok(facts)
-}
-
-/// A variable that has one value or the other.
+/// A variable that has one value where the condition is true, and the other where it is false.
 fn cond_form(
     alloc: Global,
     scope: &Scope,
     e: &CoreExpr,
-    taken: Case,
-    other: Case,
+    condition: Truth,
+    a: &Form,
+    b: &Form,
 ) -> Result<Form, AllocError>
     ensures { IfOk result
-        (λ form. form ≡ forms.variable (keys.value scope.now.side (spec.read (scope_of scope.now) e.now).said)
-        (forms.choice (taken.facts.items ++ forms.equal (spec.opaque (scope_of scope.now) (spec.read (scope_of scope.now) e.now).said) taken.form)
-        (other.facts.items ++ forms.equal (spec.opaque (scope_of scope.now) (spec.read (scope_of scope.now) e.now).said) other.form))) }
+        (λ form. form ≡ forms.mention (variables.value scope.now.side (spec.read (scope_of scope.now) e.now).said)
+        (forms.choice (condition.holds.items ++ forms.equal (spec.opaque (scope_of scope.now) (spec.read (scope_of scope.now) e.now).said) a.now)
+        (condition.fails.items ++ forms.equal (spec.opaque (scope_of scope.now) (spec.read (scope_of scope.now) e.now).said) b.now))) }
 {
-    let key = value_key(alloc, scope, e)?;
-    let known = bare_variable(alloc, key.copy()?)?;
-    let one = case_facts(alloc, &known, taken)?;
-    let two = case_facts(alloc, &known, other)?;
+    let variable = value_variable(alloc, scope, e)?;
+    let known = bare_variable(alloc, variable.copy()?)?;
+    let Truth {
+        mut holds,
+        mut fails,
+    } = condition;
+    put_equal(alloc, &mut holds, &known, a)?;
+    put_equal(alloc, &mut fails, &known, b)?;
     let mut facts = Vec::new(alloc);
-    put_choice(alloc, &mut facts, one, two)?;
-    variable(alloc, key, facts)
+    put_choice(alloc, &mut facts, holds, fails)?;
+    mention(alloc, variable, facts)
 }
 
 /// The linear form of an expression.
@@ -422,26 +420,17 @@ pub fn form_of(alloc: Global, scope: &Scope, e: &CoreExpr) -> Result<Form, Alloc
         CoreExpr::Both(_, _) => opaque(alloc, scope, e),
         CoreExpr::Either(_, _) => opaque(alloc, scope, e),
         CoreExpr::Cond(c, a, b) => {
-            let mut holds = Vec::new(alloc);
-            put_holds(alloc, &mut holds, scope, c.get())?;
-            let mut fails = Vec::new(alloc);
-            put_fails(alloc, &mut fails, scope, c.get())?;
-            let taken = Case {
-                facts: holds,
-                form: form_of(alloc, scope, a.get())?,
-            };
-            let other = Case {
-                facts: fails,
-                form: form_of(alloc, scope, b.get())?,
-            };
-            cond_form(alloc, scope, e, taken, other)
+            let condition = truth_of(alloc, scope, c.get())?;
+            let a = form_of(alloc, scope, a.get())?;
+            let b = form_of(alloc, scope, b.get())?;
+            cond_form(alloc, scope, e, condition, &a, &b)
         }
     }
 }
 
 /// Puts the facts that the expression isn't 0.
 #[cycle(reading)]
-#[tactic(auto, using(crate::proofs::Puts::then, crate::proofs::Puts::then_last), unfolding(crate::specs::Reading::read, crate::specs::Reading::reading, crate::specs::Reading::plain))]
+#[tactic(auto, using(crate::proofs::Puts::in_turn), unfolding(crate::specs::Reading::read, crate::specs::Reading::reading, crate::specs::Reading::plain))]
 pub fn put_holds(
     alloc: Global,
     out: &mut Vec<Fact>,
@@ -463,21 +452,18 @@ pub fn put_holds(
             put_holds(alloc, out, scope, b.get())
         }
         CoreExpr::Either(a, b) => {
-            let mut one = Vec::new(alloc);
-            put_holds(alloc, &mut one, scope, a.get())?;
-            let mut other = Vec::new(alloc);
-            put_fails(alloc, &mut other, scope, a.get())?;
-            put_holds(alloc, &mut other, scope, b.get())?;
-            put_choice(alloc, out, one, other)
+            let Truth { holds, mut fails } = truth_of(alloc, scope, a.get())?;
+            put_holds(alloc, &mut fails, scope, b.get())?;
+            put_choice(alloc, out, holds, fails)
         }
         CoreExpr::Cond(c, a, b) => {
-            let mut taken = Vec::new(alloc);
-            put_holds(alloc, &mut taken, scope, c.get())?;
-            put_holds(alloc, &mut taken, scope, a.get())?;
-            let mut other = Vec::new(alloc);
-            put_fails(alloc, &mut other, scope, c.get())?;
-            put_holds(alloc, &mut other, scope, b.get())?;
-            put_choice(alloc, out, taken, other)
+            let Truth {
+                mut holds,
+                mut fails,
+            } = truth_of(alloc, scope, c.get())?;
+            put_holds(alloc, &mut holds, scope, a.get())?;
+            put_holds(alloc, &mut fails, scope, b.get())?;
+            put_choice(alloc, out, holds, fails)
         }
         _ => put_differ(alloc, out, &form_of(alloc, scope, e)?, &nought(alloc)),
     }
@@ -485,7 +471,7 @@ pub fn put_holds(
 
 /// Puts the facts that the expression is 0.
 #[cycle(reading)]
-#[tactic(auto, using(crate::proofs::Puts::then, crate::proofs::Puts::then_last), unfolding(crate::specs::Reading::read, crate::specs::Reading::reading, crate::specs::Reading::plain))]
+#[tactic(auto, using(crate::proofs::Puts::in_turn), unfolding(crate::specs::Reading::read, crate::specs::Reading::reading, crate::specs::Reading::plain))]
 pub fn put_fails(
     alloc: Global,
     out: &mut Vec<Fact>,
@@ -503,26 +489,36 @@ pub fn put_fails(
             put_denied(alloc, out, *op, &a, &b, &form)
         }
         CoreExpr::Both(a, b) => {
-            let mut one = Vec::new(alloc);
-            put_fails(alloc, &mut one, scope, a.get())?;
-            let mut other = Vec::new(alloc);
-            put_holds(alloc, &mut other, scope, a.get())?;
-            put_fails(alloc, &mut other, scope, b.get())?;
-            put_choice(alloc, out, one, other)
+            let Truth { mut holds, fails } = truth_of(alloc, scope, a.get())?;
+            put_fails(alloc, &mut holds, scope, b.get())?;
+            put_choice(alloc, out, fails, holds)
         }
         CoreExpr::Either(a, b) => {
             put_fails(alloc, out, scope, a.get())?;
             put_fails(alloc, out, scope, b.get())
         }
         CoreExpr::Cond(c, a, b) => {
-            let mut taken = Vec::new(alloc);
-            put_holds(alloc, &mut taken, scope, c.get())?;
-            put_fails(alloc, &mut taken, scope, a.get())?;
-            let mut other = Vec::new(alloc);
-            put_fails(alloc, &mut other, scope, c.get())?;
-            put_fails(alloc, &mut other, scope, b.get())?;
-            put_choice(alloc, out, taken, other)
+            let Truth {
+                mut holds,
+                mut fails,
+            } = truth_of(alloc, scope, c.get())?;
+            put_fails(alloc, &mut holds, scope, a.get())?;
+            put_fails(alloc, &mut fails, scope, b.get())?;
+            put_choice(alloc, out, holds, fails)
         }
         _ => put_equal(alloc, out, &form_of(alloc, scope, e)?, &nought(alloc)),
     }
+}
+
+/// Both: the facts that the expression isn't 0, and those that it is.
+#[cycle(reading)]
+fn truth_of(alloc: Global, scope: &Scope, e: &CoreExpr) -> Result<Truth, AllocError>
+    ensures { IfOk result (λ truth. (truth.holds.items ≡ (spec.read (scope_of scope.now) e.now).holds)
+        × (truth.fails.items ≡ (spec.read (scope_of scope.now) e.now).fails)) }
+{
+    let mut holds = Vec::new(alloc);
+    put_holds(alloc, &mut holds, scope, e)?;
+    let mut fails = Vec::new(alloc);
+    put_fails(alloc, &mut fails, scope, e)?;
+    Ok(Truth { holds, fails })
 }

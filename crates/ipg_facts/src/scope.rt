@@ -2,18 +2,16 @@
 
 ghost use Rattle.std.specs.Prelude.{◌≡◌, IfOk, slice_get};
 ghost use Rattle.std.specs.Option.{option_copied};
-ghost use Rattle.ipg_core.specs.Grammar.{name_at};
 ghost use Rattle.ipg_core.specs.Touch.{width};
-ghost use Rattle.ipg_facts.specs.Key as key;
 ghost use Rattle.ipg_facts.specs.Reading as spec;
 ghost use Rattle.ipg_facts.specs.View.{scope_of};
 
+use crate::bounds::Bounds;
 use crate::edition::Edition;
-use crate::fact::{Bounds, Form};
-use crate::form::{number, variable};
-use crate::key::{Side, whole};
 use ipg_core::grammar::{CoreTerm, Name, Primitive, Sym};
+use ipg_facts_forms::{Form, mention, number};
 use ipg_facts_holder::is_marked;
+use ipg_facts_variables::{Side, whole};
 use ipg_num::item_at;
 use std::alloc::{AllocError, Global};
 
@@ -34,7 +32,7 @@ pub struct Scope<'a> {
 pub fn length_of(alloc: Global, scope: &Scope) -> Result<Form, AllocError>
     ensures { IfOk result (λ form. form ≡ spec.length_of (scope_of scope.now)) }
 {
-    variable(alloc, whole(scope.side), Vec::new(alloc))
+    mention(alloc, whole(scope.side), Vec::new(alloc))
 }
 
 pub fn nought(alloc: Global) -> Form
@@ -158,15 +156,5 @@ pub fn greatest_of(item: Option<&Sym>, name: &[u8]) -> Option<u64>
         Some(Sym::Text(_)) => None,
         Some(Sym::Rule(_)) => None,
         None => None,
-    }
-}
-
-/// The name of an attribute, which is empty where there is none.
-pub fn name_of<'a>(names: &'a [Name], attr: u32) -> &'a [u8]
-    ensures { result.now ≡ name_at names.now attr }
-{
-    match item_at(names, attr as usize) {
-        Some(name) => name.as_slice(),
-        None => b"".as_slice(),
     }
 }

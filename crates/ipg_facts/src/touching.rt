@@ -1,23 +1,21 @@
 //! What a result touches of its interval.
 
 ghost use Rattle.std.specs.Prelude.{◌≡◌, IfOk, OnOk, ◌++◌, pos, codes};
-ghost use Rattle.ipg_facts.specs.Key as keys;
-ghost use Rattle.ipg_facts.specs.Form as forms;
+ghost use Rattle.ipg_facts_variables.specs.Variable as variables;
+ghost use Rattle.ipg_facts_forms.specs.Form as forms;
 ghost use Rattle.ipg_facts.specs.Members as spec;
 ghost use Rattle.ipg_facts.specs.View.{scope_of};
 
-use crate::fact::{Fact, Form};
-use crate::form::{shifted, variable};
-use crate::key::{end, named, start};
-use crate::put::{put_choice, put_equal, put_leq, put_less};
 use crate::reading::put_ranges;
 use crate::scope::{Scope, greatest, length_of, nought, width};
 use ipg_core::grammar::{Primitive, Sym};
+use ipg_facts_forms::{Fact, Form, mention, put_choice, put_equal, put_leq, put_less, shifted};
 use ipg_facts_holder::is_marked;
+use ipg_facts_variables::{end, named, start};
 use std::alloc::{AllocError, Global};
 
 /// The interval `[l, r]` is valid.
-#[tactic(auto, unfolding(crate::specs::Members::is_valid), using(crate::proofs::Puts::then, crate::proofs::Puts::then_last))]
+#[tactic(auto, unfolding(crate::specs::Members::is_valid), using(crate::proofs::Puts::in_turn))]
 pub fn put_is_valid(
     alloc: Global,
     out: &mut Vec<Fact>,
@@ -35,16 +33,16 @@ pub fn put_is_valid(
 fn start_of(alloc: Global, scope: &Scope, term: u32) -> Result<Form, AllocError>
     ensures { IfOk result (λ form. form ≡ spec.start_of (scope_of scope.now) term) }
 {
-    variable(alloc, start(scope.side, term), Vec::new(alloc))
+    mention(alloc, start(scope.side, term), Vec::new(alloc))
 }
 
 fn end_of(alloc: Global, scope: &Scope, term: u32) -> Result<Form, AllocError>
     ensures { IfOk result (λ form. form ≡ spec.end_of (scope_of scope.now) term) }
 {
-    variable(alloc, end(scope.side, term), Vec::new(alloc))
+    mention(alloc, end(scope.side, term), Vec::new(alloc))
 }
 
-#[tactic(auto, unfolding(crate::specs::Members::touches_none), using(crate::proofs::Puts::then, crate::proofs::Puts::then_last))]
+#[tactic(auto, unfolding(crate::specs::Members::touches_none), using(crate::proofs::Puts::in_turn))]
 fn put_touches_none(
     alloc: Global,
     out: &mut Vec<Fact>,
@@ -59,7 +57,7 @@ fn put_touches_none(
     put_equal(alloc, out, &end_of(alloc, scope, term)?, l)
 }
 
-#[tactic(auto, unfolding(crate::specs::Members::touches_some), using(crate::proofs::Puts::then, crate::proofs::Puts::then_last))]
+#[tactic(auto, unfolding(crate::specs::Members::touches_some), using(crate::proofs::Puts::in_turn))]
 fn put_touches_some(
     alloc: Global,
     out: &mut Vec<Fact>,
@@ -85,7 +83,7 @@ pub struct Taken<'a> {
     pub r: &'a Form,
 }
 
-#[tactic(auto, unfolding(crate::specs::Members::touches_first), using(crate::proofs::Puts::then, crate::proofs::Puts::then_last))]
+#[tactic(auto, unfolding(crate::specs::Members::touches_first), using(crate::proofs::Puts::in_turn))]
 fn put_touches_first(
     alloc: Global,
     out: &mut Vec<Fact>,
@@ -106,7 +104,7 @@ fn put_touches_first(
     put_leq(alloc, out, &end, taken.r)
 }
 
-#[tactic(auto, unfolding(crate::specs::Members::touches_all), using(crate::proofs::Puts::then, crate::proofs::Puts::then_last))]
+#[tactic(auto, unfolding(crate::specs::Members::touches_all), using(crate::proofs::Puts::in_turn))]
 fn put_touches_all(
     alloc: Global,
     out: &mut Vec<Fact>,
@@ -130,13 +128,13 @@ fn put_attr_ranges(
 ) -> Result<(), AllocError>
     ensures { OnOk result (out.new.items ≡ out.old.items ++ spec.attr_ranges (scope_of scope.now) term prim name.now) }
 {
-    let key = named(alloc, scope.side, term, name)?;
-    let form = variable(alloc, key, Vec::new(alloc))?;
+    let variable = named(alloc, scope.side, term, name)?;
+    let form = mention(alloc, variable, Vec::new(alloc))?;
     put_ranges(alloc, out, &form, greatest(prim, name))
 }
 
 /// The attributes of a number are from 0 to their greatest values.
-#[tactic(auto, unfolding(crate::specs::Members::number_ranges), using(crate::proofs::Puts::then, crate::proofs::Puts::then_last))]
+#[tactic(auto, unfolding(crate::specs::Members::number_ranges), using(crate::proofs::Puts::in_turn))]
 fn put_number_ranges(
     alloc: Global,
     out: &mut Vec<Fact>,
@@ -168,7 +166,7 @@ fn put_text_touches(
     }
 }
 
-#[tactic(auto, unfolding(crate::specs::Members::number_touches), using(crate::proofs::Puts::then, crate::proofs::Puts::then_last))]
+#[tactic(auto, unfolding(crate::specs::Members::number_touches), using(crate::proofs::Puts::in_turn))]
 fn put_number_touches(
     alloc: Global,
     out: &mut Vec<Fact>,
@@ -240,7 +238,7 @@ fn put_touches(
 }
 
 /// The interval is valid, and what the symbol's result on it touches.
-#[tactic(auto, unfolding(crate::specs::Members::on_interval), using(crate::proofs::Puts::then, crate::proofs::Puts::then_last))]
+#[tactic(auto, unfolding(crate::specs::Members::on_interval), using(crate::proofs::Puts::in_turn))]
 pub fn put_on_interval(
     alloc: Global,
     out: &mut Vec<Fact>,

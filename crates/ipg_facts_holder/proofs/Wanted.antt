@@ -77,8 +77,12 @@ matters_same g at terms caller v behind =
     ap (λ b. b || list_any (λ w. provides g at v (set_by (slice_get terms v)) (slice_get terms w)) behind)
     (wanted_same caller (set_by (slice_get terms v)))
 
+pub kept_none : (g : Grammar) (at : ℕ × ℕ) (terms caller : List CoreTerm) (order : List ℕ) → [] ≡ kept g at terms caller (drop (length order) order)
+unfolding kept
+kept_none g at terms caller order = sym (ap (kept g at terms caller) (drop-length order))
+
 -- a term more at the front
-pub kept_step : (g : Grammar) (at : ℕ × ℕ) (terms caller : List CoreTerm) (wanted : List ℕ) (order behind : List ℕ) (v : ℕ) (matter : Bool)
+kept_step : (g : Grammar) (at : ℕ × ℕ) (terms caller : List CoreTerm) (wanted : List ℕ) (order behind : List ℕ) (v : ℕ) (matter : Bool)
     → wanted ≡ outers caller → behind ≡ kept g at terms caller order → matter ≡ matters_by g at terms wanted v behind
     → with_term matter v behind ≡ kept g at terms caller (v ∷ order)
 unfolding kept
@@ -86,12 +90,17 @@ kept_step g at terms caller wanted order behind v matter e f h =
     ap (λ m. with_term m v behind) (h ∙ ap (λ ws. matters_by g at terms ws v behind) e ∙ matters_same g at terms caller v behind)
     ∙ ap (λ bs. with_term (matters g at terms caller v bs) v bs) f
 
-pub kept_none : (g : Grammar) (at : ℕ × ℕ) (terms caller : List CoreTerm) (order : List ℕ) → [] ≡ kept g at terms caller (drop (length order) order)
-unfolding kept
-kept_none g at terms caller order = sym (ap (kept g at terms caller) (drop-length order))
-
 -- the terms from one before a place on
-pub at_front : (g : Grammar) (at : ℕ × ℕ) (terms caller : List CoreTerm) (order : List ℕ) (place : ℕ) → 0 < place → place - 1 < length order
-    → kept g at terms caller (get_or order (place - 1) 0 ∷ drop place order) ≡ kept g at terms caller (drop (place - 1) order)
-at_front g at terms caller order place more less =
-    ap (kept g at terms caller) (sym (drop-cons order (place - 1) 0 less ∙ ap (λ n. get_or order (place - 1) 0 ∷ drop n order) (let h : suc (place - 1) ≡ place = omega (arith, more) in h)))
+at_front : (order : List ℕ) (place : ℕ) → 0 < place → place - 1 < length order → get_or order (place - 1) 0 ∷ drop place order ≡ drop (place - 1) order
+at_front order place more less =
+    let next : suc (place - 1) ≡ place = omega (arith, more) in
+    sym (drop-cons order (place - 1) 0 less ∙ ap (λ n. get_or order (place - 1) 0 ∷ drop n order) next)
+
+-- the term before a place
+pub kept_more : (g : Grammar) (at : ℕ × ℕ) (terms caller : List CoreTerm) (wanted : List ℕ) (order behind : List ℕ) (place : ℕ) (matter : Bool)
+    → 0 < place → place - 1 < length order → wanted ≡ outers caller → behind ≡ kept g at terms caller (drop place order)
+    → matter ≡ matters_by g at terms wanted (get_or order (place - 1) 0) behind
+    → with_term matter (get_or order (place - 1) 0) behind ≡ kept g at terms caller (drop (place - 1) order)
+kept_more g at terms caller wanted order behind place matter more less e f h =
+    kept_step g at terms caller wanted (drop place order) behind (get_or order (place - 1) 0) matter e f h
+    ∙ ap (kept g at terms caller) (at_front order place more less)

@@ -105,7 +105,7 @@ fn readers_of(alloc: Global, g: &Core, attr: Option<u32>) -> Result<Vec<bool>, A
 
 /// The alternative whose terms may matter.
 #[derive(Clone, Copy)]
-struct Held<'a> {
+struct Holder<'a> {
     grammar: &'a Core,
     at: (u32, u32),
     terms: &'a [CoreTerm],
@@ -137,40 +137,40 @@ fn some_need(terms: &[CoreTerm], of: Provider, behind: &[u32]) -> bool
 }
 
 /// Whether a term calls a local rule of the alternative, marked or not.
-fn calls_one(held: Held, term: Option<&CoreTerm>) -> bool
-    ensures { result ≡ calling.calls_one held.entry.grammar.now held.entry.at (option_copied term.entry) }
+fn calls_one(holder: Holder, term: Option<&CoreTerm>) -> bool
+    ensures { result ≡ calling.calls_one holder.entry.grammar.now holder.entry.at (option_copied term.entry) }
 {
     match term {
         None => false,
-        Some(term) => calls_some(held.grammar, Some(held.at), None, term),
+        Some(term) => calls_some(holder.grammar, Some(holder.at), None, term),
     }
 }
 
-fn some_call(held: Held, behind: &[u32]) -> bool
-    ensures { result ≡ list_any (λ w. calling.calls_one held.entry.grammar.now held.entry.at (slice_get held.entry.terms.now w)) behind.now }
+fn some_call(holder: Holder, behind: &[u32]) -> bool
+    ensures { result ≡ list_any (λ w. calling.calls_one holder.entry.grammar.now holder.entry.at (slice_get holder.entry.terms.now w)) behind.now }
 {
-    behind.iter().any(|term| calls_one(held, item_at(held.terms, *term as usize)))
+    behind.iter().any(|term| calls_one(holder, item_at(holder.terms, *term as usize)))
 }
 
 #[tactic(auto, unfolding(crate::specs::Holder::provides), using(crate::proofs::Marking::marked_calls))]
-fn provides(held: Held, of: Provider, marks: &[bool], term: Option<&CoreTerm>) -> bool
-    requires { marks.now ≡ spec.readers_of held.grammar.now of.sets }
-    ensures { result ≡ spec.provides held.entry.grammar.now held.entry.at of.term of.sets (option_copied term.entry) }
+fn provides(holder: Holder, of: Provider, marks: &[bool], term: Option<&CoreTerm>) -> bool
+    requires { marks.now ≡ spec.readers_of holder.grammar.now of.sets }
+    ensures { result ≡ spec.provides holder.entry.grammar.now holder.entry.at of.term of.sets (option_copied term.entry) }
 {
     match term {
         None => false,
         Some(term) => {
             mentions_some(Ask::Needs(of.term, of.sets), term)
-                || calls_some(held.grammar, Some(held.at), Some(marks), term)
+                || calls_some(holder.grammar, Some(holder.at), Some(marks), term)
         }
     }
 }
 
-fn provides_some(held: Held, of: Provider, marks: &[bool], behind: &[u32]) -> bool
-    requires { marks.now ≡ spec.readers_of held.grammar.now of.sets }
-    ensures { result ≡ list_any (λ w. spec.provides held.entry.grammar.now held.entry.at of.term of.sets (slice_get held.entry.terms.now w)) behind.now }
+fn provides_some(holder: Holder, of: Provider, marks: &[bool], behind: &[u32]) -> bool
+    requires { marks.now ≡ spec.readers_of holder.grammar.now of.sets }
+    ensures { result ≡ list_any (λ w. spec.provides holder.entry.grammar.now holder.entry.at of.term of.sets (slice_get holder.entry.terms.now w)) behind.now }
 {
-    behind.iter().any(|term| provides(held, of, marks, item_at(held.terms, *term as usize)))
+    behind.iter().any(|term| provides(holder, of, marks, item_at(holder.terms, *term as usize)))
 }
 
 /// Whether the caller mentions an attribute of its holder.
@@ -194,38 +194,43 @@ fn is_wanted(wanted: &[u32], attr: Option<u32>) -> bool
 #[tactic(auto, unfolding(crate::specs::Outers::matters_by), using(crate::proofs::Needs::needed_matters, crate::proofs::Needs::none_matters))]
 fn matters(
     alloc: Global,
-    held: Held,
+    holder: Holder,
     wanted: &[u32],
     term: u32,
     behind: &[u32],
 ) -> Result<bool, AllocError>
-    ensures { IfOk result (λ matters. matters ≡ outers.matters_by held.entry.grammar.now held.entry.at held.entry.terms.now wanted.now term behind.now) }
+    ensures { IfOk result (λ matters. matters ≡ outers.matters_by holder.entry.grammar.now holder.entry.at holder.entry.terms.now wanted.now term behind.now) }
 {
     let of = Provider {
         term,
-        sets: set_at(held.terms, term),
+        sets: set_at(holder.terms, term),
     };
     if is_wanted(wanted, of.sets) {
         return Ok(true);
     }
-    if some_need(held.terms, of, behind) {
+    if some_need(holder.terms, of, behind) {
         return Ok(true);
     }
-    if !some_call(held, behind) {
+    if !some_call(holder, behind) {
         return Ok(false);
     }
-    let marks = readers_of(alloc, held.grammar, of.sets)?;
-    Ok(provides_some(held, of, marks.as_slice(), behind))
+    let marks = readers_of(alloc, holder.grammar, of.sets)?;
+    Ok(provides_some(holder, of, marks.as_slice(), behind))
 }
 
-fn kept_of(alloc: Global, held: Held, wanted: &[u32], order: &[u32]) -> Result<Vec<u32>, AllocError>
+fn kept_of(
+    alloc: Global,
+    holder: Holder,
+    wanted: &[u32],
+    order: &[u32],
+) -> Result<Vec<u32>, AllocError>
     ensures { IfOk result (λ kept. (caller : List CoreTerm) → wanted.now ≡ outers.outers caller
-        → kept.items ≡ spec.kept held.entry.grammar.now held.entry.at held.entry.terms.now caller order.now) }
+        → kept.items ≡ spec.kept holder.entry.grammar.now holder.entry.at holder.entry.terms.now caller order.now) }
 {
     let mut behind = Vec::new(alloc);
     for place in (0..order.len()).rev() {
         let term = order[place];
-        if matters(alloc, held, wanted, term, behind.as_slice())? {
+        if matters(alloc, holder, wanted, term, behind.as_slice())? {
             behind.insert(0, term)?;
         }
     }
@@ -242,11 +247,11 @@ pub fn kept(
 ) -> Result<Vec<u32>, AllocError>
     ensures { IfOk result (λ kept. kept.items ≡ spec.kept g.now at holder.now.terms caller.now holder.now.order) }
 {
-    let held = Held {
+    let found = Holder {
         grammar: g,
         at,
         terms: holder.terms.as_slice(),
     };
     let wanted = outers(alloc, caller)?;
-    kept_of(alloc, held, wanted.as_slice(), holder.order.as_slice())
+    kept_of(alloc, found, wanted.as_slice(), holder.order.as_slice())
 }

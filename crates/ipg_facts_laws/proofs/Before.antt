@@ -7,16 +7,16 @@ use Rattle.ipg_num.specs.declared.op.Op2.TheVariants as ops
 use Rattle.ipg_core.specs.declared.grammar.CoreExpr.{CoreExpr, map-CoreExpr, roll-CoreExpr, fold-roll-CoreExpr}
 use Rattle.ipg_core.specs.declared.grammar.CoreExpr.TheOpen.{CoreExpr-F}
 use Rattle.ipg_facts.specs.declared.edition.Edition.TheVariants.{Earlier, Later}
-use Rattle.ipg_facts.specs.declared.fact.Form.{Form}
-use Rattle.ipg_facts.specs.declared.fact.Fact.{Fact}
-use Rattle.ipg_facts.specs.declared.fact.Bounds.{Bounds}
-use Rattle.ipg_facts.specs.Key.{value}
-use Rattle.ipg_facts.specs.Form.{variable, number, scaled, is_constant, in_limits, leq, less, equal, differ, choice}
+use Rattle.ipg_facts_forms.specs.declared.fact.Form.{Form}
+use Rattle.ipg_facts_forms.specs.declared.fact.Fact.{Fact}
+use Rattle.ipg_facts.specs.declared.bounds.Bounds.{Bounds}
+use Rattle.ipg_facts_variables.specs.Variable.{value}
+use Rattle.ipg_facts_forms.specs.Form.{mention, number, scaled, is_constant, in_limits, leq, less, equal, differ, choice}
 use Rattle.ipg_facts.specs.Reading.{Scope, Reading, length_of, opaque, nought, plain, least_width, item_at, inside, if_there}
 use Rattle.ipg_facts.specs.Reading.{touching, after_facts, product, computed, limited, asserted, denied, reading, read}
 use Rattle.ipg_facts_laws.specs.Valued.{Valuation}
-use Rattle.ipg_facts.specs.Induct.{Sure, bare, induct}
-use Rattle.ipg_facts_laws.proofs.Weaker.{Gives, FormGives, SomeGives, so_right, gives_append, gives_choice, form_self, gives_variable, gives_plus}
+use Rattle.ipg_facts_variables.specs.Induct.{Sure, bare, induct}
+use Rattle.ipg_facts_laws.proofs.Weaker.{Gives, FormGives, SomeGives, so_right, gives_append, gives_choice, form_self, gives_mention, gives_plus}
 use Rattle.ipg_facts_laws.proofs.Weaker.{gives_scaled, gives_minus, as_constant, as_limited, gives_leq, gives_equal, gives_less, gives_differ}
 
 -- what an expression is to the later conditions gives what it is to the earlier ones
@@ -66,19 +66,7 @@ module _ (v : Valuation) where
   gives_computed ops.Add a a' b b' h k = gives_plus v a a' b b' h k
   gives_computed ops.Sub a a' b b' h k = gives_minus v a a' b b' h k
   gives_computed ops.Mul a a' b b' h k = gives_product a a' b b' h k
-  gives_computed ops.Div a a' b b' h k = tt
-  gives_computed ops.Mod a a' b b' h k = tt
-  gives_computed ops.Shl a a' b b' h k = tt
-  gives_computed ops.Shr a a' b b' h k = tt
-  gives_computed ops.BitAnd a a' b b' h k = tt
-  gives_computed ops.BitOr a a' b b' h k = tt
-  gives_computed ops.BitXor a a' b b' h k = tt
-  gives_computed ops.Eq a a' b b' h k = tt
-  gives_computed ops.Ne a a' b b' h k = tt
-  gives_computed ops.Lt a a' b b' h k = tt
-  gives_computed ops.Le a a' b b' h k = tt
-  gives_computed ops.Gt a a' b b' h k = tt
-  gives_computed ops.Ge a a' b b' h k = tt
+  gives_computed _ a a' b b' h k = tt
 
   gives_other : (a a' : Form) → FormGives v a a' → Gives v (differ a nought) (differ a' nought)
   gives_other a a' h = gives_differ v a a' nought nought h (form_self v nought)
@@ -100,16 +88,7 @@ module _ (v : Valuation) where
     gives_asserted ops.Le = gives_leq v a a' b b' h k
     gives_asserted ops.Gt = gives_less v b b' a a' k h
     gives_asserted ops.Ge = gives_leq v b b' a a' k h
-    gives_asserted ops.Add = gives_other e e' l
-    gives_asserted ops.Sub = gives_other e e' l
-    gives_asserted ops.Mul = gives_other e e' l
-    gives_asserted ops.Div = gives_other e e' l
-    gives_asserted ops.Mod = gives_other e e' l
-    gives_asserted ops.Shl = gives_other e e' l
-    gives_asserted ops.Shr = gives_other e e' l
-    gives_asserted ops.BitAnd = gives_other e e' l
-    gives_asserted ops.BitOr = gives_other e e' l
-    gives_asserted ops.BitXor = gives_other e e' l
+    gives_asserted _ = gives_other e e' l
 
     gives_denied : (op : Op2) → Gives v (denied op a b e) (denied op a' b' e')
     unfolding denied
@@ -119,16 +98,7 @@ module _ (v : Valuation) where
     gives_denied ops.Le = gives_less v b b' a a' k h
     gives_denied ops.Gt = gives_leq v a a' b b' h k
     gives_denied ops.Ge = gives_less v a a' b b' h k
-    gives_denied ops.Add = gives_nought e e' l
-    gives_denied ops.Sub = gives_nought e e' l
-    gives_denied ops.Mul = gives_nought e e' l
-    gives_denied ops.Div = gives_nought e e' l
-    gives_denied ops.Mod = gives_nought e e' l
-    gives_denied ops.Shl = gives_nought e e' l
-    gives_denied ops.Shr = gives_nought e e' l
-    gives_denied ops.BitAnd = gives_nought e e' l
-    gives_denied ops.BitOr = gives_nought e e' l
-    gives_denied ops.BitXor = gives_nought e e' l
+    gives_denied _ = gives_nought e e' l
 
   -- one alternative, as the later and as the earlier conditions know it
   module _ (scope : Scope) (arrays : List (Option Bounds)) (none : NoneKnown arrays) where
@@ -139,7 +109,7 @@ module _ (v : Valuation) where
     early = record scope { edition = Earlier; arrays = arrays }
 
     gives_opaque : (said said' : CoreExpr) → said ≡ said' → FormGives v (opaque late said) (opaque early said')
-    gives_opaque said said' e = gives_variable v (value scope.side said) (value scope.side said') [] [] (ap (value scope.side) e) (λ h. h)
+    gives_opaque said said' e = gives_mention v (value scope.side said) (value scope.side said') [] [] (ap (value scope.side) e) (λ h. h)
 
     gives_limited : (said said' : CoreExpr) (a a' : Option Form) → said ≡ said' → SomeGives v a a'
         → FormGives v (limited late said a) (limited early said' a')
@@ -168,17 +138,17 @@ module _ (v : Valuation) where
         (λ so. gives_equal v a a' left left' h k (so_right v (leq bounds.last bounds.first) (equal a left) so))
 
     weakens_item : (said said' : CoreExpr) (xs : List Fact) → said ≡ said'
-        → Weakens v (plain said (variable (value scope.side said) xs)) (plain said' (variable (value scope.side said') []))
+        → Weakens v (plain said (mention (value scope.side said) xs)) (plain said' (mention (value scope.side said') []))
     weakens_item said said' xs e =
         weakens_plain said said' _ _ e
-        (gives_variable v (value scope.side said) (value scope.side said') xs [] (ap (value scope.side) e) (λ h. refl))
+        (gives_mention v (value scope.side said) (value scope.side said') xs [] (ap (value scope.side) e) (λ h. refl))
 
     weakens_after : (said said' : CoreExpr) (term : ℕ) (left left' : Form) → said ≡ said' → FormGives v left left'
-        → Weakens v (plain said (variable (value scope.side said) (after_facts late (touching late term) (opaque late said) left)))
-        (plain said' (variable (value scope.side said') (after_facts early (touching early term) (opaque early said') left')))
+        → Weakens v (plain said (mention (value scope.side said) (after_facts late (touching late term) (opaque late said) left)))
+        (plain said' (mention (value scope.side said') (after_facts early (touching early term) (opaque early said') left')))
     weakens_after said said' term left left' e h =
         weakens_plain said said' _ _ e
-        (gives_variable v (value scope.side said) (value scope.side said') _ _ (ap (value scope.side) e)
+        (gives_mention v (value scope.side said) (value scope.side said') _ _ (ap (value scope.side) e)
         (subst (λ o. Gives v (after_facts late (touching late term) (opaque late said) left) (after_facts early o (opaque early said') left'))
         (sym (none_touching (nat_lt 0 (least_width scope.marks (item_at scope term))) (if_there (slice_get arrays term)) (none term)))
         (gives_after (touching late term) (opaque late said) (opaque early said') left left' (gives_opaque said said' e) h)))
@@ -257,7 +227,7 @@ module _ (v : Valuation) where
     }
     layer (CoreExpr-F.Cond c a b) e = record {
       said = e;
-      form = gives_variable v _ _ _ _ (ap (value scope.side) e)
+      form = gives_mention v _ _ _ _ (ap (value scope.side) e)
           (two_gives _ _ _ _ _ _ _ _ c.1.holds c.1.fails (gives_equal v _ _ _ _ (gives_opaque _ _ e) a.1.form)
           (gives_equal v _ _ _ _ (gives_opaque _ _ e) b.1.form));
       holds = two_gives _ _ _ _ _ _ _ _ c.1.holds c.1.fails a.1.holds b.1.holds;

@@ -9,7 +9,7 @@ use Rattle.ipg_lin.specs.Members.{by_members, folds-Atom, folds-All, folds-Any}
 use Rattle.ipg_lin.specs.declared.formula.Formula.{Formula}
 use Rattle.ipg_lin.specs.declared.formula.Formula.TheVariants as formula
 use Rattle.ipg_lin.specs.declared.formula.Boxed.{Boxed}
-use Rattle.ipg_facts.specs.Joint.{moved, moved_term, apart, apart_step, parts_apart, own_variables, joint}
+use Rattle.ipg_facts_forms.specs.Joint.{moved, moved_term, apart, apart_step, parts_apart, own_variables, joint}
 use Rattle.ipg_facts_laws.specs.Laws.{ArePartsWith}
 use Rattle.ipg_facts_laws.specs.Bounded.{JointIsPart}
 

@@ -6,7 +6,7 @@ use Rattle.ipg_core.specs.MustTouch.{Marks, AreLimit}
 use Rattle.ipg_core.specs.Good.{Good}
 use Rattle.ipg_core.specs.Laws.{LiesWithin, TouchingTouches}
 use Rattle.ipg_graph.specs.declared.edge.Edge.{Edge}
-use Rattle.ipg_facts.specs.Numbers.{keep}
+use Rattle.ipg_facts.specs.Keep.{keep}
 use Rattle.ipg_facts_laws.specs.Reached.{ReachedOn}
 use Rattle.ipg_facts_laws.specs.Laws.{AllSolved, ReachedCyclesSolve}
 use Rattle.ipg_facts_laws.proofs.Joints.{parts_solve_joint}

@@ -1,7 +1,7 @@
 -- Where all terms of an alternative have run, its variables have values that fit.
 use Rattle.std.proofs.Common.{None}
 use Rattle.ipg_core.specs.Laws.{LiesWithin, TouchingTouches}
-use Rattle.ipg_facts.specs.Key.{caller_side}
+use Rattle.ipg_facts_variables.specs.Variable.{caller_side}
 use Rattle.ipg_facts.specs.Keep.{opening}
 use Rattle.ipg_facts_laws.specs.Finished.{FinishedFit}
 use Rattle.ipg_facts_laws.proofs.Works.{Finish, finish}

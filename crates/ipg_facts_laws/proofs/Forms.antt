@@ -6,17 +6,17 @@ use Rattle.std.specs.Prelude.{nat_le, int_le, ◌≤ℤ◌, ◌<ℤ◌, flat_map
 use Rattle.std.specs.List.{filter}
 use Rattle.std.proofs.lemmas.Int.{ints}
 use Rattle.ipg_lin.specs.Formula.{some}
-use Rattle.ipg_facts.specs.declared.fact.Draft.{Draft}
-use Rattle.ipg_facts.specs.declared.fact.Part.{Part}
-use Rattle.ipg_facts.specs.declared.fact.Form.{Form}
-use Rattle.ipg_facts.specs.declared.fact.Fact.{Fact, fold-roll-Fact}
-use Rattle.ipg_facts.specs.declared.fact.Fact.TheVariants as facts
-use Rattle.ipg_facts.specs.declared.fact.Fact.TheOpen.{Fact-F}
-use Rattle.ipg_facts.specs.declared.key.Key.{Key}
-use Rattle.ipg_facts.specs.Key.{same_key}
-use Rattle.ipg_facts.specs.Equality.{same_keys_are_equal}
-use Rattle.ipg_facts.specs.Form.{variable, number, add_part, add_parts, plus, minus, scaled, scaled_part, shifted, is_zero, counts, is_constant}
-use Rattle.ipg_facts.specs.Form.{mentioned, in_limits, facts_of, bare, at_most_zero, leq, less, both_at_most_zero, equal, choice, differ}
+use Rattle.ipg_facts_forms.specs.declared.fact.Draft.{Draft}
+use Rattle.ipg_facts_forms.specs.declared.fact.Part.{Part}
+use Rattle.ipg_facts_forms.specs.declared.fact.Form.{Form}
+use Rattle.ipg_facts_forms.specs.declared.fact.Fact.{Fact, fold-roll-Fact}
+use Rattle.ipg_facts_forms.specs.declared.fact.Fact.TheVariants as facts
+use Rattle.ipg_facts_forms.specs.declared.fact.Fact.TheOpen.{Fact-F}
+use Rattle.ipg_facts_variables.specs.declared.variable.Variable.{Variable}
+use Rattle.ipg_facts_variables.specs.Variable.{same_variable}
+use Rattle.ipg_facts_variables.specs.Equality.{same_variables_are_equal}
+use Rattle.ipg_facts_forms.specs.Form.{mention, number, add_part, add_parts, plus, minus, scaled, scaled_part, shifted, is_zero, counts, is_constant}
+use Rattle.ipg_facts_forms.specs.Form.{mentioned, in_limits, facts_of, bare, at_most_zero, leq, less, both_at_most_zero, equal, choice, differ}
 use Rattle.ipg_facts_laws.specs.Valued.{Valuation, sum_of, so_step, is_so, are_so}
 use Rattle.ipg_facts_laws.specs.Known.{AreSo, AreTrue, parts_sum, Stands}
 use Rattle.ipg_facts_laws.proofs.Whole.{times_plus, scale, zero_times, one_times, times_minus_one}
@@ -49,23 +49,24 @@ module _ (v : Valuation) where
   pub stands_number : (z : ℤ) → Stands v (number z) z
   stands_number z = record { value = omega (arith, ints); facts = tt }
 
-  pub stands_variable : (key : Key) (fs : List Fact) → AreSo v fs → Stands v (variable key fs) (v key)
-  stands_variable key fs h = record { value = ap (λ z. (z +ℤ pos 0) +ℤ pos 0) (one_times (v key)) ∙ omega (arith, ints); facts = (h, tt) }
+  pub stands_mention : (variable : Variable) (fs : List Fact) → AreSo v fs → Stands v (mention variable fs) (v variable)
+  stands_mention variable fs h = record { value = ap (λ z. (z +ℤ pos 0) +ℤ pos 0) (one_times (v variable)) ∙ omega (arith, ints); facts = (h, tt) }
 
   -- a part more
-  added : (b : Bool) (q p : Part) (qs more : List Part) → same_key q.key p.key ≡ b → parts_sum v more ≡ parts_sum v qs +ℤ (p.factor *ℤ v p.key)
-      → parts_sum v (if b then record q { factor = q.factor +ℤ p.factor } ∷ qs else q ∷ more) ≡ parts_sum v (q ∷ qs) +ℤ (p.factor *ℤ v p.key)
+  added : (b : Bool) (q p : Part) (qs more : List Part) → same_variable q.variable p.variable ≡ b
+      → parts_sum v more ≡ parts_sum v qs +ℤ (p.factor *ℤ v p.variable)
+      → parts_sum v (if b then record q { factor = q.factor +ℤ p.factor } ∷ qs else q ∷ more) ≡ parts_sum v (q ∷ qs) +ℤ (p.factor *ℤ v p.variable)
   added true q p qs more e f =
-      let same : q.key ≡ p.key = (same_keys_are_equal q.key p.key).0 e in
-      ap (λ z. z +ℤ parts_sum v qs) (times_plus q.factor p.factor (v q.key))
-      ∙ ap (λ k. ((q.factor *ℤ v q.key) +ℤ (p.factor *ℤ v k)) +ℤ parts_sum v qs) same
+      let same : q.variable ≡ p.variable = (same_variables_are_equal q.variable p.variable).0 e in
+      ap (λ z. z +ℤ parts_sum v qs) (times_plus q.factor p.factor (v q.variable))
+      ∙ ap (λ k. ((q.factor *ℤ v q.variable) +ℤ (p.factor *ℤ v k)) +ℤ parts_sum v qs) same
       ∙ omega (arith, ints)
-  added false q p qs more e f = ap (λ z. (q.factor *ℤ v q.key) +ℤ z) f ∙ omega (arith, ints)
+  added false q p qs more e f = ap (λ z. (q.factor *ℤ v q.variable) +ℤ z) f ∙ omega (arith, ints)
 
-  sum_added : (ps : List Part) (p : Part) → parts_sum v (add_part ps p) ≡ parts_sum v ps +ℤ (p.factor *ℤ v p.key)
+  sum_added : (ps : List Part) (p : Part) → parts_sum v (add_part ps p) ≡ parts_sum v ps +ℤ (p.factor *ℤ v p.variable)
   unfolding add_part
   sum_added [] p = omega (arith, ints)
-  sum_added (q ∷ qs) p = added (same_key q.key p.key) q p qs (add_part qs p) refl (sum_added qs p)
+  sum_added (q ∷ qs) p = added (same_variable q.variable p.variable) q p qs (add_part qs p) refl (sum_added qs p)
 
   true_chosen : (b : Bool) (q p : Part) (qs more : List Part) → AreTrue v (q ∷ qs) → AreTrue v more
       → AreTrue v (if b then record q { factor = q.factor +ℤ p.factor } ∷ qs else q ∷ more)
@@ -75,7 +76,7 @@ module _ (v : Valuation) where
   true_added : (ps : List Part) (p : Part) → AreTrue v ps → AreSo v p.facts → AreTrue v (add_part ps p)
   unfolding add_part
   true_added [] p h k = (k, tt)
-  true_added (q ∷ qs) p h k = true_chosen (same_key q.key p.key) q p qs (add_part qs p) h (true_added qs p h.1 k)
+  true_added (q ∷ qs) p h k = true_chosen (same_variable q.variable p.variable) q p qs (add_part qs p) h (true_added qs p h.1 k)
 
   sums_added : (ps qs : List Part) → parts_sum v (add_parts ps qs) ≡ parts_sum v ps +ℤ parts_sum v qs
   unfolding add_parts
@@ -101,8 +102,8 @@ module _ (v : Valuation) where
   sum_scaled : (k : ℤ) (ps : List Part) → parts_sum v (map (scaled_part k) ps) ≡ parts_sum v ps *ℤ k
   sum_scaled k [] = sym (zero_times k)
   sum_scaled k (p ∷ ps) =
-      ap (λ z. z +ℤ parts_sum v (map (scaled_part k) ps)) (scale p.factor k (v p.key))
-      ∙ ap (λ z. ((p.factor *ℤ v p.key) *ℤ k) +ℤ z) (sum_scaled k ps) ∙ sym (times_plus (p.factor *ℤ v p.key) (parts_sum v ps) k)
+      ap (λ z. z +ℤ parts_sum v (map (scaled_part k) ps)) (scale p.factor k (v p.variable))
+      ∙ ap (λ z. ((p.factor *ℤ v p.variable) *ℤ k) +ℤ z) (sum_scaled k ps) ∙ sym (times_plus (p.factor *ℤ v p.variable) (parts_sum v ps) k)
 
   true_scaled : (k : ℤ) (ps : List Part) → AreTrue v ps → AreTrue v (map (scaled_part k) ps)
   true_scaled k [] h = tt
@@ -137,12 +138,13 @@ module _ (v : Valuation) where
   not_counted (pos (suc n)) z e = absurd (no_less n e)
   not_counted (negsuc n) z e = cc
 
-  counted : (b : Bool) (p : Part) (ps : List Part) → is_zero p.factor ≡ b → sum_of v (map (λ (p : Part). (p.key, p.factor)) (filter counts ps)) ≡ parts_sum v ps
-      → sum_of v (map (λ (p : Part). (p.key, p.factor)) (if not b then p ∷ filter counts ps else filter counts ps)) ≡ parts_sum v (p ∷ ps)
-  counted true p ps e f = f ∙ sym (ap (λ z. z +ℤ parts_sum v ps) (not_counted p.factor (v p.key) e) ∙ omega (arith, ints))
-  counted false p ps e f = ap (λ z. (p.factor *ℤ v p.key) +ℤ z) f
+  counted : (b : Bool) (p : Part) (ps : List Part) → is_zero p.factor ≡ b
+      → sum_of v (map (λ (p : Part). (p.variable, p.factor)) (filter counts ps)) ≡ parts_sum v ps
+      → sum_of v (map (λ (p : Part). (p.variable, p.factor)) (if not b then p ∷ filter counts ps else filter counts ps)) ≡ parts_sum v (p ∷ ps)
+  counted true p ps e f = f ∙ sym (ap (λ z. z +ℤ parts_sum v ps) (not_counted p.factor (v p.variable) e) ∙ omega (arith, ints))
+  counted false p ps e f = ap (λ z. (p.factor *ℤ v p.variable) +ℤ z) f
 
-  sum_counted : (ps : List Part) → sum_of v (map (λ (p : Part). (p.key, p.factor)) (filter counts ps)) ≡ parts_sum v ps
+  sum_counted : (ps : List Part) → sum_of v (map (λ (p : Part). (p.variable, p.factor)) (filter counts ps)) ≡ parts_sum v ps
   sum_counted [] = refl
   sum_counted (p ∷ ps) = counted (is_zero p.factor) p ps refl (sum_counted ps)
 
@@ -169,7 +171,7 @@ module _ (v : Valuation) where
   pub so_bare : (a : Form) (z : ℤ) → Stands v a z → z ≤ℤ pos 0 → AreSo v (bare a)
   unfolding bare mentioned
   so_bare a z s h =
-      bare_so (in_limits a) (record { terms = map (λ (p : Part). (p.key, p.factor)) (filter counts a.parts); constant = a.constant })
+      bare_so (in_limits a) (record { terms = map (λ (p : Part). (p.variable, p.factor)) (filter counts a.parts); constant = a.constant })
       (subst (λ y. y ≤ℤ pos 0) (sym (ap (λ y. y +ℤ a.constant) (sum_counted a.parts) ∙ s.value)) h)
 
   chosen_so : (b : Bool) (fs : List Fact) → AreSo v fs → AreSo v (if b then fs else [])
@@ -238,7 +240,7 @@ module _ (v : Valuation) where
   unfolding differ
   so_above a b x y s t h = so_second (less a b) (less b a) (so_less b a y x t s h)
 
-  none_left : (ps : List Part) → nat_le (length ps) 0 ≡ true → sum_of v (map (λ (p : Part). (p.key, p.factor)) ps) ≡ pos 0
+  none_left : (ps : List Part) → nat_le (length ps) 0 ≡ true → sum_of v (map (λ (p : Part). (p.variable, p.factor)) ps) ≡ pos 0
   none_left [] e = refl
   none_left (p ∷ ps) e = absurd (no_less (length ps) e)
 

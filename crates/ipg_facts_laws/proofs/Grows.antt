@@ -12,7 +12,7 @@ use Rattle.ipg_core.specs.Eval.{eval, on_value, found, is_zero, behind, greatest
 use Rattle.ipg_core.specs.Mention.{Mention, mentions, mentions_step, field_mentions}
 use Rattle.ipg_facts_laws.specs.Grows.{Grows, IsSettled}
 use Rattle.ipg_facts_laws.specs.Laws.{ValuesStay}
-use Rattle.ipg_facts.specs.Induct.{Sure, bare, induct}
+use Rattle.ipg_facts_variables.specs.Induct.{Sure, bare, induct}
 use Rattle.ipg_facts_laws.proofs.Answers.{found_is, kept, first_of}
 
 pub all_left : {A : Type 0} (P : A → Type 0) (xs ys : List A) → AllByRecursion P (xs ++ ys) → AllByRecursion P xs

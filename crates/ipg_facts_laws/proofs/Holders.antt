@@ -17,10 +17,10 @@ use Rattle.ipg_core.specs.Order.{Sets, TermOf, Passes, itself, is_taken}
 use Rattle.ipg_core.specs.Good.{AltAt, Good}
 use Rattle.ipg_core.specs.Grown.{ComesTo, GrownLocal, GrownUnder}
 use Rattle.ipg_core.specs.Laws.{LiesWithin, TouchingTouches}
-use Rattle.ipg_facts.specs.declared.key.Side.{Side}
-use Rattle.ipg_facts.specs.declared.key.Known.{Known}
-use Rattle.ipg_facts.specs.Key.{caller_side, holder_side}
-use Rattle.ipg_facts.specs.Form.{leq}
+use Rattle.ipg_facts_variables.specs.declared.variable.Side.{Side}
+use Rattle.ipg_facts_variables.specs.declared.variable.Quantity.{Quantity}
+use Rattle.ipg_facts_variables.specs.Variable.{caller_side, holder_side}
+use Rattle.ipg_facts_forms.specs.Form.{leq}
 use Rattle.ipg_facts.specs.declared.edition.Edition.TheVariants.{Later}
 use Rattle.ipg_facts.specs.Reading.{Scope, length_of}
 use Rattle.ipg_facts.specs.Members.{terms_members}
@@ -36,7 +36,7 @@ use Rattle.ipg_facts_laws.proofs.Came.{stays_same}
 use Rattle.ipg_facts_laws.proofs.Steps.{passed}
 use Rattle.ipg_facts_laws.proofs.Ordered.{some_ran}
 use Rattle.ipg_facts_laws.proofs.Held.{contains_at, read_before, kept_taken}
-use Rattle.ipg_facts_laws.proofs.Valuing.{clamped, of_known, key_of}
+use Rattle.ipg_facts_laws.proofs.Valuing.{clamped, of_quantity, variable_of}
 use Rattle.ipg_facts_laws.proofs.Works.{first_scope, at_work, Work, work, work_fits}
 
 pub opened : (g : Grammar) (marks : Marks) (side : Side) (alt : CoreAlt) → opening g marks Later side alt ≡ first_scope g marks side alt
@@ -51,7 +51,7 @@ pub record Holder (g : Grammar) (marks : Marks) (o : Option (ℕ × ℕ)) (calle
   pub env : Environment
   pub own : env.own ≡ outer
   pub size : env.eoi ≤ 2 ^ 30
-  pub so : (v : Valuation) → ((known : Known) → v (key_of holder_side known) ≡ clamped (of_known env known))
+  pub so : (v : Valuation) → ((quantity : Quantity) → v (variable_of holder_side quantity) ≡ clamped (of_quantity env quantity))
       → (here : Environment) → here.eoi ≡ length s → Fits v (first_scope g marks caller_side caller) here → AreSo v (holder_facts g marks o caller)
 
 no_syms : (term : CoreTerm) (terms : List CoreTerm) (u v attr callee : ℕ) → slice_get terms u ≡ Some term → Contains (term_syms term) (Rule callee)
@@ -119,7 +119,7 @@ module _ (lies : LiesWithin) (must : TouchingTouches) (g : Grammar) (good : Good
         some_ran scope env comes.before (holder_work.ran comes.state None (stays_same done comes.state)) these
         (kept_taken g at terms caller.terms done holder_work.provided wanted comes.alt.order)
 
-    module _ (v : Valuation) (agree : (known : Known) → v (key_of holder_side known) ≡ clamped (of_known env known))
+    module _ (v : Valuation) (agree : (quantity : Quantity) → v (variable_of holder_side quantity) ≡ clamped (of_quantity env quantity))
         (here : Environment) (size : here.eoi ≡ length s) (fits : Fits v (first_scope g marks caller_side caller) here) where
       holder_fits : Fits v scope env
       holder_fits =

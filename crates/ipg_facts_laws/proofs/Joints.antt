@@ -12,7 +12,7 @@ use Rattle.ipg_lin.specs.declared.formula.Formula.TheOpen.{Formula-F}
 use Rattle.ipg_lin.specs.declared.formula.Formula.TheOpen.Formula-F.{Atom, All, Any}
 use Rattle.ipg_lin.specs.declared.formula.Formula.TheFolds.{fold-roll-Formula, ind-Formula}
 use Rattle.ipg_lin.specs.declared.formula.Boxed.{Boxed}
-use Rattle.ipg_facts.specs.Joint.{moved, moved_term, apart, apart_step, parts_apart, own_variables, shared_bounds, joint}
+use Rattle.ipg_facts_forms.specs.Joint.{moved, moved_term, apart, apart_step, parts_apart, own_variables, shared_bounds, joint}
 use Rattle.ipg_facts_laws.specs.Laws.{AllSolved, PartsSolveJoint}
 
 -- a formula apart holds where the formula does at the moved variables, and where they have the values of its own

@@ -8,20 +8,20 @@ use Rattle.std.proofs.lemmas.Int.{ints}
 use Rattle.std.proofs.lemmas.List.{length-map}
 use Rattle.std.specs.List.{AllByRecursion, filter, list_all}
 use Rattle.ipg_core.specs.Grammar.{rule_at}
-use Rattle.ipg_facts.specs.declared.fact.Part.{Part}
-use Rattle.ipg_facts.specs.declared.fact.Form.{Form}
-use Rattle.ipg_facts.specs.declared.fact.Fact.{Fact, roll-Fact, map-Fact, fold-Fact, fold-roll-Fact, ind-Fact}
-use Rattle.ipg_facts.specs.declared.fact.Fact.TheVariants as facts
-use Rattle.ipg_facts.specs.declared.fact.Fact.TheOpen.{Fact-F}
-use Rattle.ipg_facts.specs.declared.fact.Draft.{Draft}
-use Rattle.ipg_facts.specs.declared.key.Key.{Key}
-use Rattle.ipg_facts.specs.Key.{whole, caller_side, holder_side, same_key}
-use Rattle.ipg_facts.specs.Form.{is_zero, counts}
-use Rattle.ipg_facts.specs.Form.{is_number, is_light as in_size, in_limits}
-use Rattle.ipg_facts.specs.Form.{mentioned}
+use Rattle.ipg_facts_forms.specs.declared.fact.Part.{Part}
+use Rattle.ipg_facts_forms.specs.declared.fact.Form.{Form}
+use Rattle.ipg_facts_forms.specs.declared.fact.Fact.{Fact, roll-Fact, map-Fact, fold-Fact, fold-roll-Fact, ind-Fact}
+use Rattle.ipg_facts_forms.specs.declared.fact.Fact.TheVariants as facts
+use Rattle.ipg_facts_forms.specs.declared.fact.Fact.TheOpen.{Fact-F}
+use Rattle.ipg_facts_forms.specs.declared.fact.Draft.{Draft}
+use Rattle.ipg_facts_variables.specs.declared.variable.Variable.{Variable}
+use Rattle.ipg_facts_variables.specs.Variable.{whole, caller_side, holder_side, same_variable}
+use Rattle.ipg_facts_forms.specs.Form.{is_zero, counts}
+use Rattle.ipg_facts_forms.specs.Form.{is_number, is_light as in_size, in_limits}
+use Rattle.ipg_facts_forms.specs.Form.{mentioned}
 use Rattle.ipg_facts.specs.Members.{members}
 use Rattle.ipg_facts.specs.Keep.{alt_at}
-use Rattle.ipg_facts.specs.Numbers.{keys_of, place, insert, numbered, formula_of, formula_step, bounds_of}
+use Rattle.ipg_facts_forms.specs.Numbers.{variables_of, place, insert, numbered, formula_of, formula_step, bounds_of}
 use Rattle.ipg_lin.specs.Form.{is_coefficient, are_coefficients}
 use Rattle.ipg_lin.specs.Formula.{every}
 use Rattle.ipg_lin.specs.Members.{folds-Atom, folds-All, folds-Any}
@@ -30,7 +30,7 @@ use Rattle.ipg_facts.specs.Gap.{rule_gap, gap}
 use Rattle.ipg_facts_laws.proofs.Stated.{drafted, IsSure, of_rule_gap}
 use Rattle.ipg_facts_laws.specs.Light.{is_light, light_step, AreOrdered, GapsAreLight, GapsAreOrdered}
 
-abbrev are_factors : List (Key × ℤ) → Bool
+abbrev are_factors : List (Variable × ℤ) → Bool
 are_factors terms = list_all (λ t. is_coefficient t.1) terms
 
 abbrev light_fact_step : Fact-F Bool → Bool
@@ -74,25 +74,25 @@ above_zero (pos n) e = some_more n e
     some_more (suc n) e = grind (arith, nat_tests)
 above_zero (negsuc n) e = grind (arith, nat_tests)
 
-factors_of : (ps : List Part) → list_all in_size (filter counts ps) ≡ true → are_factors (map (λ p. (p.key, p.factor)) (filter counts ps)) ≡ true
+factors_of : (ps : List Part) → list_all in_size (filter counts ps) ≡ true → are_factors (map (λ p. (p.variable, p.factor)) (filter counts ps)) ≡ true
 factors_of [] h = refl
 factors_of (p ∷ ps) h = by (counts p) refl (factors_of ps)
   where
-    by : (b : Bool) → counts p ≡ b → (list_all in_size (filter counts ps) ≡ true → are_factors (map (λ p. (p.key, p.factor)) (filter counts ps)) ≡ true)
-        → are_factors (map (λ p. (p.key, p.factor)) (filter counts (p ∷ ps))) ≡ true
+    by : (b : Bool) → counts p ≡ b → (list_all in_size (filter counts ps) ≡ true → are_factors (map (λ p. (p.variable, p.factor)) (filter counts ps)) ≡ true)
+        → are_factors (map (λ p. (p.variable, p.factor)) (filter counts (p ∷ ps))) ≡ true
     by true e rest =
         let all : list_all in_size (p ∷ filter counts ps) ≡ true =
         sym (ap (λ b. list_all in_size (if b then p ∷ filter counts ps else filter counts ps)) e) ∙ h in
         let parts = both_true (in_size p) (list_all in_size (filter counts ps)) all in
-        ap (λ b. are_factors (map (λ p. (p.key, p.factor)) (if b then p ∷ filter counts ps else filter counts ps))) e
+        ap (λ b. are_factors (map (λ p. (p.variable, p.factor)) (if b then p ∷ filter counts ps else filter counts ps))) e
         ∙ both _ _ (both _ _ (above_zero p.factor e) parts.0) (rest parts.1)
     by false e rest =
         let all : list_all in_size (filter counts ps) ≡ true = sym (ap (λ b. list_all in_size (if b then p ∷ filter counts ps else filter counts ps)) e) ∙ h in
-        ap (λ b. are_factors (map (λ p. (p.key, p.factor)) (if b then p ∷ filter counts ps else filter counts ps))) e ∙ rest all
+        ap (λ b. are_factors (map (λ p. (p.variable, p.factor)) (if b then p ∷ filter counts ps else filter counts ps))) e ∙ rest all
 
--- the factor of a key
-abbrev entry : Part → Key × ℤ
-entry p = (p.key, p.factor)
+-- the factor of a variable
+abbrev entry : Part → Variable × ℤ
+entry p = (p.variable, p.factor)
 
 limited_draft : (a : Form) → in_limits a ≡ true
     → nat_le (length (map entry (filter counts a.parts))) 64 && are_factors (map entry (filter counts a.parts)) ≡ true
@@ -109,9 +109,9 @@ light_form a h = light_atom (drafted a) (limited_draft a h)
 is_sure : IsSure (λ f. light_fact f ≡ true)
 is_sure = record { atom = light_form; all = light_all; any = λ f fs. light_any (f ∷ fs) }
 
--- ---- numbers in place of keys
+-- ---- numbers in place of variables
 
-module _ (keys : List Key) where
+module _ (variables : List Variable) where
   inserted : (term : ℕ × ℤ) (terms : List (ℕ × ℤ)) → is_coefficient term.1 ≡ true → are_coefficients terms ≡ true → are_coefficients (insert term terms) ≡ true
   unfolding insert
   inserted term [] one all = both _ _ one all
@@ -124,12 +124,12 @@ module _ (keys : List Key) where
       by true h k = h
       by false h k = k
 
-  factors_stay : (terms : List (Key × ℤ)) → are_factors terms ≡ true → are_coefficients (numbered keys terms) ≡ true
+  factors_stay : (terms : List (Variable × ℤ)) → are_factors terms ≡ true → are_coefficients (numbered variables terms) ≡ true
   unfolding numbered
   factors_stay [] h = refl
   factors_stay (t ∷ terms) h =
       let parts = both_true (is_coefficient t.1) (are_factors terms) h in
-      inserted (place keys t.0, t.1) (numbered keys terms) parts.0 (factors_stay terms parts.1)
+      inserted (place variables t.0, t.1) (numbered variables terms) parts.0 (factors_stay terms parts.1)
 
   one_longer : (term : ℕ × ℤ) (terms : List (ℕ × ℤ)) → length (insert term terms) ≡ suc (length terms)
   unfolding insert
@@ -141,19 +141,19 @@ module _ (keys : List Key) where
       by true h = h
       by false h = refl
 
-  as_many : (terms : List (Key × ℤ)) → length (numbered keys terms) ≡ length terms
+  as_many : (terms : List (Variable × ℤ)) → length (numbered variables terms) ≡ length terms
   unfolding numbered
   as_many [] = refl
-  as_many (t ∷ terms) = one_longer (place keys t.0, t.1) (numbered keys terms) ∙ ap suc (as_many terms)
+  as_many (t ∷ terms) = one_longer (place variables t.0, t.1) (numbered variables terms) ∙ ap suc (as_many terms)
 
   abbrev Keeps : Fact → Type 0
-  Keeps f = light_fact f ≡ true → is_light (formula_of keys f) ≡ true
+  Keeps f = light_fact f ≡ true → is_light (formula_of variables f) ≡ true
 
   abbrev facts_in : List ((f : Fact) × Keeps f) → List Fact
   facts_in ms = map (λ (m : (f : Fact) × Keeps f). m.0) ms
 
   members_keep : (ms : List ((f : Fact) × Keeps f)) → every (map light_fact (facts_in ms)) ≡ true
-      → every (map is_light (map (formula_of keys) (facts_in ms))) ≡ true
+      → every (map is_light (map (formula_of variables) (facts_in ms))) ≡ true
   members_keep [] h = refl
   members_keep (m ∷ ms) h =
       let parts = both_true (light_fact m.0) (every (map light_fact (facts_in ms))) h in
@@ -164,19 +164,19 @@ module _ (keys : List Key) where
   on_atom draft h =
       let light = sym (fold-roll-Fact Bool light_fact_step (Fact-F.Atom draft)) ∙ h in
       let parts = both_true (nat_le (length draft.terms) 64) (are_factors draft.terms) light in
-      ap is_light (fold-roll-Fact Formula (formula_step keys) (Fact-F.Atom draft)) ∙ folds-Atom Bool light_step _
+      ap is_light (fold-roll-Fact Formula (formula_step variables) (Fact-F.Atom draft)) ∙ folds-Atom Bool light_step _
       ∙ both _ _ (ap (λ n. nat_le n 64) (as_many draft.terms) ∙ parts.0) (factors_stay draft.terms parts.1)
 
   on_all : (ms : List ((f : Fact) × Keeps f)) → Keeps (roll-Fact (Fact-F.All (facts_in ms)))
   unfolding formula_of
   on_all ms h =
-      ap is_light (fold-roll-Fact Formula (formula_step keys) (Fact-F.All (facts_in ms))) ∙ folds-All Bool light_step _
+      ap is_light (fold-roll-Fact Formula (formula_step variables) (Fact-F.All (facts_in ms))) ∙ folds-All Bool light_step _
       ∙ members_keep ms (sym (fold-roll-Fact Bool light_fact_step (Fact-F.All (facts_in ms))) ∙ h)
 
   on_any : (ms : List ((f : Fact) × Keeps f)) → Keeps (roll-Fact (Fact-F.Any (facts_in ms)))
   unfolding formula_of
   on_any ms h =
-      ap is_light (fold-roll-Fact Formula (formula_step keys) (Fact-F.Any (facts_in ms))) ∙ folds-Any Bool light_step _
+      ap is_light (fold-roll-Fact Formula (formula_step variables) (Fact-F.Any (facts_in ms))) ∙ folds-Any Bool light_step _
       ∙ members_keep ms (sym (fold-roll-Fact Bool light_fact_step (Fact-F.Any (facts_in ms))) ∙ h)
 
   on_layer : (y : Fact-F ((f : Fact) × Keeps f)) (x : Fact-F Fact) → map-Fact ((f : Fact) × Keeps f) Fact (λ m. m.0) y ≡ x → Keeps (roll-Fact x)
@@ -187,7 +187,7 @@ module _ (keys : List Key) where
   keeps : (f : Fact) → Keeps f
   keeps = ind-Fact Keeps (λ x y is. on_layer y x is)
 
-  formulas_light : (fs : List Fact) → AreLight fs → every (map is_light (map (formula_of keys) fs)) ≡ true
+  formulas_light : (fs : List Fact) → AreLight fs → every (map is_light (map (formula_of variables) fs)) ≡ true
   formulas_light [] h = refl
   formulas_light (f ∷ fs) h = both _ _ (keeps f h.0) (formulas_light fs h.1)
 
@@ -196,7 +196,7 @@ unfolding gap
 gaps_are_light g marks rule alt =
     let fs : List Fact = rule_gap g marks (rule_at g rule) (alt_at g (rule, alt)) in
     let light = of_rule_gap (λ f. light_fact f ≡ true) is_sure g marks (rule_at g rule) (alt_at g (rule, alt)) in
-    folds-All Bool light_step (map (formula_of (keys_of fs)) fs) ∙ formulas_light (keys_of fs) fs light
+    folds-All Bool light_step (map (formula_of (variables_of fs)) fs) ∙ formulas_light (variables_of fs) fs light
 
 -- ---- bounds
 
@@ -206,16 +206,16 @@ limits b = if b then (pos 0, pos 1073741824) else (negsuc 9223372036854775807, p
 first_is : (a b : ℤ × ℤ) → Some a ≡ Some b → a ≡ b
 first_is a b e = cc
 
-bounds_ordered : (keys : List Key) → AreOrdered (map bounds_of keys)
+bounds_ordered : (variables : List Variable) → AreOrdered (map bounds_of variables)
 bounds_ordered [] x low high e = absurd (cc)
-bounds_ordered (key ∷ keys) zero low high e =
-    by (same_key key (whole caller_side) || same_key key (whole holder_side)) (low, high) (first_is (bounds_of key) (low, high) e)
+bounds_ordered (variable ∷ variables) zero low high e =
+    by (same_variable variable (whole caller_side) || same_variable variable (whole holder_side)) (low, high) (first_is (bounds_of variable) (low, high) e)
   where
     by : (b : Bool) → (bounds : ℤ × ℤ) → limits b ≡ bounds → bounds.0 ≤ℤ bounds.1
     by true bounds is = let l = ap (λ (c : ℤ × ℤ). c.0) is in let h = ap (λ (c : ℤ × ℤ). c.1) is in omega (arith, ints, l, h)
     by false bounds is = let l = ap (λ (c : ℤ × ℤ). c.0) is in let h = ap (λ (c : ℤ × ℤ). c.1) is in omega (arith, ints, l, h)
-bounds_ordered (key ∷ keys) (suc x) low high e = bounds_ordered keys x low high e
+bounds_ordered (variable ∷ variables) (suc x) low high e = bounds_ordered variables x low high e
 
 pub gaps_are_ordered : GapsAreOrdered
 unfolding gap
-gaps_are_ordered g marks rule alt = bounds_ordered (keys_of (rule_gap g marks (rule_at g rule) (alt_at g (rule, alt))))
+gaps_are_ordered g marks rule alt = bounds_ordered (variables_of (rule_gap g marks (rule_at g rule) (alt_at g (rule, alt))))

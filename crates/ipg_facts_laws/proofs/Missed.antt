@@ -11,13 +11,13 @@ use Rattle.ipg_core.specs.Meaning.{environment, kids_done}
 use Rattle.ipg_core.specs.MustTouch.{Marks}
 use Rattle.ipg_core.specs.Grown.{IsInput}
 use Rattle.ipg_core.specs.Laws.{LiesWithin, TouchingTouches}
-use Rattle.ipg_facts.specs.declared.fact.Fact.{Fact}
+use Rattle.ipg_facts_forms.specs.declared.fact.Fact.{Fact}
 use Rattle.ipg_facts.specs.declared.edition.Edition.TheVariants.{Later}
-use Rattle.ipg_facts.specs.Key.{whole, caller_side}
-use Rattle.ipg_facts.specs.Form.{leq, less}
+use Rattle.ipg_facts_variables.specs.Variable.{whole, caller_side}
+use Rattle.ipg_facts_forms.specs.Form.{leq, less}
 use Rattle.ipg_facts.specs.Reading.{Scope, length_of, nought}
 use Rattle.ipg_facts.specs.Keep.{opening, holder_facts, alt_at}
-use Rattle.ipg_facts.specs.Numbers.{keys_in, keys_of, all_of}
+use Rattle.ipg_facts_forms.specs.Numbers.{variables_in, variables_of, all_of}
 use Rattle.ipg_facts.specs.Gap.{point_side, point, gap_terms, is_place, gap_facts, rule_gap, gap}
 use Rattle.ipg_facts_laws.specs.Known.{AreSo, Stands}
 use Rattle.ipg_facts_laws.specs.Laws.{Solves}
@@ -25,7 +25,7 @@ use Rattle.ipg_facts_laws.specs.Finished.{frame_at, Finished, IsNumber, FitsEnd}
 use Rattle.ipg_facts_laws.specs.Missed.{Misses, SolvesGap, AllMissedSolve}
 use Rattle.ipg_facts_laws.proofs.Forms.{so_append, so_leq, so_less}
 use Rattle.ipg_facts_laws.proofs.Relate.{stands_nought, stands_length}
-use Rattle.ipg_facts_laws.proofs.Numbering.{key_at, first_stays, solved_by}
+use Rattle.ipg_facts_laws.proofs.Numbering.{variable_at, first_stays, solved_by}
 use Rattle.ipg_facts_laws.proofs.Holders.{alt_is}
 use Rattle.ipg_facts_laws.proofs.Seconds.{facts_second}
 use Rattle.ipg_facts_laws.proofs.Misses.{stands_point, terms_missed}
@@ -87,20 +87,21 @@ module _ (g : Grammar) (marks : Marks) (at : ℕ × ℕ) (s : List ℕ) (outer :
       ap (λ o. rule_gap g marks o (alt_at g at)) end.is_at.is_rule
       ∙ ap (λ o. rule_gap g marks (Some end.rule) o) (alt_is g at end.rule end.alt end.is_at)
 
-  its_place : key_at (keys_of (gap_facts g marks end.rule.holder end.alt)) 1 ≡ whole point_side
-  its_place = ap (λ key. unwrap_or key (whole caller_side)) (facts_second g marks end.rule.holder end.alt)
+  its_place : variable_at (variables_of (gap_facts g marks end.rule.holder end.alt)) 1 ≡ whole point_side
+  its_place = ap (λ variable. unwrap_or variable (whole caller_side)) (facts_second g marks end.rule.holder end.alt)
 
-  its_length : key_at (keys_of (gap_facts g marks end.rule.holder end.alt)) 0 ≡ whole caller_side
-  unfolding keys_of
-  its_length = first_stays (flat_map keys_in (gap_facts g marks end.rule.holder end.alt)) [] (whole caller_side)
+  its_length : variable_at (variables_of (gap_facts g marks end.rule.holder end.alt)) 0 ≡ whole caller_side
+  unfolding variables_of
+  its_length = first_stays (flat_map variables_in (gap_facts g marks end.rule.holder end.alt)) [] (whole caller_side)
 
   solution : SolvesGap g marks at (length s) place
   unfolding gap
   solution =
       let these : List Fact = gap_facts g marks end.rule.holder end.alt in
       record {
-        values = λ x. fit.values (key_at (keys_of these) x);
-        solves = subst (λ fs. Solves (λ x. fit.values (key_at (keys_of these) x)) (all_of fs)) (sym these_facts) (solved_by fit.values these fit.ranged all_so);
+        values = λ x. fit.values (variable_at (variables_of these) x);
+        solves = subst (λ fs. Solves (λ x. fit.values (variable_at (variables_of these) x)) (all_of fs)) (sym these_facts)
+            (solved_by fit.values these fit.ranged all_so);
         is_length = ap fit.values its_length ∙ fit.size;
         is_place = ap fit.values its_place ∙ fit.place;
       }

@@ -17,10 +17,10 @@ use Rattle.ipg_core.specs.Tree.{Kid, Sub, Token, Number, Raw}
 use Rattle.ipg_core.specs.Touch.{width}
 use Rattle.ipg_core.specs.Environment.{Environment, Done, done_at}
 use Rattle.ipg_core.specs.Eval.{eval, is_zero}
-use Rattle.ipg_facts.specs.declared.fact.Form.{Form}
-use Rattle.ipg_facts.specs.declared.fact.Fact.{Fact}
-use Rattle.ipg_facts.specs.Key.{whole}
-use Rattle.ipg_facts.specs.Form.{shifted, leq, less}
+use Rattle.ipg_facts_forms.specs.declared.fact.Form.{Form}
+use Rattle.ipg_facts_forms.specs.declared.fact.Fact.{Fact}
+use Rattle.ipg_facts_variables.specs.Variable.{whole}
+use Rattle.ipg_facts_forms.specs.Form.{shifted, leq, less}
 use Rattle.ipg_facts.specs.Reading.{Scope, read, form}
 use Rattle.ipg_facts.specs.Members.{slot_members, passed}
 use Rattle.ipg_facts.specs.Gap.{point_side, point, misses_first, misses_all, primitive_misses, misses, slot_misses, slot_gap, gap_branches}
@@ -30,7 +30,7 @@ use Rattle.ipg_facts_laws.specs.Known.{AreSo, Stands, Fits, IsResult}
 use Rattle.ipg_facts_laws.specs.Ran.{SlotRan, Chosen, PickRan, AtRan, AllRan}
 use Rattle.ipg_facts_laws.specs.Missed.{IsOutside, Misses}
 use Rattle.ipg_facts_laws.proofs.Forms.{stands_shifted, so_append, so_leq, so_less, so_first, so_second}
-use Rattle.ipg_facts_laws.proofs.Relate.{stands_key, known}
+use Rattle.ipg_facts_laws.proofs.Relate.{stands_variable, known}
 use Rattle.ipg_facts_laws.proofs.Slots.{so_slot}
 use Rattle.ipg_facts_laws.proofs.Ran.{or_true, one_so, any_so, at_so, passed_fits, passed_ran}
 
@@ -38,7 +38,7 @@ use Rattle.ipg_facts_laws.proofs.Ran.{or_true, one_so, any_so, at_so, passed_fit
 
 module _ (v : Valuation) (place : ℕ) (is_place : v (whole point_side) ≡ pos place) where
   pub stands_point : Stands v point (pos place)
-  stands_point = stands_key v (whole point_side) [] (pos place) refl is_place
+  stands_point = stands_variable v (whole point_side) [] (pos place) refl is_place
 
   all_missed : (l r : Form) (a b : ℕ) → Stands v l (pos a) → Stands v r (pos b) → IsOutside a b place → AreSo v (misses_all l r)
   unfolding misses_all

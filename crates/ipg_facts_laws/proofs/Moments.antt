@@ -23,7 +23,7 @@ use Rattle.ipg_core.specs.Mention.{Mention, mentions}
 use Rattle.ipg_core.specs.MustTouch.{Marks}
 use Rattle.ipg_core.specs.Order.{is_taken}
 use Rattle.ipg_facts_laws.specs.Grows.{Grows, IsSettled}
-use Rattle.ipg_facts.specs.declared.key.Side.{Side}
+use Rattle.ipg_facts_variables.specs.declared.variable.Side.{Side}
 use Rattle.ipg_facts.specs.Reading.{item_of}
 use Rattle.ipg_facts_laws.specs.Ran.{Turns, CallsWhole}
 use Rattle.ipg_facts_laws.specs.Reached.{ItemCalls, CallsAt}

@@ -2,15 +2,16 @@
 use Rattle.std.proofs.Common.{◌≡◌, ℕ, ◌+◌, Bool, true, false, ◌&&◌, List, [], ◌∷◌, map, refl, sym, ap, subst, ◌∙◌}
 use Rattle.std.specs.List.{AllByRecursion}
 use Rattle.ipg_facts.specs.declared.edition.Edition.TheVariants.{Later}
-use Rattle.ipg_facts.specs.declared.fact.Fact.{Fact, roll-Fact, map-Fact, fold-Fact, fold-roll-Fact, ind-Fact}
-use Rattle.ipg_facts.specs.declared.fact.Fact.TheVariants as facts
-use Rattle.ipg_facts.specs.declared.fact.Fact.TheOpen.{Fact-F}
-use Rattle.ipg_facts.specs.declared.fact.Draft.{Draft}
-use Rattle.ipg_facts.specs.declared.key.Key.{Key}
+use Rattle.ipg_facts_forms.specs.declared.fact.Fact.{Fact, roll-Fact, map-Fact, fold-Fact, fold-roll-Fact, ind-Fact}
+use Rattle.ipg_facts_forms.specs.declared.fact.Fact.TheVariants as facts
+use Rattle.ipg_facts_forms.specs.declared.fact.Fact.TheOpen.{Fact-F}
+use Rattle.ipg_facts_forms.specs.declared.fact.Draft.{Draft}
+use Rattle.ipg_facts_variables.specs.declared.variable.Variable.{Variable}
 use Rattle.ipg_facts.specs.Members.{members}
 use Rattle.ipg_facts.specs.Keep.{edge_facts}
-use Rattle.ipg_facts.specs.Numbers.{keys_of, formula_of, formula_step, keep}
-use Rattle.ipg_facts.specs.Joint.{apart, apart_step, parts_apart, own_variables, joint}
+use Rattle.ipg_facts_forms.specs.Numbers.{variables_of, formula_of, formula_step}
+use Rattle.ipg_facts.specs.Keep.{keep}
+use Rattle.ipg_facts_forms.specs.Joint.{apart, apart_step, parts_apart, own_variables, joint}
 use Rattle.ipg_lin.specs.Form as lin
 use Rattle.ipg_lin.specs.Formula.{every}
 use Rattle.ipg_lin.specs.Members.{by_members, folds-Atom, folds-All, folds-Any}
@@ -53,35 +54,35 @@ offers_any f fs h =
 is_sure : IsSure (λ f. offers_fact f ≡ true)
 is_sure = record { atom = λ a e. offers_atom (drafted a); all = offers_all; any = offers_any }
 
--- ---- numbers in place of keys
+-- ---- numbers in place of variables
 
-module _ (keys : List Key) where
+module _ (variables : List Variable) where
   abbrev Keeps : Fact → Type 0
-  Keeps f = offers (formula_of keys f) ≡ offers_fact f
+  Keeps f = offers (formula_of variables f) ≡ offers_fact f
 
   abbrev facts_in : List ((f : Fact) × Keeps f) → List Fact
   facts_in ms = map (λ (m : (f : Fact) × Keeps f). m.0) ms
 
-  members_keep : (ms : List ((f : Fact) × Keeps f)) → map offers (map (formula_of keys) (facts_in ms)) ≡ map offers_fact (facts_in ms)
+  members_keep : (ms : List ((f : Fact) × Keeps f)) → map offers (map (formula_of variables) (facts_in ms)) ≡ map offers_fact (facts_in ms)
   members_keep [] = refl
   members_keep (m ∷ ms) = rw (m.1) (ap (λ bs. offers_fact m.0 ∷ bs) (members_keep ms))
 
   on_atom : (draft : Draft) → Keeps (roll-Fact (Fact-F.Atom draft))
   unfolding formula_of
   on_atom draft =
-      ap offers (fold-roll-Fact Formula (formula_step keys) (Fact-F.Atom draft)) ∙ folds-Atom Bool offers_step _
+      ap offers (fold-roll-Fact Formula (formula_step variables) (Fact-F.Atom draft)) ∙ folds-Atom Bool offers_step _
       ∙ sym (fold-roll-Fact Bool offers_fact_step (Fact-F.Atom draft))
 
   on_all : (ms : List ((f : Fact) × Keeps f)) → Keeps (roll-Fact (Fact-F.All (facts_in ms)))
   unfolding formula_of
   on_all ms =
-      ap offers (fold-roll-Fact Formula (formula_step keys) (Fact-F.All (facts_in ms))) ∙ folds-All Bool offers_step _
+      ap offers (fold-roll-Fact Formula (formula_step variables) (Fact-F.All (facts_in ms))) ∙ folds-All Bool offers_step _
       ∙ ap every (members_keep ms) ∙ sym (fold-roll-Fact Bool offers_fact_step (Fact-F.All (facts_in ms)))
 
   on_any : (ms : List ((f : Fact) × Keeps f)) → Keeps (roll-Fact (Fact-F.Any (facts_in ms)))
   unfolding formula_of
   on_any ms =
-      ap offers (fold-roll-Fact Formula (formula_step keys) (Fact-F.Any (facts_in ms))) ∙ folds-Any Bool offers_step _
+      ap offers (fold-roll-Fact Formula (formula_step variables) (Fact-F.Any (facts_in ms))) ∙ folds-Any Bool offers_step _
       ∙ ap some_and_every (members_keep ms) ∙ sym (fold-roll-Fact Bool offers_fact_step (Fact-F.Any (facts_in ms)))
 
   on_layer : (y : Fact-F ((f : Fact) × Keeps f)) (x : Fact-F Fact) → map-Fact ((f : Fact) × Keeps f) Fact (λ m. m.0) y ≡ x → Keeps (roll-Fact x)
@@ -92,7 +93,7 @@ module _ (keys : List Key) where
   keeps : (f : Fact) → Keeps f
   keeps = ind-Fact Keeps (λ x y is. on_layer y x is)
 
-  formulas_offer : (fs : List Fact) → Offer fs → every (map offers (map (formula_of keys) fs)) ≡ true
+  formulas_offer : (fs : List Fact) → Offer fs → every (map offers (map (formula_of variables) fs)) ≡ true
   formulas_offer [] h = refl
   formulas_offer (f ∷ fs) h = both _ _ (keeps f ∙ h.0) (formulas_offer fs h.1)
 
@@ -100,7 +101,8 @@ pub conditions_offer : ConditionsOffer
 unfolding keep
 conditions_offer g marks e =
     let fs : List Fact = edge_facts g marks Later e in
-    folds-All Bool offers_step (map (formula_of (keys_of fs)) fs) ∙ formulas_offer (keys_of fs) fs (of_edge (λ f. offers_fact f ≡ true) is_sure g marks Later e)
+    folds-All Bool offers_step (map (formula_of (variables_of fs)) fs)
+    ∙ formulas_offer (variables_of fs) fs (of_edge (λ f. offers_fact f ≡ true) is_sure g marks Later e)
 
 -- ---- parts together
 

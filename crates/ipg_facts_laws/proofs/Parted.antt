@@ -8,7 +8,7 @@ use Rattle.ipg_lin.specs.Formula.{holds_at, every, LiesIn}
 use Rattle.ipg_lin.specs.declared.formula.Formula.{Formula}
 use Rattle.ipg_lin.specs.declared.formula.Formula.TheVariants as formula
 use Rattle.ipg_lin.specs.declared.formula.Boxed.{Boxed}
-use Rattle.ipg_facts.specs.Joint.{moved, parts_apart, own_variables, joint}
+use Rattle.ipg_facts_forms.specs.Joint.{moved, parts_apart, own_variables, joint}
 use Rattle.ipg_facts_laws.specs.Laws.{AllSolved, ArePartsWith, JointSolvesParts}
 use Rattle.ipg_facts_laws.proofs.Joints.{is_apart, own_bound, holds_all, is_true, truly}
 

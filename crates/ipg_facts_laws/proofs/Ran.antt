@@ -3,7 +3,7 @@ use Rattle.std.proofs.Common.{◌≡◌, ℕ, zero, suc, ◌≤◌, ◌^◌, Boo
 use Rattle.std.proofs.Common.{Option, Some, None, ◌⊎◌, inl, inr, if◌then◌else◌, nat_lt}
 use Rattle.std.specs.Prelude.{slice_get, slice_set}
 use Rattle.ipg_core.specs.declared.grammar.Sym.{Sym}
-use Rattle.ipg_facts.specs.declared.fact.Bounds.{Bounds}
+use Rattle.ipg_facts.specs.declared.bounds.Bounds.{Bounds}
 use Rattle.ipg_lin.specs.Formula.{some}
 use Rattle.ipg_num.specs.declared.op.Answer.TheVariants.{Val}
 use Rattle.ipg_core.specs.declared.grammar.CoreExpr.{CoreExpr}
@@ -13,10 +13,10 @@ use Rattle.ipg_core.specs.declared.grammar.CoreTerm.TheVariants.{Slot, Set, Test
 use Rattle.ipg_core.specs.Environment.{Environment, done_at, items_so_far}
 use Rattle.ipg_core.specs.Eval.{eval, is_zero, greatest_end}
 use Rattle.ipg_facts_laws.proofs.Answers.{is_limited}
-use Rattle.ipg_facts.specs.declared.fact.Fact.{Fact}
-use Rattle.ipg_facts.specs.declared.fact.Fact.TheVariants as facts
-use Rattle.ipg_facts.specs.Key.{attribute, loop}
-use Rattle.ipg_facts.specs.Form.{variable, equal, leq, less}
+use Rattle.ipg_facts_forms.specs.declared.fact.Fact.{Fact}
+use Rattle.ipg_facts_forms.specs.declared.fact.Fact.TheVariants as facts
+use Rattle.ipg_facts_variables.specs.Variable.{attribute, loop}
+use Rattle.ipg_facts_forms.specs.Form.{mention, equal, leq, less}
 use Rattle.ipg_facts.specs.declared.edition.Edition.{Edition}
 use Rattle.ipg_facts.specs.declared.edition.Edition.TheVariants.{Earlier, Later}
 use Rattle.ipg_facts.specs.Reading.{Scope, length_of, nought, read, form, least_width, item_of, item_at, if_there}
@@ -27,7 +27,7 @@ use Rattle.ipg_facts_laws.specs.Known.{AreSo, Stands, Fits, IsBehind}
 use Rattle.ipg_facts_laws.specs.Ran.{SlotRan, Chosen, PickRan, TermRan, ArrayRan, AreBetween, AtRan, AllRan, IsWholeCall, Turns, TakesWhole, CallsWhole}
 use Rattle.ipg_facts_laws.specs.Laws.{MembersAreKnown, OwnMembersAreKnown, TermsAreKnown}
 use Rattle.ipg_facts_laws.proofs.Forms.{so_append, so_equal, so_leq, so_less, all_is, any_is}
-use Rattle.ipg_facts_laws.proofs.Relate.{stands_nought, stands_key, stands_length, known}
+use Rattle.ipg_facts_laws.proofs.Relate.{stands_nought, stands_variable, stands_length, known}
 use Rattle.ipg_facts_laws.proofs.Slots.{so_slot, so_valid}
 
 pub or_true : (a b : Bool) → b ≡ true → a || b ≡ true
@@ -70,8 +70,8 @@ module _ (v : Valuation) (scope : Scope) (env : Environment) (fits : Fits v scop
     unfolding members
     members_so (Slot slot) ran = so_slot v scope env fits size number slot ran
     members_so (Set attr e) ran =
-        so_equal v (variable (attribute scope.side attr) []) (form scope e) ran.0 ran.0
-        (stands_key v (attribute scope.side attr) [] ran.0 refl (fits.own attr ran.0 ran.2 (is_limited e env ran.0 ran.1)))
+        so_equal v (mention (attribute scope.side attr) []) (form scope e) ran.0 ran.0
+        (stands_variable v (attribute scope.side attr) [] ran.0 refl (fits.own attr ran.0 ran.2 (is_limited e env ran.0 ran.1)))
         (known v scope env fits e ran.0 ran.1).form refl
     members_so (Test e) ran = (known v scope env fits e ran.0 ran.1).holds ran.2
     members_so (Repeat first last item from to) ran = refl
@@ -91,10 +91,10 @@ module _ (v : Valuation) (scope : Scope) (env : Environment) (fits : Fits v scop
   runs_so : (first last : CoreExpr) → Turns env first last → AreSo v (runs scope first last)
   unfolding runs
   runs_so first last t =
-      let i : Stands v (variable (loop scope.side) []) t.turn = stands_key v (loop scope.side) [] t.turn refl (fits.turn t.turn t.is_turn t.number) in
-      so_append v (leq (form scope first) (variable (loop scope.side) [])) (less (variable (loop scope.side) []) (form scope last))
-      (so_leq v (form scope first) (variable (loop scope.side) []) t.a t.turn (known v scope env fits first t.a t.is_first).form i t.begun)
-      (so_less v (variable (loop scope.side) []) (form scope last) t.turn t.b i (known v scope env fits last t.b t.is_last).form t.ends)
+      let i : Stands v (mention (loop scope.side) []) t.turn = stands_variable v (loop scope.side) [] t.turn refl (fits.turn t.turn t.is_turn t.number) in
+      so_append v (leq (form scope first) (mention (loop scope.side) [])) (less (mention (loop scope.side) []) (form scope last))
+      (so_leq v (form scope first) (mention (loop scope.side) []) t.a t.turn (known v scope env fits first t.a t.is_first).form i t.begun)
+      (so_less v (mention (loop scope.side) []) (form scope last) t.turn t.b i (known v scope env fits last t.b t.is_last).form t.ends)
 
   takes_so : (cases : List (CoreExpr × CoreSlot)) (other : CoreSlot) (b : ℕ) → TakesWhole env cases other b → AreSo v (takes scope cases other b)
   unfolding takes

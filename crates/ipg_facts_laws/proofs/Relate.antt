@@ -19,22 +19,22 @@ use Rattle.ipg_core.specs.Grammar.{name_at}
 use Rattle.ipg_core.specs.Environment.{Environment, done_at, items_so_far, field_of_item}
 use Rattle.ipg_core.specs.Eval as core
 use Rattle.ipg_core.specs.Eval.{eval, on_value, found, is_zero, behind, greatest_end, limited_reading}
-use Rattle.ipg_facts.specs.declared.fact.Form.{Form}
-use Rattle.ipg_facts.specs.declared.fact.Fact.{Fact}
-use Rattle.ipg_facts.specs.declared.fact.Bounds.{Bounds}
+use Rattle.ipg_facts_forms.specs.declared.fact.Form.{Form}
+use Rattle.ipg_facts_forms.specs.declared.fact.Fact.{Fact}
+use Rattle.ipg_facts.specs.declared.bounds.Bounds.{Bounds}
 use Rattle.ipg_facts.specs.declared.edition.Edition.{Edition}
 use Rattle.ipg_facts.specs.declared.edition.Edition.TheVariants.{Earlier, Later}
-use Rattle.ipg_facts.specs.declared.key.Key.{Key}
-use Rattle.ipg_facts.specs.Key.{whole, attribute, loop, field, value, holder_side}
-use Rattle.ipg_facts.specs.Form.{variable, number, plus, minus, scaled, shifted, is_constant, in_limits, leq, less, equal, differ, choice}
+use Rattle.ipg_facts_variables.specs.declared.variable.Variable.{Variable}
+use Rattle.ipg_facts_variables.specs.Variable.{whole, attribute, loop, field, value, holder_side}
+use Rattle.ipg_facts_forms.specs.Form.{mention, number, plus, minus, scaled, shifted, is_constant, in_limits, leq, less, equal, differ, choice}
 use Rattle.ipg_facts.specs.Reading.{Scope, Reading, length_of, opaque, nought, plain, least_width, item_at, greatest_of, ranges, item_facts, inside}
 use Rattle.ipg_facts.specs.Reading.{if_later, touching, after_facts, product, computed, limited, asserted, denied, reading, read}
 use Rattle.ipg_facts_laws.specs.Valued.{Valuation}
 use Rattle.ipg_facts_laws.specs.Known.{AreSo, Stands, Knows, IsRanged, IsItemField, IsPlace, IsBehind, Fits}
 use Rattle.ipg_facts_laws.specs.Laws.{ValuesAreKnown}
-use Rattle.ipg_facts.specs.Induct.{Sure, bare, induct}
+use Rattle.ipg_facts_variables.specs.Induct.{Sure, bare, induct}
 use Rattle.ipg_facts.specs.Said.{said_is}
-use Rattle.ipg_facts_laws.proofs.Forms.{stands_at, stands_number, stands_variable, stands_plus, stands_minus, stands_scaled, stands_negated}
+use Rattle.ipg_facts_laws.proofs.Forms.{stands_at, stands_number, stands_mention, stands_plus, stands_minus, stands_scaled, stands_negated}
 use Rattle.ipg_facts_laws.proofs.Forms.{stands_shifted, so_append, so_leq, so_less, so_equal, so_first, so_second, so_below, so_above, constant_value}
 use Rattle.ipg_facts_laws.proofs.Answers.{found_is, limited_is, Kept, kept, first_of, flag_is, not_true, not_false, eq_true, eq_false, lt_true, lt_false}
 use Rattle.ipg_facts_laws.proofs.Whole.{zero_times}
@@ -60,8 +60,8 @@ module _ (v : Valuation) where
     fails = λ e. so_equal v a nought z (pos 0) s stands_nought (zero_is z e);
   }
 
-  pub stands_key : (key : Key) (fs : List Fact) (z : ℤ) → AreSo v fs → v key ≡ z → Stands v (variable key fs) z
-  stands_key key fs z h e = stands_at v (variable key fs) (v key) z e (stands_variable v key fs h)
+  pub stands_variable : (variable : Variable) (fs : List Fact) (z : ℤ) → AreSo v fs → v variable ≡ z → Stands v (mention variable fs) z
+  stands_variable variable fs z h e = stands_at v (mention variable fs) (v variable) z e (stands_mention v variable fs h)
 
   stands_chosen : (b : Bool) (a o : Form) (z : ℤ) → Stands v a z → Stands v o z → Stands v (if b then a else o) z
   stands_chosen true a o z s t = s
@@ -75,8 +75,8 @@ module _ (v : Valuation) where
   pub stands_limited : (scope : Scope) (said : CoreExpr) (a : Option Form) (z : ℤ) → v (value scope.side said) ≡ z → StandsSome a z
       → Stands v (limited scope said a) z
   unfolding limited
-  stands_limited scope said None z e s = stands_key (value scope.side said) [] z refl e
-  stands_limited scope said (Some a) z e s = stands_chosen (in_limits a) a _ z s (stands_key (value scope.side said) [] z refl e)
+  stands_limited scope said None z e s = stands_variable (value scope.side said) [] z refl e
+  stands_limited scope said (Some a) z e s = stands_chosen (in_limits a) a _ z s (stands_variable (value scope.side said) [] z refl e)
 
   -- a form without variables has its constant's value
   constant_is : (a : Form) (x : ℤ) → is_constant a ≡ true → Stands v a x → a.constant ≡ x
@@ -116,19 +116,7 @@ module _ (v : Valuation) where
   stands_computed ops.Add a b x y z e s t = stands_at v (plus a b) (x +ℤ y) z (limited_is _ z e) (stands_plus v a b x y s t)
   stands_computed ops.Sub a b x y z e s t = stands_at v (minus a b) (x -ℤ y) z (limited_is _ z e) (stands_minus v a b x y s t)
   stands_computed ops.Mul a b x y z e s t = stands_product a b x y z s t (limited_is _ z e)
-  stands_computed ops.Div a b x y z e s t = tt
-  stands_computed ops.Mod a b x y z e s t = tt
-  stands_computed ops.Shl a b x y z e s t = tt
-  stands_computed ops.Shr a b x y z e s t = tt
-  stands_computed ops.BitAnd a b x y z e s t = tt
-  stands_computed ops.BitOr a b x y z e s t = tt
-  stands_computed ops.BitXor a b x y z e s t = tt
-  stands_computed ops.Eq a b x y z e s t = tt
-  stands_computed ops.Ne a b x y z e s t = tt
-  stands_computed ops.Lt a b x y z e s t = tt
-  stands_computed ops.Le a b x y z e s t = tt
-  stands_computed ops.Gt a b x y z e s t = tt
-  stands_computed ops.Ge a b x y z e s t = tt
+  stands_computed _ a b x y z e s t = tt
 
   -- what two forms are to one another
   module _ (a b : Form) (x y : ℤ) (s : Stands v a x) (t : Stands v b y) where
@@ -168,16 +156,7 @@ module _ (v : Valuation) where
   so_asserted ops.Le a b e x y z f s t u h = when_leq a b x y s t (not_false _ (int_le x y) (flag_is (int_le x y) z f) h)
   so_asserted ops.Gt a b e x y z f s t u h = when_less b a y x t s (not_false _ (int_lt y x) (flag_is (int_lt y x) z f) h)
   so_asserted ops.Ge a b e x y z f s t u h = when_leq b a y x t s (not_false _ (int_le y x) (flag_is (int_le y x) z f) h)
-  so_asserted ops.Add a b e x y z f s t u h = so_other e z u (not_zero z h)
-  so_asserted ops.Sub a b e x y z f s t u h = so_other e z u (not_zero z h)
-  so_asserted ops.Mul a b e x y z f s t u h = so_other e z u (not_zero z h)
-  so_asserted ops.Div a b e x y z f s t u h = so_other e z u (not_zero z h)
-  so_asserted ops.Mod a b e x y z f s t u h = so_other e z u (not_zero z h)
-  so_asserted ops.Shl a b e x y z f s t u h = so_other e z u (not_zero z h)
-  so_asserted ops.Shr a b e x y z f s t u h = so_other e z u (not_zero z h)
-  so_asserted ops.BitAnd a b e x y z f s t u h = so_other e z u (not_zero z h)
-  so_asserted ops.BitOr a b e x y z f s t u h = so_other e z u (not_zero z h)
-  so_asserted ops.BitXor a b e x y z f s t u h = so_other e z u (not_zero z h)
+  so_asserted _ a b e x y z f s t u h = so_other e z u (not_zero z h)
 
   so_nought : (e : Form) (z : ℤ) → Stands v e z → is_zero z ≡ true → AreSo v (equal e nought)
   so_nought e z u h = so_equal v e nought z (pos 0) u stands_nought (zero_is z h)
@@ -191,16 +170,7 @@ module _ (v : Valuation) where
   so_denied ops.Le a b e x y z f s t u h = when_above a b x y s t (not_true _ (int_le x y) (flag_is (int_le x y) z f) h)
   so_denied ops.Gt a b e x y z f s t u h = when_not_less b a y x t s (not_true _ (int_lt y x) (flag_is (int_lt y x) z f) h)
   so_denied ops.Ge a b e x y z f s t u h = when_above b a y x t s (not_true _ (int_le y x) (flag_is (int_le y x) z f) h)
-  so_denied ops.Add a b e x y z f s t u h = so_nought e z u h
-  so_denied ops.Sub a b e x y z f s t u h = so_nought e z u h
-  so_denied ops.Mul a b e x y z f s t u h = so_nought e z u h
-  so_denied ops.Div a b e x y z f s t u h = so_nought e z u h
-  so_denied ops.Mod a b e x y z f s t u h = so_nought e z u h
-  so_denied ops.Shl a b e x y z f s t u h = so_nought e z u h
-  so_denied ops.Shr a b e x y z f s t u h = so_nought e z u h
-  so_denied ops.BitAnd a b e x y z f s t u h = so_nought e z u h
-  so_denied ops.BitOr a b e x y z f s t u h = so_nought e z u h
-  so_denied ops.BitXor a b e x y z f s t u h = so_nought e z u h
+  so_denied _ a b e x y z f s t u h = so_nought e z u h
 
   pub so_ranges : (a : Form) (most : Option ℕ) (z : ℤ) → Stands v a z → IsRanged most z → AreSo v (ranges a most)
   unfolding ranges
@@ -215,10 +185,10 @@ module _ (v : Valuation) where
 
   module _ (scope : Scope) (env : Environment) (fits : Fits v scope env) where
     pub stands_length : Stands v (length_of scope) (pos env.eoi)
-    stands_length = stands_key (whole scope.side) [] (pos env.eoi) refl fits.length
+    stands_length = stands_variable (whole scope.side) [] (pos env.eoi) refl fits.length
 
     stands_opaque : (said : CoreExpr) (z : ℤ) → v (value scope.side said) ≡ z → Stands v (opaque scope said) z
-    stands_opaque said z e = stands_key (value scope.side said) [] z refl e
+    stands_opaque said z e = stands_variable (value scope.side said) [] z refl e
 
     so_item : (item : Option Sym) (f : CoreField) (a : Form) (z : ℤ) → Stands v a z → IsItemField scope env.eoi item f z → AreSo v (item_facts scope item f a)
     unfolding item_facts
@@ -330,7 +300,7 @@ module _ (v : Valuation) where
     abbrev conditional : CoreExpr → Reading → Reading → Reading → Reading
     conditional said c a b = record {
       said = said;
-      form = variable (value scope.side said) (choice (c.holds ++ equal (opaque scope said) a.form) (c.fails ++ equal (opaque scope said) b.form));
+      form = mention (value scope.side said) (choice (c.holds ++ equal (opaque scope said) a.form) (c.fails ++ equal (opaque scope said) b.form));
       holds = choice (c.holds ++ a.holds) (c.fails ++ b.holds);
       fails = choice (c.holds ++ a.fails) (c.fails ++ b.fails);
     }
@@ -341,7 +311,7 @@ module _ (v : Valuation) where
     cond_on false c a b one two said x z f k e l m h =
         let t = l e in
         record {
-          form = stands_key (value scope.side said) _ z
+          form = stands_variable (value scope.side said) _ z
               (so_first v (c.holds ++ equal (opaque scope said) a.form) (c.fails ++ equal (opaque scope said) b.form)
               (so_append v c.holds (equal (opaque scope said) a.form) (k.holds f)
               (so_equal v (opaque scope said) a.form z z (stands_opaque said z h) t.form refl))) h;
@@ -351,7 +321,7 @@ module _ (v : Valuation) where
     cond_on true c a b one two said x z f k e l m h =
         let t = m e in
         record {
-          form = stands_key (value scope.side said) _ z
+          form = stands_variable (value scope.side said) _ z
               (so_second v (c.holds ++ equal (opaque scope said) a.form) (c.fails ++ equal (opaque scope said) b.form)
               (so_append v c.fails (equal (opaque scope said) b.form) (k.fails f)
               (so_equal v (opaque scope said) b.form z z (stands_opaque said z h) t.form refl))) h;
@@ -366,17 +336,17 @@ module _ (v : Valuation) where
     layer (CoreExpr-F.Num n) z k h = knows_plain _ (number n) z (stands_at v (number n) n z (let e : Val n ≡ Val z = k.is in cc) (stands_number v n))
     layer CoreExpr-F.Eoi z k h =
         knows_plain _ (length_of scope) z (stands_at v (length_of scope) (pos env.eoi) z (let e : Val (pos env.eoi) ≡ Val z = k.is in cc) stands_length)
-    layer (CoreExpr-F.Own a) z k h = knows_plain _ _ z (stands_key (attribute scope.side a) [] z refl (fits.own a z (found_is _ z k.is) k.number))
-    layer (CoreExpr-F.Outer a) z k h = knows_plain _ _ z (stands_key (attribute holder_side a) [] z refl (fits.outer a z (found_is _ z k.is) k.number))
-    layer CoreExpr-F.Loop z k h = knows_plain _ _ z (stands_key (loop scope.side) [] z refl (fits.turn z (found_is _ z k.is) k.number))
+    layer (CoreExpr-F.Own a) z k h = knows_plain _ _ z (stands_variable (attribute scope.side a) [] z refl (fits.own a z (found_is _ z k.is) k.number))
+    layer (CoreExpr-F.Outer a) z k h = knows_plain _ _ z (stands_variable (attribute holder_side a) [] z refl (fits.outer a z (found_is _ z k.is) k.number))
+    layer CoreExpr-F.Loop z k h = knows_plain _ _ z (stands_variable (loop scope.side) [] z refl (fits.turn z (found_is _ z k.is) k.number))
     layer (CoreExpr-F.Seen term sym f) z k h =
-        knows_plain _ _ z (stands_key (field scope.names scope.side term f) [] z refl (fits.results term sym f z (found_is _ z k.is) k.number))
+        knows_plain _ _ z (stands_variable (field scope.names scope.side term f) [] z refl (fits.results term sym f z (found_is _ z k.is) k.number))
     layer (CoreExpr-F.Item term index f) z k h =
         let i = first_of (eval index.0 env) (λ i. found (field_of_item env.names f (core.item_at (items_so_far (done_at env.done term)) i))) z k.is in
-        knows_plain _ _ z (stands_key _ _ z
+        knows_plain _ _ z (stands_variable _ _ z
         (so_later scope.edition _ (so_item (item_at scope term) f _ z (stands_opaque _ z h) (fits.items term f i.first z (found_is _ z i.goes)))) h)
     layer (CoreExpr-F.After term left) z k h =
-        knows_plain _ _ z (stands_key _ _ z
+        knows_plain _ _ z (stands_variable _ _ z
         (so_after (touching scope term) (greatest_end (items_so_far (done_at env.done term))) _ (read scope left.0).form (eval left.0 env) z
         (fits.ends term) k.is (stands_opaque _ z h) (λ e. (left.1 z e).form)) h)
     layer (CoreExpr-F.Neg a) z k h =

@@ -8,17 +8,17 @@ use Rattle.ipg_core.specs.declared.grammar.CoreAlt.{CoreAlt}
 use Rattle.ipg_core.specs.declared.grammar.CoreRule.{CoreRule}
 use Rattle.ipg_core.specs.Grammar.{Grammar, rule_at}
 use Rattle.ipg_core.specs.MustTouch.{Marks}
-use Rattle.ipg_facts.specs.declared.fact.Draft.{Draft}
-use Rattle.ipg_facts.specs.declared.fact.Fact.{Fact, fold-roll-Fact}
-use Rattle.ipg_facts.specs.declared.fact.Fact.TheOpen.{Fact-F}
-use Rattle.ipg_facts.specs.declared.fact.Fact.TheVariants as facts
+use Rattle.ipg_facts_forms.specs.declared.fact.Draft.{Draft}
+use Rattle.ipg_facts_forms.specs.declared.fact.Fact.{Fact, fold-roll-Fact}
+use Rattle.ipg_facts_forms.specs.declared.fact.Fact.TheOpen.{Fact-F}
+use Rattle.ipg_facts_forms.specs.declared.fact.Fact.TheVariants as facts
 use Rattle.ipg_facts.specs.declared.edition.Edition.TheVariants.{Later}
-use Rattle.ipg_facts.specs.declared.key.Key.{Key}
-use Rattle.ipg_facts.specs.Key.{whole, caller_side, same_key}
-use Rattle.ipg_facts.specs.Form.{leq, less, at_most_zero, minus, plus, scaled, add_part, add_parts, facts_of, mentioned, bare, in_limits}
+use Rattle.ipg_facts_variables.specs.declared.variable.Variable.{Variable}
+use Rattle.ipg_facts_variables.specs.Variable.{whole, caller_side, same_variable}
+use Rattle.ipg_facts_forms.specs.Form.{leq, less, at_most_zero, minus, plus, scaled, add_part, add_parts, facts_of, mentioned, bare, in_limits}
 use Rattle.ipg_facts.specs.Reading.{Scope, nought, length_of}
 use Rattle.ipg_facts.specs.Keep.{opening, holder_facts, alt_of, alt_at}
-use Rattle.ipg_facts.specs.Numbers.{keys_in, keys_step, with_keys, keys_of, bounds_of}
+use Rattle.ipg_facts_forms.specs.Numbers.{variables_in, variables_step, with_variables, variables_of, bounds_of}
 use Rattle.ipg_facts.specs.Gap.{gap, gap_facts, rule_gap, gap_terms, is_place, point, point_side}
 use Rattle.ipg_facts_laws.specs.Gapped.{GapsAreBounded}
 use Rattle.ipg_facts_laws.proofs.Widths.{facts_are_part}
@@ -28,43 +28,45 @@ at_least_nought = record { terms = (whole point_side, negsuc 0) ∷ []; constant
 
 -- the first fact says that the place is at least 0
 begins : leq nought point ≡ facts.Atom at_least_nought ∷ []
-unfolding leq at_most_zero minus plus scaled add_part add_parts facts_of mentioned bare in_limits same_key
+unfolding leq at_most_zero minus plus scaled add_part add_parts facts_of mentioned bare in_limits same_variable
 begins = refl
 
-second_by : (b : Bool) (keys more : List Key) (m j k : Key) → ((keys : List Key) → slice_get (with_keys (j ∷ (k ∷ keys)) more) 1 ≡ Some k)
-    → slice_get (with_keys (if b then j ∷ (k ∷ keys) else (j ∷ (k ∷ keys)) ++ m ∷ []) more) 1 ≡ Some k
-second_by true keys more m j k f = f keys
-second_by false keys more m j k f = f (keys ++ m ∷ [])
+second_by : (b : Bool) (variables more : List Variable) (m j k : Variable)
+    → ((variables : List Variable) → slice_get (with_variables (j ∷ (k ∷ variables)) more) 1 ≡ Some k)
+    → slice_get (with_variables (if b then j ∷ (k ∷ variables) else (j ∷ (k ∷ variables)) ++ m ∷ []) more) 1 ≡ Some k
+second_by true variables more m j k f = f variables
+second_by false variables more m j k f = f (variables ++ m ∷ [])
 
-second_stays : (more keys : List Key) (j k : Key) → slice_get (with_keys (j ∷ (k ∷ keys)) more) 1 ≡ Some k
-second_stays [] keys j k = refl
-second_stays (m ∷ more) keys j k = second_by (list_any (same_key m) (j ∷ (k ∷ keys))) keys more m j k (λ keys. second_stays more keys j k)
+second_stays : (more variables : List Variable) (j k : Variable) → slice_get (with_variables (j ∷ (k ∷ variables)) more) 1 ≡ Some k
+second_stays [] variables j k = refl
+second_stays (m ∷ more) variables j k =
+    second_by (list_any (same_variable m) (j ∷ (k ∷ variables))) variables more m j k (λ variables. second_stays more variables j k)
 
-first_keys : keys_in (facts.Atom at_least_nought) ≡ whole point_side ∷ []
-unfolding keys_in
-first_keys = ap keys_in (sym (facts.rolls-Atom at_least_nought)) ∙ fold-roll-Fact (List Key) keys_step (Fact-F.Atom at_least_nought)
+first_variables : variables_in (facts.Atom at_least_nought) ≡ whole point_side ∷ []
+unfolding variables_in
+first_variables = ap variables_in (sym (facts.rolls-Atom at_least_nought)) ∙ fold-roll-Fact (List Variable) variables_step (Fact-F.Atom at_least_nought)
 
-second_key : (rest : List Fact) → slice_get (keys_of (facts.Atom at_least_nought ∷ rest)) 1 ≡ Some (whole point_side)
-unfolding keys_of same_key
-second_key rest =
-    ap (λ keys. slice_get (with_keys (whole caller_side ∷ []) (keys ++ flat_map keys_in rest)) 1) first_keys
-    ∙ second_stays (flat_map keys_in rest) [] (whole caller_side) (whole point_side)
+second_variable : (rest : List Fact) → slice_get (variables_of (facts.Atom at_least_nought ∷ rest)) 1 ≡ Some (whole point_side)
+unfolding variables_of same_variable
+second_variable rest =
+    ap (λ variables. slice_get (with_variables (whole caller_side ∷ []) (variables ++ flat_map variables_in rest)) 1) first_variables
+    ∙ second_stays (flat_map variables_in rest) [] (whole caller_side) (whole point_side)
 
 pub facts_second : (g : Grammar) (marks : Marks) (holder : Option (ℕ × ℕ)) (alt : CoreAlt)
-    → slice_get (keys_of (gap_facts g marks holder alt)) 1 ≡ Some (whole point_side)
+    → slice_get (variables_of (gap_facts g marks holder alt)) 1 ≡ Some (whole point_side)
 unfolding gap_facts is_place
 facts_second g marks holder alt =
     let scope : Scope = opening g marks Later caller_side alt in
     let rest : List Fact = holder_facts g marks holder alt ++ gap_terms scope alt.order in
-    ap (λ first. slice_get (keys_of ((first ++ less point (length_of scope)) ++ rest)) 1) begins
-    ∙ second_key (less point (length_of scope) ++ rest)
+    ap (λ first. slice_get (variables_of ((first ++ less point (length_of scope)) ++ rest)) 1) begins
+    ∙ second_variable (less point (length_of scope) ++ rest)
 
 rule_second : (g : Grammar) (marks : Marks) (rule : Option CoreRule) (number : ℕ) (found : CoreAlt) → alt_of rule number ≡ Some found
-    → slice_get (keys_of (rule_gap g marks rule (alt_of rule number))) 1 ≡ Some (whole point_side)
+    → slice_get (variables_of (rule_gap g marks rule (alt_of rule number))) 1 ≡ Some (whole point_side)
 unfolding rule_gap
 rule_second g marks None number found e = absurd (cc)
 rule_second g marks (Some rule) number found e =
-    ap (λ alt. slice_get (keys_of (rule_gap g marks (Some rule) alt)) 1) e ∙ facts_second g marks rule.holder found
+    ap (λ alt. slice_get (variables_of (rule_gap g marks (Some rule) alt)) 1) e ∙ facts_second g marks rule.holder found
 
 some_second : {A : Type 0} (xs : List A) (x : A) → slice_get xs 1 ≡ Some x → 1 < length xs
 some_second [] x e = absurd (cc)
@@ -76,6 +78,6 @@ unfolding gap
 gaps_are_bounded g marks rule alt found =
     let members : List Fact = rule_gap g marks (rule_at g rule) (alt_at g (rule, alt)) in
     let second = rule_second g marks (rule_at g rule) alt found.0 found.1 in
-    let size : length (map bounds_of (keys_of members)) ≡ length (keys_of members) = length-map (keys_of members) bounds_of in
-    let some : 1 < length (keys_of members) = some_second (keys_of members) (whole point_side) second in
+    let size : length (map bounds_of (variables_of members)) ≡ length (variables_of members) = length-map (variables_of members) bounds_of in
+    let some : 1 < length (variables_of members) = some_second (variables_of members) (whole point_side) second in
     record { bounded = (facts_are_part members).0.bounded; there = omega (arith, size, some); place = second }

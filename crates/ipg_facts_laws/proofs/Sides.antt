@@ -14,17 +14,17 @@ use Rattle.ipg_core.specs.MustTouch.{Marks, AreLimit}
 use Rattle.ipg_core.specs.Good.{AltAt, Good}
 use Rattle.ipg_core.specs.Grown.{IsInput, GrownUnder, Grown}
 use Rattle.ipg_core.specs.Laws.{LiesWithin, TouchingTouches}
-use Rattle.ipg_facts.specs.declared.key.Known.{Known}
-use Rattle.ipg_facts.specs.declared.key.Known.TheVariants.{Whole, Attribute}
-use Rattle.ipg_facts.specs.declared.key.Key.{Key}
-use Rattle.ipg_facts.specs.Key.{whole, attribute, caller_side, holder_side, same_key}
+use Rattle.ipg_facts_variables.specs.declared.variable.Quantity.{Quantity}
+use Rattle.ipg_facts_variables.specs.declared.variable.Quantity.TheVariants.{Whole, Attribute}
+use Rattle.ipg_facts_variables.specs.declared.variable.Variable.{Variable}
+use Rattle.ipg_facts_variables.specs.Variable.{whole, attribute, caller_side, holder_side, same_variable}
 use Rattle.ipg_facts.specs.Keep.{holder_facts}
 use Rattle.ipg_facts.specs.Gap.{point_side}
 use Rattle.ipg_facts_laws.specs.Valued.{Valuation}
 use Rattle.ipg_facts_laws.specs.Known.{AreSo, Fits}
 use Rattle.ipg_facts_laws.specs.Laws.{IsInRange}
 use Rattle.ipg_facts_laws.specs.Finished.{IsNumber}
-use Rattle.ipg_facts_laws.proofs.Valuing.{or_zero, small, clamped, clamped_is, of_known, key_of, values_of, are_numbers}
+use Rattle.ipg_facts_laws.proofs.Valuing.{or_zero, small, clamped, clamped_is, of_quantity, variable_of, values_of, are_numbers}
 use Rattle.ipg_facts_laws.proofs.Works.{first_scope, at_work, Results, work_fits}
 use Rattle.ipg_facts_laws.proofs.Holders.{Holder, holder_of_call}
 
@@ -54,15 +54,15 @@ module _ (lies : LiesWithin) (must : TouchingTouches) (g : Grammar) (good : Good
     env = environment (at_work g at s outer) end item
 
     values : Valuation
-    values key = if same_key key (whole point_side) then z else values_of env held_by.env key
+    values variable = if same_variable variable (whole point_side) then z else values_of env held_by.env variable
 
-    agrees : (known : Known) → values (key_of caller_side known) ≡ clamped (of_known env known)
-    unfolding values values_of same_key
-    agrees known = refl
+    agrees : (quantity : Quantity) → values (variable_of caller_side quantity) ≡ clamped (of_quantity env quantity)
+    unfolding values values_of same_variable
+    agrees quantity = refl
 
-    holder_agrees : (known : Known) → values (key_of holder_side known) ≡ clamped (of_known held_by.env known)
-    unfolding values values_of same_key
-    holder_agrees known = refl
+    holder_agrees : (quantity : Quantity) → values (variable_of holder_side quantity) ≡ clamped (of_quantity held_by.env quantity)
+    unfolding values values_of same_variable
+    holder_agrees quantity = refl
 
     outer_is : (a : ℕ) (y : ℤ) → value_at outer a ≡ Some y → limited y ≡ Val y → values (attribute holder_side a) ≡ y
     outer_is a y there n =
@@ -81,16 +81,16 @@ module _ (lies : LiesWithin) (must : TouchingTouches) (g : Grammar) (good : Good
     holder_size_is : values (whole holder_side) ≡ pos held_by.env.eoi
     holder_size_is = holder_agrees Whole ∙ clamped_is (pos held_by.env.eoi) (small held_by.env.eoi held_by.size)
 
-    number_if : (key : Key) (b : Bool) → IsNumber (if b then z else values_of env held_by.env key)
-    number_if key true = is_number
-    number_if key false = are_numbers env held_by.env key
+    number_if : (variable : Variable) (b : Bool) → IsNumber (if b then z else values_of env held_by.env variable)
+    number_if variable true = is_number
+    number_if variable false = are_numbers env held_by.env variable
 
-    numbers : (key : Key) → IsNumber (values key)
+    numbers : (variable : Variable) → IsNumber (values variable)
     unfolding values
-    numbers key = number_if key (same_key key (whole point_side))
+    numbers variable = number_if variable (same_variable variable (whole point_side))
 
     place_is : values (whole point_side) ≡ z
-    unfolding values same_key
+    unfolding values same_variable
     place_is = refl
 
     pub sides : Sides g marks at rule alt s outer end item z

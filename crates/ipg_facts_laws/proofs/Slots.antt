@@ -18,9 +18,9 @@ use Rattle.ipg_core.specs.Tree.{Tree, Kid, Sub, Token, Number, Raw, sym_of}
 use Rattle.ipg_core.specs.Touch.{Ends, width, untouched, moved, first_of, tree_ends, ends_of}
 use Rattle.ipg_core.specs.Environment.{Environment, Done, done_at, seen, field_of, number_attr}
 use Rattle.ipg_core.specs.MustTouch.{is_marked}
-use Rattle.ipg_facts.specs.declared.fact.Form.{Form}
-use Rattle.ipg_facts.specs.Key.{start, end, named}
-use Rattle.ipg_facts.specs.Form.{variable, leq, less, equal, shifted}
+use Rattle.ipg_facts_forms.specs.declared.fact.Form.{Form}
+use Rattle.ipg_facts_variables.specs.Variable.{start, end, named}
+use Rattle.ipg_facts_forms.specs.Form.{mention, leq, less, equal, shifted}
 use Rattle.ipg_facts.specs.Reading.{Scope, length_of, nought, greatest, ranges, form}
 use Rattle.ipg_facts.specs.Members.{is_valid, start_of, end_of, touches_none, touches_some, touches_first, touches_all, attr_ranges, number_ranges}
 use Rattle.ipg_facts.specs.Members.{text_touches, number_touches, primitive_touches, rule_touches, touches, on_interval, slot_members}
@@ -28,7 +28,7 @@ use Rattle.ipg_facts_laws.specs.Valued.{Valuation}
 use Rattle.ipg_facts_laws.specs.Known.{AreSo, Stands, Fits, IsRanged, AreRanged, IsTreeOf, IsResult}
 use Rattle.ipg_facts_laws.specs.Ran.{SlotRan}
 use Rattle.ipg_facts_laws.proofs.Forms.{stands_shifted, so_append, so_leq, so_less, so_equal, so_first, so_second}
-use Rattle.ipg_facts_laws.proofs.Relate.{stands_nought, stands_key, stands_length, so_ranges, known}
+use Rattle.ipg_facts_laws.proofs.Relate.{stands_nought, stands_variable, stands_length, so_ranges, known}
 
 same_nat : (n : ℕ) → nat_eq n n ≡ true
 same_nat n = grind (arith, nat_tests)
@@ -197,14 +197,15 @@ module _ (v : Valuation) (scope : Scope) (env : Environment) (fits : Fits v scop
 
   so_most : (most : Option ℕ) (term : ℕ) (d : Done) (from to : ℕ) (prim : Primitive) (high low : ℕ) (name : List ℕ) → greatest prim name ≡ most
       → done_at env.done term ≡ Some d → d.kid ≡ Number from to prim high low → AreRanged prim high low
-      → AreSo v (ranges (variable (named scope.side term name) []) most)
+      → AreSo v (ranges (mention (named scope.side term name) []) most)
   so_most None term d from to prim high low name g e f ranged =
-      so_ranges v (variable (named scope.side term name) []) None (v (named scope.side term name)) (stands_key v (named scope.side term name) [] _ refl refl) tt
+      so_ranges v (mention (named scope.side term name) []) None (v (named scope.side term name))
+      (stands_variable v (named scope.side term name) [] _ refl refl) tt
   so_most (Some n) term d from to prim high low name g e f ranged =
       let z = attr_there prim name high low n g in
       let within : IsRanged (Some n) z.0 = subst (λ o. IsRanged o z.0) g (ranged name z.0 z.1) in
-      so_ranges v (variable (named scope.side term name) []) (Some n) z.0
-      (stands_key v (named scope.side term name) [] z.0 refl
+      so_ranges v (mention (named scope.side term name) []) (Some n) z.0
+      (stands_variable v (named scope.side term name) [] z.0 refl
       (fits.numbers term d from to prim high low name z.0 e f z.1 (in_range n z.0 (most_of prim name n g) within))) within
 
   so_attr : (term : ℕ) (d : Done) (from to : ℕ) (prim : Primitive) (high low : ℕ) (name : List ℕ) → done_at env.done term ≡ Some d
@@ -238,13 +239,13 @@ module _ (v : Valuation) (scope : Scope) (env : Environment) (fits : Fits v scop
   begins_at : (term : ℕ) (d : Done) (x : ℕ) → done_at env.done term ≡ Some d → field_of env.names Start d.kid ≡ Some (pos x) → x ≤ env.eoi
       → Stands v (start_of scope term) (pos x)
   begins_at term d x e f h =
-      stands_key v (start scope.side term) [] (pos x) refl
+      stands_variable v (start scope.side term) [] (pos x) refl
       (fits.results term (sym_of d.kid) Start (pos x) (read_is term d None e ∙ f) (is_number x (let q : env.eoi ≤ 2 ^ 30 = size in omega arith)))
 
   ends_at_place : (term : ℕ) (d : Done) (x : ℕ) → done_at env.done term ≡ Some d → field_of env.names End d.kid ≡ Some (pos x) → x ≤ env.eoi
       → Stands v (end_of scope term) (pos x)
   ends_at_place term d x e f h =
-      stands_key v (end scope.side term) [] (pos x) refl
+      stands_variable v (end scope.side term) [] (pos x) refl
       (fits.results term (sym_of d.kid) End (pos x) (read_end term d e ∙ f) (is_number x (let q : env.eoi ≤ 2 ^ 30 = size in omega arith)))
 
   module _ (term : ℕ) (l r : Form) (a b : ℕ) (s : Stands v l (pos a)) (t : Stands v r (pos b)) (valid : a ≤ b) (inside : b ≤ env.eoi) where

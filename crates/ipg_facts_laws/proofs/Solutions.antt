@@ -1,4 +1,4 @@
--- A solution of a formula over numbers, as values by key.
+-- A solution of a formula over numbers, as values of variables.
 use Rattle.std.proofs.Common.{◌≡◌, suc, ◌+◌, Bool, true, false, not, cond, ◌||◌, List, [], ◌∷◌, map, refl, sym, ap, ◌∙◌, arith}
 use Rattle.std.proofs.Common.{ℤ, pos, negsuc, Some, if◌then◌else◌}
 use Rattle.std.specs.Prelude.{slice_get, flat_map, ◌≤ℤ◌}
@@ -13,16 +13,17 @@ use Rattle.ipg_core.specs.Grammar.{Grammar}
 use Rattle.ipg_core.specs.MustTouch.{Marks}
 use Rattle.ipg_graph.specs.declared.edge.Edge.{Edge}
 use Rattle.ipg_facts.specs.declared.edition.Edition.TheVariants.{Earlier, Later}
-use Rattle.ipg_facts.specs.declared.fact.Fact.{Fact}
-use Rattle.ipg_facts.specs.declared.key.Key.{Key}
-use Rattle.ipg_facts.specs.Key.{whole, caller_side, holder_side, same_key}
-use Rattle.ipg_facts.specs.Equality.{same_keys_are_equal}
+use Rattle.ipg_facts_forms.specs.declared.fact.Fact.{Fact}
+use Rattle.ipg_facts_variables.specs.declared.variable.Variable.{Variable}
+use Rattle.ipg_facts_variables.specs.Variable.{whole, caller_side, holder_side, same_variable}
+use Rattle.ipg_facts_variables.specs.Equality.{same_variables_are_equal}
 use Rattle.ipg_facts.specs.Keep.{edge_facts}
-use Rattle.ipg_facts.specs.Numbers.{keys_in, keys_of, place, bounds_of, all_of, keep, keep_before}
+use Rattle.ipg_facts_forms.specs.Numbers.{variables_in, variables_of, place, bounds_of, all_of}
+use Rattle.ipg_facts.specs.Keep.{keep, keep_before}
 use Rattle.ipg_facts_laws.specs.Valued.{Valuation, is_so}
 use Rattle.ipg_facts_laws.specs.Laws.{IsInRange, Solves, AllSolved}
-use Rattle.ipg_facts_laws.specs.Before.{Keyed, SolutionsHold, KeepsSolveBefore, JointsSolveBefore}
-use Rattle.ipg_facts_laws.proofs.Numbering.{keys_equal, keys_have, all_agree, facts_solve}
+use Rattle.ipg_facts_laws.specs.Before.{IsValued, SolutionsHold, KeepsSolveBefore, JointsSolveBefore}
+use Rattle.ipg_facts_laws.proofs.Numbering.{variables_equal, variables_have, all_agree, facts_solve}
 use Rattle.ipg_facts_laws.proofs.Sooner.{edges_give}
 use Rattle.ipg_facts_laws.proofs.Widths.{first_stays, facts_are_part, conditions_are_parts}
 use Rattle.ipg_facts_laws.proofs.Joints.{parts_solve_joint}
@@ -31,33 +32,36 @@ use Rattle.ipg_facts_laws.proofs.Parted.{joint_solves_parts}
 abbrev IsWithin : ℤ → ℤ × ℤ → Type 0
 IsWithin z b = (b.0 ≤ℤ z) × (z ≤ℤ b.1)
 
--- a key that is in no table has the value 0
-abbrev by_key : List Key → Assignment → Valuation
-by_key keys values key = if list_any (same_key key) keys then values (place keys key) else pos 0
+-- a variable that is in no table has the value 0
+abbrev by_variable : List Variable → Assignment → Valuation
+by_variable variables values variable = if list_any (same_variable variable) variables then values (place variables variable) else pos 0
 
--- the bounds of a key's number are the key's
-bounds_by : (k key : Key) (keys : List Key) (b : Bool) → same_key key k ≡ b → b || list_any (same_key key) keys ≡ true
-    → (list_any (same_key key) keys ≡ true → slice_get (map bounds_of keys) (place keys key) ≡ Some (bounds_of key))
-    → slice_get (map bounds_of (k ∷ keys)) (cond (not b) (1 + place keys key) 0) ≡ Some (bounds_of key)
-bounds_by k key keys true e h f = ap (λ x. Some (bounds_of x)) (sym (keys_equal key k e))
-bounds_by k key keys false e h f =
-    ap (slice_get (map bounds_of (k ∷ keys))) (let n : 1 + place keys key ≡ suc (place keys key) = omega arith in n) ∙ f h
+-- the bounds of a variable's number are the variable's
+bounds_by : (k variable : Variable) (variables : List Variable) (b : Bool) → same_variable variable k ≡ b
+    → b || list_any (same_variable variable) variables ≡ true
+    → (list_any (same_variable variable) variables ≡ true → slice_get (map bounds_of variables) (place variables variable) ≡ Some (bounds_of variable))
+    → slice_get (map bounds_of (k ∷ variables)) (cond (not b) (1 + place variables variable) 0) ≡ Some (bounds_of variable)
+bounds_by k variable variables true e h f = ap (λ x. Some (bounds_of x)) (sym (variables_equal variable k e))
+bounds_by k variable variables false e h f =
+    ap (slice_get (map bounds_of (k ∷ variables))) (let n : 1 + place variables variable ≡ suc (place variables variable) = omega arith in n) ∙ f h
 
-bounds_at : (keys : List Key) (key : Key) → list_any (same_key key) keys ≡ true → slice_get (map bounds_of keys) (place keys key) ≡ Some (bounds_of key)
-bounds_at [] key e = absurd (cc)
-bounds_at (k ∷ keys) key e = bounds_by k key keys (same_key key k) refl e (bounds_at keys key)
+bounds_at : (variables : List Variable) (variable : Variable) → list_any (same_variable variable) variables ≡ true
+    → slice_get (map bounds_of variables) (place variables variable) ≡ Some (bounds_of variable)
+bounds_at [] variable e = absurd (cc)
+bounds_at (k ∷ variables) variable e = bounds_by k variable variables (same_variable variable k) refl e (bounds_at variables variable)
 
--- the first key has the number 0
-first_by : (k : Key) (keys : List Key) (b : Bool) → b ≡ true → cond (not b) (1 + place keys k) 0 ≡ 0
-first_by k keys true e = refl
-first_by k keys false e = absurd (cc)
+-- the first variable has the number 0
+first_by : (k : Variable) (variables : List Variable) (b : Bool) → b ≡ true → cond (not b) (1 + place variables k) 0 ≡ 0
+first_by k variables true e = refl
+first_by k variables false e = absurd (cc)
 
-first_here : (keys : List Key) (k : Key) → slice_get keys 0 ≡ Some k → (list_any (same_key k) keys ≡ true) × (place keys k ≡ 0)
+first_here : (variables : List Variable) (k : Variable) → slice_get variables 0 ≡ Some k
+    → (list_any (same_variable k) variables ≡ true) × (place variables k ≡ 0)
 first_here [] k e = absurd (cc)
-first_here (x ∷ keys) k e =
+first_here (x ∷ variables) k e =
     let is : x ≡ k = cc in
-    let same : same_key k x ≡ true = (same_keys_are_equal k x).1 (sym is) in
-    (ap (λ b. b || list_any (same_key k) keys) same, first_by k keys (same_key k x) same)
+    let same : same_variable k x ≡ true = (same_variables_are_equal k x).1 (sym is) in
+    (ap (λ b. b || list_any (same_variable k) variables) same, first_by k variables (same_variable k x) same)
 
 -- all bounds are numbers of 64 bits
 in_bounds : (b : Bool) (z : ℤ) → IsWithin z (if b then (pos 0, pos 1073741824) else (negsuc 9223372036854775807, pos 9223372036854775807))
@@ -66,45 +70,46 @@ in_bounds true z h = let l : pos 0 ≤ℤ z = h.0 in let r : z ≤ℤ pos 107374
 in_bounds false z h = h
 
 module _ (facts : List Fact) (values : Assignment) (solves : Solves values (all_of facts)) where
-  abbrev keys : List Key
-  keys = keys_of facts
+  abbrev variables : List Variable
+  variables = variables_of facts
 
   abbrev v : Valuation
-  v = by_key keys values
+  v = by_variable variables values
 
-  agree : (key : Key) → list_any (same_key key) keys ≡ true → values (place keys key) ≡ v key
-  agree key e = sym (ap (λ b. if b then values (place keys key) else pos 0) e)
+  agree : (variable : Variable) → list_any (same_variable variable) variables ≡ true → values (place variables variable) ≡ v variable
+  agree variable e = sym (ap (λ b. if b then values (place variables variable) else pos 0) e)
 
-  chosen : (b : Bool) (key : Key) → list_any (same_key key) keys ≡ b → IsWithin (pos 0) (bounds_of key)
-      → IsWithin (if b then values (place keys key) else pos 0) (bounds_of key)
-  chosen true key e h = solves.0 (place keys key) (bounds_of key).0 (bounds_of key).1 (bounds_at keys key e)
-  chosen false key e h = h
+  chosen : (b : Bool) (variable : Variable) → list_any (same_variable variable) variables ≡ b → IsWithin (pos 0) (bounds_of variable)
+      → IsWithin (if b then values (place variables variable) else pos 0) (bounds_of variable)
+  chosen true variable e h = solves.0 (place variables variable) (bounds_of variable).0 (bounds_of variable).1 (bounds_at variables variable e)
+  chosen false variable e h = h
 
   none_within : (b : Bool) → IsWithin (pos 0) (if b then (pos 0, pos 1073741824) else (negsuc 9223372036854775807, pos 9223372036854775807))
   none_within true = (omega (arith, ints), omega (arith, ints))
   none_within false = (omega (arith, ints), omega (arith, ints))
 
-  within : (key : Key) → IsWithin (v key) (bounds_of key)
-  within key = chosen (list_any (same_key key) keys) key refl (none_within (same_key key (whole caller_side) || same_key key (whole holder_side)))
+  within : (variable : Variable) → IsWithin (v variable) (bounds_of variable)
+  within variable = chosen (list_any (same_variable variable) variables) variable refl
+      (none_within (same_variable variable (whole caller_side) || same_variable variable (whole holder_side)))
 
   ranged : IsInRange v
-  unfolding same_key
+  unfolding same_variable
   ranged = record {
     caller = within (whole caller_side);
     holder = within (whole holder_side);
-    number = λ key. in_bounds (same_key key (whole caller_side) || same_key key (whole holder_side)) (v key) (within key);
+    number = λ variable. in_bounds (same_variable variable (whole caller_side) || same_variable variable (whole holder_side)) (v variable) (within variable);
   }
 
   so : every (map (is_so v) facts) ≡ true
-  unfolding keys_of
+  unfolding variables_of
   so =
-      ap every (sym (all_agree v values keys agree facts (keys_have (whole caller_side ∷ []) (flat_map keys_in facts))))
+      ap every (sym (all_agree v values variables agree facts (variables_have (whole caller_side ∷ []) (flat_map variables_in facts))))
       ∙ sym (ap (holds_at values) (sym (formula.rolls-All _)) ∙ fold-roll-Formula Bool (holds_step values) (Formula-F.All _)) ∙ solves.1
 
   first : v (whole caller_side) ≡ values 0
-  unfolding keys_of
+  unfolding variables_of
   first =
-      let at = first_here keys (whole caller_side) (first_stays (flat_map keys_in facts) [] (whole caller_side)) in
+      let at = first_here variables (whole caller_side) (first_stays (flat_map variables_in facts) [] (whole caller_side)) in
       sym (agree (whole caller_side) at.0) ∙ ap values at.1
 
 pub solutions_hold : SolutionsHold
@@ -118,9 +123,9 @@ solutions_hold facts values solves = record {
 pub keeps_solve_before : KeepsSolveBefore
 unfolding keep keep_before
 keeps_solve_before g marks e values solves =
-    let keyed : Keyed (edge_facts g marks Later e) values = solutions_hold (edge_facts g marks Later e) values solves in
-    let is = facts_solve keyed.values_by (edge_facts g marks Earlier e) keyed.ranged (edges_give keyed.values_by g marks e keyed.so) in
-    (is.0, is.1, is.2 ∙ keyed.first)
+    let valued : IsValued (edge_facts g marks Later e) values = solutions_hold (edge_facts g marks Later e) values solves in
+    let is = facts_solve valued.values_by (edge_facts g marks Earlier e) valued.ranged (edges_give valued.values_by g marks e valued.so) in
+    (is.0, is.1, is.2 ∙ valued.first)
 
 all_before : (g : Grammar) (marks : Marks) (edges : List Edge) (eoi : ℤ) → AllSolved eoi (map (keep g marks) edges)
     → AllSolved eoi (map (keep_before g marks) edges)

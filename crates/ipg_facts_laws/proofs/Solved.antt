@@ -14,13 +14,13 @@ use Rattle.ipg_core.specs.Order.{is_taken}
 use Rattle.ipg_core.specs.Good.{Good}
 use Rattle.ipg_core.specs.Grown.{IsInput, Grown}
 use Rattle.ipg_core.specs.Laws.{LiesWithin, TouchingTouches}
-use Rattle.ipg_facts.specs.Key.{caller_side}
+use Rattle.ipg_facts_variables.specs.Variable.{caller_side}
 use Rattle.ipg_facts.specs.declared.edition.Edition.TheVariants.{Later}
 use Rattle.ipg_facts.specs.Reading.{Scope}
 use Rattle.ipg_facts.specs.Members.{terms_members, passed_all, own_members, own_at}
 use Rattle.ipg_facts.specs.Members as puts
 use Rattle.ipg_facts.specs.Keep.{opening, before, alt_at, holder_facts, caller_facts, rule_facts, edge_facts}
-use Rattle.ipg_facts.specs.Numbers.{keep}
+use Rattle.ipg_facts.specs.Keep.{keep}
 use Rattle.ipg_facts_laws.specs.Valued.{Valuation}
 use Rattle.ipg_facts_laws.specs.Known.{AreSo, Fits}
 use Rattle.ipg_facts_laws.specs.Reached.{Reached}

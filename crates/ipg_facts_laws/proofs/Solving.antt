@@ -6,8 +6,8 @@ use Rattle.ipg_core.specs.Grammar.{Grammar}
 use Rattle.ipg_core.specs.MustTouch.{Marks}
 use Rattle.ipg_graph.specs.declared.edge.Edge.{Edge}
 use Rattle.ipg_facts_edges.specs.Edges.{edges_of}
-use Rattle.ipg_facts.specs.Numbers.{keep}
-use Rattle.ipg_facts.specs.Joint.{joint}
+use Rattle.ipg_facts.specs.Keep.{keep}
+use Rattle.ipg_facts_forms.specs.Joint.{joint}
 use Rattle.ipg_facts_laws.specs.Laws.{ReachedEdgesSolve, ReachedCyclesSolve}
 use Rattle.ipg_facts_laws.specs.Along.{edges_at}
 use Rattle.ipg_facts_laws.specs.Conditions.{keep_at, IsUnsolvable}

@@ -18,12 +18,12 @@ use Rattle.ipg_core.specs.MustTouch.{is_marked}
 use Rattle.ipg_core.specs.Touch.{width}
 use Rattle.ipg_graph.specs.declared.edge.Edge.{Edge}
 use Rattle.ipg_facts.specs.declared.edition.Edition.TheVariants.{Earlier, Later}
-use Rattle.ipg_facts.specs.declared.fact.Form.{Form}
-use Rattle.ipg_facts.specs.declared.fact.Fact.{Fact}
-use Rattle.ipg_facts.specs.declared.fact.Fact.TheVariants as facts
-use Rattle.ipg_facts.specs.declared.fact.Bounds.{Bounds}
-use Rattle.ipg_facts.specs.Key.{attribute, loop, caller_side}
-use Rattle.ipg_facts.specs.Form.{variable, shifted, leq, less, equal}
+use Rattle.ipg_facts_forms.specs.declared.fact.Form.{Form}
+use Rattle.ipg_facts_forms.specs.declared.fact.Fact.{Fact}
+use Rattle.ipg_facts_forms.specs.declared.fact.Fact.TheVariants as facts
+use Rattle.ipg_facts.specs.declared.bounds.Bounds.{Bounds}
+use Rattle.ipg_facts_variables.specs.Variable.{attribute, loop, caller_side}
+use Rattle.ipg_facts_forms.specs.Form.{mention, shifted, leq, less, equal}
 use Rattle.ipg_facts.specs.Reading.{Scope, length_of, nought, read, form}
 use Rattle.ipg_facts.specs.Members.{is_valid, start_of, end_of, touches_none, touches_some, touches_first, touches_all, attr_ranges, number_ranges}
 use Rattle.ipg_facts.specs.Members.{text_touches, number_touches, primitive_touches, rule_touches, touches, on_interval, slot_members, branches, members}
@@ -181,8 +181,8 @@ module _ (v : Valuation) where
     members_give term None = λ so. so
     members_give term (Some (Slot slot)) = slot_gives term slot
     members_give term (Some (Set attr e)) =
-        gives_equal v (variable (attribute scope.side attr) []) (variable (attribute scope.side attr) []) (form late e) (form early e)
-        (form_self v (variable (attribute scope.side attr) [])) (of_form e)
+        gives_equal v (mention (attribute scope.side attr) []) (mention (attribute scope.side attr) []) (form late e) (form early e)
+        (form_self v (mention (attribute scope.side attr) [])) (of_form e)
     members_give term (Some (Test e)) = (weaker v scope arrays none e).holds
     members_give term (Some (Repeat first last item from to)) = λ so. so
     members_give term (Some (Many item from to)) = valid_gives term _ _ _ _ (of_form from) (of_form to)
@@ -211,7 +211,7 @@ module _ (v : Valuation) where
     runs_give : (first last : CoreExpr) → Gives v (runs late first last) (runs early first last)
     unfolding runs
     runs_give first last =
-        let turn : Form = variable (loop scope.side) [] in
+        let turn : Form = mention (loop scope.side) [] in
         gives_append v (leq (form late first) turn) (less turn (form late last)) (leq (form early first) turn) (less turn (form early last))
         (gives_leq v _ _ turn turn (of_form first) (form_self v turn)) (gives_less v turn turn _ _ (form_self v turn) (of_form last))
 

@@ -23,19 +23,19 @@ use Rattle.ipg_core.specs.Grammar.{Grammar, name_at, rule_at}
 use Rattle.ipg_core.specs.Touch.{width}
 use Rattle.ipg_core.specs.MustTouch.{is_marked}
 use Rattle.ipg_graph.specs.declared.edge.Edge.{Edge}
-use Rattle.ipg_facts.specs.declared.key.Side.{Side}
-use Rattle.ipg_facts.specs.declared.fact.Part.{Part}
-use Rattle.ipg_facts.specs.declared.fact.Form.{Form}
-use Rattle.ipg_facts.specs.declared.fact.Bounds.{Bounds}
+use Rattle.ipg_facts_variables.specs.declared.variable.Side.{Side}
+use Rattle.ipg_facts_forms.specs.declared.fact.Part.{Part}
+use Rattle.ipg_facts_forms.specs.declared.fact.Form.{Form}
+use Rattle.ipg_facts.specs.declared.bounds.Bounds.{Bounds}
 use Rattle.ipg_facts.specs.declared.edition.Edition.{Edition}
 use Rattle.ipg_facts.specs.declared.edition.Edition.TheVariants.{Earlier, Later}
-use Rattle.ipg_facts.specs.declared.fact.Fact.{Fact}
-use Rattle.ipg_facts.specs.declared.fact.Fact.TheVariants as facts
-use Rattle.ipg_facts.specs.declared.fact.Draft.{Draft}
-use Rattle.ipg_facts.specs.declared.key.Key.{Key}
-use Rattle.ipg_facts.specs.Key.{attribute, loop, field, named, value, caller_side, holder_side, same_key}
-use Rattle.ipg_facts.specs.Form.{variable, number, add_part, add_parts, plus, minus, scaled, scaled_part, shifted, counts, is_constant, in_limits}
-use Rattle.ipg_facts.specs.Form.{mentioned, facts_of, bare, at_most_zero, leq, less, both_at_most_zero, equal, choice, differ}
+use Rattle.ipg_facts_forms.specs.declared.fact.Fact.{Fact}
+use Rattle.ipg_facts_forms.specs.declared.fact.Fact.TheVariants as facts
+use Rattle.ipg_facts_forms.specs.declared.fact.Draft.{Draft}
+use Rattle.ipg_facts_variables.specs.declared.variable.Variable.{Variable}
+use Rattle.ipg_facts_variables.specs.Variable.{attribute, loop, field, named, value, caller_side, holder_side, same_variable}
+use Rattle.ipg_facts_forms.specs.Form.{mention, number, add_part, add_parts, plus, minus, scaled, scaled_part, shifted, counts, is_constant, in_limits}
+use Rattle.ipg_facts_forms.specs.Form.{mentioned, facts_of, bare, at_most_zero, leq, less, both_at_most_zero, equal, choice, differ}
 use Rattle.ipg_facts.specs.Reading.{Scope, Reading, length_of, opaque, nought, plain, ranges, greatest, greatest_of, least_width, item_at, item_facts, inside}
 use Rattle.ipg_facts.specs.Reading.{if_later, if_there, touching, after_facts, product, computed, limited, asserted, denied, reading, read, form}
 use Rattle.ipg_facts.specs.Members.{arrays_with, with_bounds, attr_ranges, branches, end_of, is_valid, is_whole, members}
@@ -44,13 +44,13 @@ use Rattle.ipg_facts.specs.Members.{primitive_touches, rule_touches, runs, slot_
 use Rattle.ipg_facts.specs.Members.{terms_members, text_touches, touches, touches_all, touches_first, touches_none, touches_some}
 use Rattle.ipg_facts.specs.Keep.{opening, before, mentions_holder, alt_at, held_facts, held, holder_facts, caller_facts, rule_facts, edge_facts}
 use Rattle.ipg_facts_holder.specs.Holder.{kept}
-use Rattle.ipg_facts.specs.Induct.{Sure, bare as bare_expr, induct}
+use Rattle.ipg_facts_variables.specs.Induct.{Sure, bare as bare_expr, induct}
 use Rattle.ipg_facts.specs.Gap.{point, misses_first, misses_all, primitive_misses, misses, slot_gap, gap_branches, gap_members, gap_terms, is_place}
 use Rattle.ipg_facts.specs.Gap.{gap_facts, rule_gap}
 
 -- the atom that a form within the limits puts
 abbrev pub drafted : Form → Draft
-drafted a = record { terms = map (λ p. (p.key, p.factor)) (mentioned a); constant = a.constant }
+drafted a = record { terms = map (λ p. (p.variable, p.factor)) (mentioned a); constant = a.constant }
 
 -- it holds of atoms within the limits, and of an All, and of an Any with members, where it does of these
 pub record IsSure (Is : Fact → Type 0) : Type 0 where
@@ -82,8 +82,8 @@ module _ (Is : Fact → Type 0) (sure : IsSure Is) where
   abbrev pub FormIs : Form → Type 0
   FormIs a = PartsAre a.parts
 
-  pub of_variable : (key : Key) (fs : List Fact) → Are fs → FormIs (variable key fs)
-  of_variable key fs h = (h, tt)
+  pub of_mention : (variable : Variable) (fs : List Fact) → Are fs → FormIs (mention variable fs)
+  of_mention variable fs h = (h, tt)
 
   chosen_part : (b : Bool) (q p : Part) (qs more : List Part) → PartsAre (q ∷ qs) → PartsAre more
       → PartsAre (if b then record q { factor = q.factor +ℤ p.factor } ∷ qs else q ∷ more)
@@ -93,7 +93,7 @@ module _ (Is : Fact → Type 0) (sure : IsSure Is) where
   of_part : (ps : List Part) (p : Part) → PartsAre ps → Are p.facts → PartsAre (add_part ps p)
   unfolding add_part
   of_part [] p h k = (k, tt)
-  of_part (q ∷ qs) p h k = chosen_part (same_key q.key p.key) q p qs (add_part qs p) h (of_part qs p h.1 k)
+  of_part (q ∷ qs) p h k = chosen_part (same_variable q.variable p.variable) q p qs (add_part qs p) h (of_part qs p h.1 k)
 
   of_parts : (ps qs : List Part) → PartsAre ps → PartsAre qs → PartsAre (add_parts ps qs)
   unfolding add_parts
@@ -201,19 +201,7 @@ module _ (Is : Fact → Type 0) (sure : IsSure Is) where
   of_computed ops.Add a b h k = of_plus a b h k
   of_computed ops.Sub a b h k = of_minus a b h k
   of_computed ops.Mul a b h k = of_product a b h k
-  of_computed ops.Div a b h k = tt
-  of_computed ops.Mod a b h k = tt
-  of_computed ops.Shl a b h k = tt
-  of_computed ops.Shr a b h k = tt
-  of_computed ops.BitAnd a b h k = tt
-  of_computed ops.BitOr a b h k = tt
-  of_computed ops.BitXor a b h k = tt
-  of_computed ops.Eq a b h k = tt
-  of_computed ops.Ne a b h k = tt
-  of_computed ops.Lt a b h k = tt
-  of_computed ops.Le a b h k = tt
-  of_computed ops.Gt a b h k = tt
-  of_computed ops.Ge a b h k = tt
+  of_computed _ a b h k = tt
 
   of_asserted : (op : Op2) (a b e : Form) → FormIs a → FormIs b → FormIs e → Are (asserted op a b e)
   unfolding asserted
@@ -223,16 +211,7 @@ module _ (Is : Fact → Type 0) (sure : IsSure Is) where
   of_asserted ops.Le a b e h k l = of_leq a b h k
   of_asserted ops.Gt a b e h k l = of_less b a k h
   of_asserted ops.Ge a b e h k l = of_leq b a k h
-  of_asserted ops.Add a b e h k l = of_differ e nought l tt
-  of_asserted ops.Sub a b e h k l = of_differ e nought l tt
-  of_asserted ops.Mul a b e h k l = of_differ e nought l tt
-  of_asserted ops.Div a b e h k l = of_differ e nought l tt
-  of_asserted ops.Mod a b e h k l = of_differ e nought l tt
-  of_asserted ops.Shl a b e h k l = of_differ e nought l tt
-  of_asserted ops.Shr a b e h k l = of_differ e nought l tt
-  of_asserted ops.BitAnd a b e h k l = of_differ e nought l tt
-  of_asserted ops.BitOr a b e h k l = of_differ e nought l tt
-  of_asserted ops.BitXor a b e h k l = of_differ e nought l tt
+  of_asserted _ a b e h k l = of_differ e nought l tt
 
   of_denied : (op : Op2) (a b e : Form) → FormIs a → FormIs b → FormIs e → Are (denied op a b e)
   unfolding denied
@@ -242,16 +221,7 @@ module _ (Is : Fact → Type 0) (sure : IsSure Is) where
   of_denied ops.Le a b e h k l = of_less b a k h
   of_denied ops.Gt a b e h k l = of_leq a b h k
   of_denied ops.Ge a b e h k l = of_less a b h k
-  of_denied ops.Add a b e h k l = of_equal e nought l tt
-  of_denied ops.Sub a b e h k l = of_equal e nought l tt
-  of_denied ops.Mul a b e h k l = of_equal e nought l tt
-  of_denied ops.Div a b e h k l = of_equal e nought l tt
-  of_denied ops.Mod a b e h k l = of_equal e nought l tt
-  of_denied ops.Shl a b e h k l = of_equal e nought l tt
-  of_denied ops.Shr a b e h k l = of_equal e nought l tt
-  of_denied ops.BitAnd a b e h k l = of_equal e nought l tt
-  of_denied ops.BitOr a b e h k l = of_equal e nought l tt
-  of_denied ops.BitXor a b e h k l = of_equal e nought l tt
+  of_denied _ a b e h k l = of_equal e nought l tt
 
   abbrev BoundsAre : Option Bounds → Type 0
   BoundsAre None = Unit {0}
@@ -280,7 +250,7 @@ module _ (Is : Fact → Type 0) (sure : IsSure Is) where
 
   module _ (scope : Scope) (known : ScopeIs scope) where
     of_opaque : (said : CoreExpr) → FormIs (opaque scope said)
-    of_opaque said = of_variable (value scope.side said) [] tt
+    of_opaque said = of_mention (value scope.side said) [] tt
 
     of_limited : (said : CoreExpr) (a : Option Form) → OptionIs a → FormIs (limited scope said a)
     unfolding limited
@@ -314,19 +284,19 @@ module _ (Is : Fact → Type 0) (sure : IsSure Is) where
         bounds_or_none (nat_lt 0 (least_width scope.marks (item_at scope term))) (if_there (slice_get scope.arrays term)) (bounds_at scope.arrays term known)
 
     of_seen : (said : CoreExpr) (term : ℕ) (f : CoreField)
-        → ReadingIs (plain said (variable (value scope.side said) (if_later scope.edition (item_facts scope (item_at scope term) f (opaque scope said)))))
+        → ReadingIs (plain said (mention (value scope.side said) (if_later scope.edition (item_facts scope (item_at scope term) f (opaque scope said)))))
     of_seen said term f =
         let known : List Fact = item_facts scope (item_at scope term) f (opaque scope said) in
         let facts : List Fact = if_later scope.edition known in
-        of_plain said (variable (value scope.side said) facts)
-        (of_variable (value scope.side said) facts (of_later scope.edition known (of_item (item_at scope term) f (opaque scope said) (of_opaque said))))
+        of_plain said (mention (value scope.side said) facts)
+        (of_mention (value scope.side said) facts (of_later scope.edition known (of_item (item_at scope term) f (opaque scope said) (of_opaque said))))
 
     of_behind : (said : CoreExpr) (term : ℕ) (left : Form) → FormIs left
-        → ReadingIs (plain said (variable (value scope.side said) (after_facts scope (touching scope term) (opaque scope said) left)))
+        → ReadingIs (plain said (mention (value scope.side said) (after_facts scope (touching scope term) (opaque scope said) left)))
     of_behind said term left h =
         let facts : List Fact = after_facts scope (touching scope term) (opaque scope said) left in
-        of_plain said (variable (value scope.side said) facts)
-        (of_variable (value scope.side said) facts (of_after (touching scope term) (opaque scope said) left (of_touching term) (of_opaque said) h))
+        of_plain said (mention (value scope.side said) facts)
+        (of_mention (value scope.side said) facts (of_after (touching scope term) (opaque scope said) left (of_touching term) (of_opaque said) h))
 
     of_not : (a : Reading) (said : CoreExpr) → ReadingIs a
         → ReadingIs (record { said = said; form = opaque scope said; holds = a.fails; fails = a.holds })
@@ -359,7 +329,7 @@ module _ (Is : Fact → Type 0) (sure : IsSure Is) where
     abbrev conditional : CoreExpr → Reading → Reading → Reading → Reading
     conditional said c a b = record {
       said = said;
-      form = variable (value scope.side said) (choice (c.holds ++ equal (opaque scope said) a.form) (c.fails ++ equal (opaque scope said) b.form));
+      form = mention (value scope.side said) (choice (c.holds ++ equal (opaque scope said) a.form) (c.fails ++ equal (opaque scope said) b.form));
       holds = choice (c.holds ++ a.holds) (c.fails ++ b.holds);
       fails = choice (c.holds ++ a.fails) (c.fails ++ b.fails);
     }
@@ -368,7 +338,7 @@ module _ (Is : Fact → Type 0) (sure : IsSure Is) where
     of_cond c a b said h k l =
         let v : Form = opaque scope said in
         record {
-          form = of_variable (value scope.side said) _ (either (c.holds ++ equal v a.form) (c.fails ++ equal v b.form)
+          form = of_mention (value scope.side said) _ (either (c.holds ++ equal v a.form) (c.fails ++ equal v b.form)
               (join c.holds (equal v a.form) h.holds (of_equal v a.form (of_opaque said) k.form))
               (join c.fails (equal v b.form) h.fails (of_equal v b.form (of_opaque said) l.form)));
           holds = either (c.holds ++ a.holds) (c.fails ++ b.holds) (join c.holds a.holds h.holds k.holds) (join c.fails b.holds h.fails l.holds);
@@ -385,10 +355,10 @@ module _ (Is : Fact → Type 0) (sure : IsSure Is) where
     unfolding reading
     layer (CoreExpr-F.Num n) = of_plain _ (number n) tt
     layer CoreExpr-F.Eoi = of_plain _ (length_of scope) (tt, tt)
-    layer (CoreExpr-F.Own a) = of_plain _ (variable (attribute scope.side a) []) (tt, tt)
-    layer (CoreExpr-F.Outer a) = of_plain _ (variable (attribute holder_side a) []) (tt, tt)
-    layer CoreExpr-F.Loop = of_plain _ (variable (loop scope.side) []) (tt, tt)
-    layer (CoreExpr-F.Seen term sym f) = of_plain _ (variable (field scope.names scope.side term f) []) (tt, tt)
+    layer (CoreExpr-F.Own a) = of_plain _ (mention (attribute scope.side a) []) (tt, tt)
+    layer (CoreExpr-F.Outer a) = of_plain _ (mention (attribute holder_side a) []) (tt, tt)
+    layer CoreExpr-F.Loop = of_plain _ (mention (loop scope.side) []) (tt, tt)
+    layer (CoreExpr-F.Seen term sym f) = of_plain _ (mention (field scope.names scope.side term f) []) (tt, tt)
     layer (CoreExpr-F.Item term index f) = of_seen _ term f
     layer (CoreExpr-F.After term left) = of_behind _ term (read scope left.0).form left.1.form
     layer (CoreExpr-F.Neg a) =
@@ -446,7 +416,7 @@ module _ (Is : Fact → Type 0) (sure : IsSure Is) where
 
     of_attr : (term : ℕ) (prim : Primitive) (name : List ℕ) → Are (attr_ranges scope term prim name)
     unfolding attr_ranges
-    of_attr term prim name = of_ranges (variable (named scope.side term name) []) (greatest prim name) (tt, tt)
+    of_attr term prim name = of_ranges (mention (named scope.side term name) []) (greatest prim name) (tt, tt)
 
     of_number : (term : ℕ) (l r : Form) (prim : Primitive) → FormIs l → FormIs r → Are (number_touches scope term l r prim)
     unfolding number_touches number_ranges
@@ -517,7 +487,7 @@ module _ (Is : Fact → Type 0) (sure : IsSure Is) where
     unfolding members
     of_members term None = tt
     of_members term (Some (Slot slot)) = of_slot term slot
-    of_members term (Some (Set attr e)) = of_equal (variable (attribute scope.side attr) []) (form scope e) (tt, tt) (of_form e)
+    of_members term (Some (Set attr e)) = of_equal (mention (attribute scope.side attr) []) (form scope e) (tt, tt) (of_form e)
     of_members term (Some (Test e)) = (of_read e).holds
     of_members term (Some (Repeat first last item from to)) = tt
     of_members term (Some (Many item from to)) = of_valid (form scope from) (form scope to) (of_form from) (of_form to)
@@ -540,7 +510,7 @@ module _ (Is : Fact → Type 0) (sure : IsSure Is) where
     of_runs : (first last : CoreExpr) → Are (runs scope first last)
     unfolding runs
     of_runs first last =
-        let i : Form = variable (loop scope.side) [] in
+        let i : Form = mention (loop scope.side) [] in
         join (leq (form scope first) i) (less i (form scope last)) (of_leq (form scope first) i (of_form first) (tt, tt))
         (of_less i (form scope last) (tt, tt) (of_form last))
 

@@ -21,13 +21,13 @@ use Rattle.ipg_core.specs.Touch.{ends_of}
 use Rattle.ipg_core.specs.Environment.{Environment, Done, value_at, done_at, items_so_far, is_read_by, seen, field_of, field_of_item, number_attr}
 use Rattle.ipg_core.specs.Eval as core
 use Rattle.ipg_core.specs.Eval.{eval, greatest_end}
-use Rattle.ipg_facts.specs.declared.key.Side.{Side}
-use Rattle.ipg_facts.specs.declared.key.Side.TheVariants.{Caller, Holder, Point}
-use Rattle.ipg_facts.specs.declared.key.Known.{Known}
-use Rattle.ipg_facts.specs.declared.key.Known.TheVariants as keys
-use Rattle.ipg_facts.specs.declared.key.Known.TheVariants.{Whole, Attribute, Loop, Named, Value}
-use Rattle.ipg_facts.specs.declared.key.Key.{Key}
-use Rattle.ipg_facts.specs.Key.{attribute, field, named, value, holder_side}
+use Rattle.ipg_facts_variables.specs.declared.variable.Side.{Side}
+use Rattle.ipg_facts_variables.specs.declared.variable.Side.TheVariants.{Caller, Holder, Point}
+use Rattle.ipg_facts_variables.specs.declared.variable.Quantity.{Quantity}
+use Rattle.ipg_facts_variables.specs.declared.variable.Quantity.TheVariants as quantities
+use Rattle.ipg_facts_variables.specs.declared.variable.Quantity.TheVariants.{Whole, Attribute, Loop, Named, Value}
+use Rattle.ipg_facts_variables.specs.declared.variable.Variable.{Variable}
+use Rattle.ipg_facts_variables.specs.Variable.{attribute, field, named, value, holder_side}
 use Rattle.ipg_facts.specs.Reading.{Scope, item_at, item_of, touching}
 use Rattle.ipg_facts_laws.specs.Valued.{Valuation}
 use Rattle.ipg_facts_laws.specs.Known.{Fits, IsItemField, IsBehind}
@@ -91,7 +91,7 @@ number_of (x ∷ names) (suc k) d lt =
     (other_way x name (bytes_eq name x) refl (all_at (λ y. bytes_eq x y ≡ false) names k below (IsDistinct-head bytes_eq x names d)))
     (number_of names k (IsDistinct-tail bytes_eq x names d) below)
 
--- ---- what a key stands for in an environment
+-- ---- what a variable stands for in an environment
 
 abbrev pub or_zero : Option ℤ → ℤ
 or_zero None = pos 0
@@ -118,33 +118,33 @@ named_in names name None = pos 0
 named_in names name (Some d) = or_zero (attr_named names name d.kid)
 
 -- what is known so
-abbrev pub of_known : Environment → Known → ℤ
-of_known env Whole = pos env.eoi
-of_known env (Attribute a) = or_zero (value_at env.own a)
-of_known env Loop = or_zero env.item
-of_known env (keys.Start term) = start_in (done_at env.done term)
-of_known env (keys.End term) = end_in (done_at env.done term)
-of_known env (Named term name) = named_in env.names name (done_at env.done term)
-of_known env (Value e) = value_by (eval e env)
+abbrev pub of_quantity : Environment → Quantity → ℤ
+of_quantity env Whole = pos env.eoi
+of_quantity env (Attribute a) = or_zero (value_at env.own a)
+of_quantity env Loop = or_zero env.item
+of_quantity env (quantities.Start term) = start_in (done_at env.done term)
+of_quantity env (quantities.End term) = end_in (done_at env.done term)
+of_quantity env (Named term name) = named_in env.names name (done_at env.done term)
+of_quantity env (Value e) = value_by (eval e env)
 
 abbrev of_side : Environment → Environment → Side → Environment
 of_side caller holder Caller = caller
 of_side caller holder Holder = holder
 of_side caller holder Point = holder
 
-abbrev pub key_of : Side → Known → Key
-key_of side known = record { side = side; of = known }
+abbrev pub variable_of : Side → Quantity → Variable
+variable_of side quantity = record { side = side; of = quantity }
 
-abbrev of_key : Environment → Environment → Key → ℤ
-of_key caller holder key = of_known (of_side caller holder key.side) key.of
+abbrev of_variable : Environment → Environment → Variable → ℤ
+of_variable caller holder variable = of_quantity (of_side caller holder variable.side) variable.of
 
 unfoldable pub values_of : Environment → Environment → Valuation
-values_of caller holder key = clamped (of_key caller holder key)
+values_of caller holder variable = clamped (of_variable caller holder variable)
 
-pub are_numbers : (caller holder : Environment) (key : Key)
-    → (negsuc 9223372036854775807 ≤ℤ values_of caller holder key) × (values_of caller holder key ≤ℤ pos 9223372036854775807)
+pub are_numbers : (caller holder : Environment) (variable : Variable)
+    → (negsuc 9223372036854775807 ≤ℤ values_of caller holder variable) × (values_of caller holder variable ≤ℤ pos 9223372036854775807)
 unfolding values_of
-are_numbers caller holder key = is_number (of_key caller holder key)
+are_numbers caller holder variable = is_number (of_variable caller holder variable)
 
 -- ---- it fits
 
@@ -165,12 +165,12 @@ seen_is names one f None z e = absurd (cc)
 seen_is names one f (Some d) z e = (d, refl, if_read (is_read_by d one) (field_of names f d.kid) z e)
 
 module _ (v : Valuation) (scope : Scope) (env : Environment) (names : ℕ)
-    (agree : (known : Known) → v (key_of scope.side known) ≡ clamped (of_known env known))
+    (agree : (quantity : Quantity) → v (variable_of scope.side quantity) ≡ clamped (of_quantity env quantity))
     (distinct : IsDistinct bytes_eq env.names) (same : env.names ≡ scope.names) (few : length env.names ≡ names)
     (named_kids : (t : ℕ) (d : Done) → done_at env.done t ≡ Some d → KidNamed names d.kid) where
-  -- by the value that a key stands for
-  stands_for : (known : Known) (z : ℤ) → of_known env known ≡ z → limited z ≡ Val z → v (key_of scope.side known) ≡ z
-  stands_for known z e n = agree known ∙ ap clamped e ∙ clamped_is z n
+  -- by the value that a variable stands for
+  stands_for : (quantity : Quantity) (z : ℤ) → of_quantity env quantity ≡ z → limited z ≡ Val z → v (variable_of scope.side quantity) ≡ z
+  stands_for quantity z e n = agree quantity ∙ ap clamped e ∙ clamped_is z n
 
   kid_attr : (a : ℕ) (k : Kid) (z : ℤ) → KidNamed names k → field_of env.names (Attr a) k ≡ Some z → attr_named env.names (name_at env.names a) k ≡ Some z
   kid_attr a (Sub from to tree) z h e =
@@ -186,8 +186,8 @@ module _ (v : Valuation) (scope : Scope) (env : Environment) (names : ℕ)
   result_is term (Attr a) z d there e n =
       stands_for (Named term (name_at env.names a)) z
       (ap (named_in env.names (name_at env.names a)) there ∙ ap or_zero (kid_attr a d.kid z (named_kids term d there) e)) n
-  result_is term Start z d there e n = stands_for (keys.Start term) z (ap start_in there ∙ start_is env.names d.kid z e) n
-  result_is term End z d there e n = stands_for (keys.End term) z (ap end_in there ∙ end_is env.names d.kid z e) n
+  result_is term Start z d there e n = stands_for (quantities.Start term) z (ap start_in there ∙ start_is env.names d.kid z e) n
+  result_is term End z d there e n = stands_for (quantities.End term) z (ap end_in there ∙ end_is env.names d.kid z e) n
 
   number_is : (term : ℕ) (d : Done) (from to : ℕ) (prim : Primitive) (high low : ℕ) (name : List ℕ) (z : ℤ) → done_at env.done term ≡ Some d
       → d.kid ≡ Number from to prim high low → number_attr prim name high low ≡ Some z → limited z ≡ Val z → v (named scope.side term name) ≡ z

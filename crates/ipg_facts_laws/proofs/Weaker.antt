@@ -4,14 +4,14 @@ use Rattle.std.proofs.Common.{Option, Some, None, ℤ, pos, negsuc, ◌+ℤ◌, 
 use Rattle.std.specs.Prelude.{◌^◌, nat_le, flat_map}
 use Rattle.std.specs.List.{filter, list_all}
 use Rattle.std.specs.Int.RustNames.{unsigned_abs}
-use Rattle.ipg_facts.specs.declared.fact.Part.{Part}
-use Rattle.ipg_facts.specs.declared.fact.Form.{Form}
-use Rattle.ipg_facts.specs.declared.fact.Fact.{Fact}
-use Rattle.ipg_facts.specs.declared.fact.Fact.TheVariants as facts
-use Rattle.ipg_facts.specs.declared.key.Key.{Key}
-use Rattle.ipg_facts.specs.Key.{same_key}
-use Rattle.ipg_facts.specs.Form.{variable, add_part, add_parts, plus, minus, scaled, scaled_part, shifted, is_zero, counts, is_light, is_constant}
-use Rattle.ipg_facts.specs.Form.{mentioned, in_limits, facts_of, bare, at_most_zero, leq, less, both_at_most_zero, equal, choice, differ}
+use Rattle.ipg_facts_forms.specs.declared.fact.Part.{Part}
+use Rattle.ipg_facts_forms.specs.declared.fact.Form.{Form}
+use Rattle.ipg_facts_forms.specs.declared.fact.Fact.{Fact}
+use Rattle.ipg_facts_forms.specs.declared.fact.Fact.TheVariants as facts
+use Rattle.ipg_facts_variables.specs.declared.variable.Variable.{Variable}
+use Rattle.ipg_facts_variables.specs.Variable.{same_variable}
+use Rattle.ipg_facts_forms.specs.Form.{mention, add_part, add_parts, plus, minus, scaled, scaled_part, shifted, is_zero, counts, is_light, is_constant}
+use Rattle.ipg_facts_forms.specs.Form.{mentioned, in_limits, facts_of, bare, at_most_zero, leq, less, both_at_most_zero, equal, choice, differ}
 use Rattle.ipg_facts_laws.specs.Valued.{Valuation, is_so}
 use Rattle.ipg_facts_laws.specs.Known.{AreSo}
 use Rattle.ipg_facts_laws.proofs.Forms.{so_append, so_first, so_second, any_is, all_is}
@@ -37,7 +37,7 @@ abbrev pub Gives : Valuation → List Fact → List Fact → Type 0
 Gives v xs ys = AreSo v xs → AreSo v ys
 
 pub record PartGives (v : Valuation) (p q : Part) : Type 0 where
-  pub key : p.key ≡ q.key
+  pub variable : p.variable ≡ q.variable
   pub factor : p.factor ≡ q.factor
   pub facts : Gives v p.facts q.facts
 
@@ -87,7 +87,7 @@ module _ (v : Valuation) where
   -- ---- parts
 
   pub part_self : (p : Part) → PartGives v p p
-  part_self p = record { key = refl; factor = refl; facts = λ h. h }
+  part_self p = record { variable = refl; factor = refl; facts = λ h. h }
 
   parts_self : (ps : List Part) → PartsGive v ps ps
   parts_self [] = tt
@@ -96,13 +96,14 @@ module _ (v : Valuation) where
   pub form_self : (a : Form) → FormGives v a a
   form_self a = record { parts = parts_self a.parts; constant = refl }
 
-  pub gives_variable : (key key' : Key) (xs ys : List Fact) → key ≡ key' → Gives v xs ys → FormGives v (variable key xs) (variable key' ys)
-  gives_variable key key' xs ys e f = record { parts = (record { key = e; factor = refl; facts = f }, tt); constant = refl }
+  pub gives_mention : (variable variable' : Variable) (xs ys : List Fact) → variable ≡ variable' → Gives v xs ys
+      → FormGives v (mention variable xs) (mention variable' ys)
+  gives_mention variable variable' xs ys e f = record { parts = (record { variable = e; factor = refl; facts = f }, tt); constant = refl }
 
   more_factor : (x y p q : Part) → PartGives v x y → PartGives v p q
       → PartGives v (record x { factor = x.factor +ℤ p.factor }) (record y { factor = y.factor +ℤ q.factor })
   more_factor x y p q h r = record {
-    key = h.key;
+    variable = h.variable;
     factor = ap (λ k. k +ℤ p.factor) h.factor ∙ ap (λ k. y.factor +ℤ k) r.factor;
     facts = h.facts;
   }
@@ -119,10 +120,10 @@ module _ (v : Valuation) where
   added [] (y ∷ ys) p q h r = absurd h
   added (x ∷ xs) [] p q h r = absurd h
   added (x ∷ xs) (y ∷ ys) p q h r =
-      subst (λ c. PartsGive v (if same_key x.key p.key then record x { factor = x.factor +ℤ p.factor } ∷ xs else x ∷ add_part xs p)
+      subst (λ c. PartsGive v (if same_variable x.variable p.variable then record x { factor = x.factor +ℤ p.factor } ∷ xs else x ∷ add_part xs p)
       (if c then record y { factor = y.factor +ℤ q.factor } ∷ ys else y ∷ add_part ys q))
-      (ap (λ k. same_key k p.key) h.0.key ∙ ap (same_key y.key) r.key)
-      (added_here (same_key x.key p.key) x y p q xs ys (add_part xs p) (add_part ys q) h.0 r h.1 (added xs ys p q h.1 r))
+      (ap (λ k. same_variable k p.variable) h.0.variable ∙ ap (same_variable y.variable) r.variable)
+      (added_here (same_variable x.variable p.variable) x y p q xs ys (add_part xs p) (add_part ys q) h.0 r h.1 (added xs ys p q h.1 r))
 
   all_added : (ps ps' qs qs' : List Part) → PartsGive v ps ps' → PartsGive v qs qs' → PartsGive v (add_parts ps qs) (add_parts ps' qs')
   unfolding add_parts
@@ -143,7 +144,7 @@ module _ (v : Valuation) where
   all_scaled k [] (q ∷ qs) h = absurd h
   all_scaled k (p ∷ ps) [] h = absurd h
   all_scaled k (p ∷ ps) (q ∷ qs) h =
-      (record { key = h.0.key; factor = ap (λ f. f *ℤ k) h.0.factor; facts = h.0.facts }, all_scaled k ps qs h.1)
+      (record { variable = h.0.variable; factor = ap (λ f. f *ℤ k) h.0.factor; facts = h.0.facts }, all_scaled k ps qs h.1)
 
   pub gives_scaled : (k : ℤ) (a a' : Form) → FormGives v a a' → FormGives v (scaled k a) (scaled k a')
   unfolding scaled
@@ -187,11 +188,11 @@ module _ (v : Valuation) where
       ap (λ b. b && list_all is_light ps) (ap (λ z. nat_le (unsigned_abs z) (2 ^ 40)) h.0.factor) ∙ ap (λ b. is_light q && b) (as_light ps qs h.1)
 
   same_terms : (ps qs : List Part) → PartsGive v ps qs
-      → map {B = Key × ℤ} (λ (p : Part). (p.key, p.factor)) ps ≡ map {B = Key × ℤ} (λ (p : Part). (p.key, p.factor)) qs
+      → map {B = Variable × ℤ} (λ (p : Part). (p.variable, p.factor)) ps ≡ map {B = Variable × ℤ} (λ (p : Part). (p.variable, p.factor)) qs
   same_terms [] [] h = refl
   same_terms [] (q ∷ qs) h = absurd h
   same_terms (p ∷ ps) [] h = absurd h
-  same_terms (p ∷ ps) (q ∷ qs) h = rw (h.0.key, h.0.factor, same_terms ps qs h.1) refl
+  same_terms (p ∷ ps) (q ∷ qs) h = rw (h.0.variable, h.0.factor, same_terms ps qs h.1) refl
 
   give_facts : (ps qs : List Part) → PartsGive v ps qs → Gives v (flat_map (λ p. p.facts) ps) (flat_map (λ p. p.facts) qs)
   give_facts [] [] h k = refl

@@ -15,10 +15,10 @@ use Rattle.ipg_core.specs.Order.{Provides, is_taken, InOrder}
 use Rattle.ipg_core.specs.Good.{AltAt, Good}
 use Rattle.ipg_core.specs.Grown.{IsInput}
 use Rattle.ipg_core.specs.Laws.{LiesWithin, TouchingTouches}
-use Rattle.ipg_facts.specs.declared.fact.Bounds.{Bounds}
-use Rattle.ipg_facts.specs.declared.key.Side.{Side}
-use Rattle.ipg_facts.specs.declared.key.Known.{Known}
-use Rattle.ipg_facts.specs.Key.{attribute, holder_side}
+use Rattle.ipg_facts.specs.declared.bounds.Bounds.{Bounds}
+use Rattle.ipg_facts_variables.specs.declared.variable.Side.{Side}
+use Rattle.ipg_facts_variables.specs.declared.variable.Quantity.{Quantity}
+use Rattle.ipg_facts_variables.specs.Variable.{attribute, holder_side}
 use Rattle.ipg_facts.specs.declared.edition.Edition.TheVariants as editions
 use Rattle.ipg_facts.specs.Reading.{Scope, item_of, if_there}
 use Rattle.ipg_facts_laws.specs.Valued.{Valuation}
@@ -29,7 +29,7 @@ use Rattle.ipg_facts_laws.proofs.Items.{ItemsOf}
 use Rattle.ipg_facts_laws.proofs.Came.{Later, Stands, stands_first, stays_same}
 use Rattle.ipg_facts_laws.proofs.Steps.{Settled, passed, terms_came}
 use Rattle.ipg_facts_laws.proofs.Ordered.{settled, in_order, runs, provided}
-use Rattle.ipg_facts_laws.proofs.Valuing.{clamped, of_known, key_of, fits}
+use Rattle.ipg_facts_laws.proofs.Valuing.{clamped, of_quantity, variable_of, fits}
 
 -- an alternative's scope, where none of its arrays has run
 abbrev pub first_scope : Grammar → Marks → Side → CoreAlt → Scope
@@ -134,7 +134,7 @@ none_touching false o e = refl
 pub work_fits : (g : Grammar) → Good g → (marks : Marks) (at : ℕ × ℕ) (alt : CoreAlt) (s : List ℕ) → IsInput s
     → (outer : Values) (side : Side) (end : State) (item : Option ℤ)
     → Results marks (length g.names) alt (length s) end → (v : Valuation)
-    → ((known : Known) → v (key_of side known) ≡ clamped (of_known (environment (at_work g at s outer) end item) known))
+    → ((quantity : Quantity) → v (variable_of side quantity) ≡ clamped (of_quantity (environment (at_work g at s outer) end item) quantity))
     → ((a : ℕ) (z : ℤ) → value_at outer a ≡ Some z → limited z ≡ Val z → v (attribute holder_side a) ≡ z)
     → Fits v (first_scope g marks side alt) (environment (at_work g at s outer) end item)
 unfolding environment

@@ -2,7 +2,7 @@
 use Rattle.std.specs.Prelude.{List, [], ◌∷◌, ℤ}
 use Rattle.ipg_lin.specs.declared.formula.Formula.{Formula}
 use Rattle.ipg_lin.specs.declared.formula.Boxed.{Boxed}
-use Rattle.ipg_facts.specs.Joint.{joint}
+use Rattle.ipg_facts_forms.specs.Joint.{joint}
 use Rattle.ipg_facts_laws.specs.Laws.{ArePartsWith}
 
 -- the joint of such parts, where there are some, is such a part

@@ -9,7 +9,7 @@ use Rattle.ipg_core.specs.MustTouch.{Marks, AreLimit}
 use Rattle.ipg_core.specs.Good.{AltAt, Good}
 use Rattle.ipg_core.specs.Grown.{IsInput, Grown}
 use Rattle.ipg_facts.specs.declared.edition.Edition.TheVariants.{Later}
-use Rattle.ipg_facts.specs.Key.{caller_side, whole}
+use Rattle.ipg_facts_variables.specs.Variable.{caller_side, whole}
 use Rattle.ipg_facts.specs.Keep.{opening, holder_facts}
 use Rattle.ipg_facts.specs.Gap.{point_side}
 use Rattle.ipg_facts_laws.specs.Valued.{Valuation}

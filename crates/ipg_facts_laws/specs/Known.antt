@@ -17,11 +17,11 @@ use Rattle.ipg_core.specs.Grammar.{name_at}
 use Rattle.ipg_core.specs.Environment.{Environment, value_at, done_at, items_so_far, seen, field_of_item, Done, number_attr}
 use Rattle.ipg_core.specs.Eval as core
 use Rattle.ipg_core.specs.Eval.{eval, is_zero, greatest_end}
-use Rattle.ipg_facts.specs.declared.fact.Part.{Part}
-use Rattle.ipg_facts.specs.declared.fact.Form.{Form}
-use Rattle.ipg_facts.specs.declared.fact.Fact.{Fact}
-use Rattle.ipg_facts.specs.declared.fact.Bounds.{Bounds}
-use Rattle.ipg_facts.specs.Key.{whole, attribute, loop, field, named, value, holder_side}
+use Rattle.ipg_facts_forms.specs.declared.fact.Part.{Part}
+use Rattle.ipg_facts_forms.specs.declared.fact.Form.{Form}
+use Rattle.ipg_facts_forms.specs.declared.fact.Fact.{Fact}
+use Rattle.ipg_facts.specs.declared.bounds.Bounds.{Bounds}
+use Rattle.ipg_facts_variables.specs.Variable.{whole, attribute, loop, field, named, value, holder_side}
 use Rattle.ipg_facts.specs.Reading.{Scope, Reading, least_width, item_at, greatest, greatest_of, touching}
 use Rattle.ipg_facts_laws.specs.Valued.{Valuation, are_so}
 
@@ -31,7 +31,7 @@ AreSo v facts = are_so v facts ≡ true
 
 abbrev pub parts_sum : Valuation → List Part → ℤ
 parts_sum v [] = pos 0
-parts_sum v (p ∷ ps) = (p.factor *ℤ v p.key) +ℤ parts_sum v ps
+parts_sum v (p ∷ ps) = (p.factor *ℤ v p.variable) +ℤ parts_sum v ps
 
 -- the facts of each variable hold
 abbrev pub AreTrue : Valuation → List Part → Type 0

@@ -4,11 +4,11 @@ use Rattle.ipg_lin.specs.Form.{Assignment}
 use Rattle.ipg_lin.specs.Formula.{holds_at, width, LiesIn}
 use Rattle.ipg_lin.specs.declared.formula.Formula.{Formula}
 use Rattle.ipg_lin.specs.declared.formula.Boxed.{Boxed}
-use Rattle.ipg_facts.specs.declared.fact.Fact.{Fact}
-use Rattle.ipg_facts.specs.declared.key.Key.{Key}
-use Rattle.ipg_facts.specs.Key.{whole, caller_side, holder_side}
-use Rattle.ipg_facts.specs.Numbers.{all_of}
-use Rattle.ipg_facts.specs.Joint.{joint}
+use Rattle.ipg_facts_forms.specs.declared.fact.Fact.{Fact}
+use Rattle.ipg_facts_variables.specs.declared.variable.Variable.{Variable}
+use Rattle.ipg_facts_variables.specs.Variable.{whole, caller_side, holder_side}
+use Rattle.ipg_facts_forms.specs.Numbers.{all_of}
+use Rattle.ipg_facts_forms.specs.Joint.{joint}
 use Rattle.ipg_num.specs.declared.op.Answer.TheVariants.{Val}
 use Rattle.ipg_core.specs.declared.grammar.CoreExpr.{CoreExpr}
 use Rattle.ipg_core.specs.declared.grammar.CoreTerm.{CoreTerm}
@@ -26,7 +26,7 @@ use Rattle.ipg_core.specs.Environment.{Values}
 use Rattle.ipg_core.specs.Meaning.{den}
 use Rattle.ipg_core.specs.MustTouch.{Marks, AreLimit}
 use Rattle.ipg_core.specs.Grown.{IsInput, Grown}
-use Rattle.ipg_facts.specs.Numbers.{keep}
+use Rattle.ipg_facts.specs.Keep.{keep}
 use Rattle.ipg_graph.specs.declared.edge.Edge.{Edge}
 use Rattle.ipg_core.specs.Good.{Good}
 use Rattle.ipg_graph.specs.Graph.{IsInside}
@@ -42,7 +42,7 @@ Solves values part = LiesIn values part.1 × IsTrue (holds_at values part.0)
 pub record IsInRange (v : Valuation) : Type 0 where
   pub caller : (pos 0 ≤ℤ v (whole caller_side)) × (v (whole caller_side) ≤ℤ pos 1073741824)
   pub holder : (pos 0 ≤ℤ v (whole holder_side)) × (v (whole holder_side) ≤ℤ pos 1073741824)
-  pub number : (key : Key) → (negsuc 9223372036854775807 ≤ℤ v key) × (v key ≤ℤ pos 9223372036854775807)
+  pub number : (variable : Variable) → (negsuc 9223372036854775807 ≤ℤ v variable) × (v variable ≤ℤ pos 9223372036854775807)
 
 -- facts that hold make their formula over numbers hold, in its box
 abbrev pub FactsSolve : Type 0

@@ -1,4 +1,4 @@
--- when facts over keys hold
+-- when facts over variables hold
 pub mod Valued
 -- what is known of an expression that has a value
 pub mod Known

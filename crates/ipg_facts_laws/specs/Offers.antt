@@ -8,8 +8,8 @@ use Rattle.ipg_lin.specs.Formula.{every}
 use Rattle.ipg_lin.specs.declared.formula.Formula.{Formula, fold-Formula}
 use Rattle.ipg_lin.specs.declared.formula.Formula.TheOpen.{Formula-F}
 use Rattle.ipg_lin.specs.declared.formula.Boxed.{Boxed}
-use Rattle.ipg_facts.specs.Numbers.{keep}
-use Rattle.ipg_facts.specs.Joint.{joint}
+use Rattle.ipg_facts.specs.Keep.{keep}
+use Rattle.ipg_facts_forms.specs.Joint.{joint}
 
 -- there are some, and all are so
 abbrev pub some_and_every : List Bool → Bool

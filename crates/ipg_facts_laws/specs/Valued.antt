@@ -1,15 +1,15 @@
--- When facts over keys hold, where each variable has a value by its key.
+-- When facts over variables hold, where each variable has a value.
 use Rattle.std.specs.Prelude.{List, [], ◌∷◌, map, Bool, ℤ, pos, ◌+ℤ◌, ◌*ℤ◌, int_le}
 use Rattle.ipg_lin.specs.Formula.{every, some}
-use Rattle.ipg_facts.specs.declared.fact.Fact.{Fact, fold-Fact}
-use Rattle.ipg_facts.specs.declared.fact.Fact.TheOpen.{Fact-F}
-use Rattle.ipg_facts.specs.declared.key.Key.{Key}
+use Rattle.ipg_facts_forms.specs.declared.fact.Fact.{Fact, fold-Fact}
+use Rattle.ipg_facts_forms.specs.declared.fact.Fact.TheOpen.{Fact-F}
+use Rattle.ipg_facts_variables.specs.declared.variable.Variable.{Variable}
 
 -- a value for each variable
 abbrev pub Valuation : Type 0
-Valuation = Key → ℤ
+Valuation = Variable → ℤ
 
-abbrev pub sum_of : Valuation → List (Key × ℤ) → ℤ
+abbrev pub sum_of : Valuation → List (Variable × ℤ) → ℤ
 sum_of v [] = pos 0
 sum_of v (term ∷ terms) = (term.1 *ℤ v term.0) +ℤ sum_of v terms
 

@@ -1,6 +1,6 @@
 //! Laws of the conditions, each the contract of a function that does nothing.
 
-ghost use Rattle.ipg_facts.specs.Key.{SameKeysAreEqual};
+ghost use Rattle.ipg_facts_variables.specs.Variable.{SameVariablesAreEqual};
 ghost use Rattle.ipg_facts_laws.specs.Before.{JointsSolveBefore, KeepsSolveBefore, SolutionsHold};
 ghost use Rattle.ipg_facts_laws.specs.Bounded.{JointIsPart};
 ghost use Rattle.ipg_facts_laws.specs.Finished.{FinishedFit};
@@ -14,12 +14,12 @@ ghost use Rattle.ipg_facts_laws.specs.Laws.{ValuesAreKnown, ValuesStay};
 
 use ipg_core::laws::{lies_within, touching_touches};
 
-/// Facts that hold where variables have values by their keys make their formula over numbers hold, in its box.
+/// Facts that hold where variables have values make their formula over numbers hold, in its box.
 pub fn facts_solve()
     ensures { FactsSolve }
 {}
 
-/// And the other way round: a solution of their formula gives values by key that make the facts hold.
+/// And the other way round: a solution of their formula gives values of variables that make the facts hold.
 pub fn solutions_hold()
     ensures { SolutionsHold }
 {}
@@ -62,9 +62,9 @@ pub fn values_are_known()
     ensures { ValuesAreKnown }
 {}
 
-/// Keys that are the same are equal, so a key of an expression's value is of that expression alone.
-pub fn same_keys_are_equal()
-    ensures { SameKeysAreEqual }
+/// Variables that are the same are equal, so a variable of an expression's value is of that expression alone.
+pub fn same_variables_are_equal()
+    ensures { SameVariablesAreEqual }
 {}
 
 /// What a term that has run puts holds: intervals are valid, results touch of them what results of their symbols do,

@@ -17,7 +17,7 @@ use Rattle.ipg_lin.specs.Formula.{Solvable}
 use Rattle.ipg_cert.specs.declared.refutation.Refutation.{Refutation}
 use Rattle.ipg_cert.specs.Laws.{ChecksRefute}
 use Rattle.ipg_facts_laws.specs.Laws.{AllSolved, ConditionsAreParts, JointSolvesParts}
-use Rattle.ipg_proof.specs.Calls.{Calls, calls_of, keep_of, keeps, joint_of, is_checked, edge_checks, live_graph, with_set}
+use Rattle.ipg_proof.specs.Calls.{CallGraph, calls_of, keep_of, keeps, joint_of, is_checked, edge_checks, live_graph, with_set}
 use Rattle.ipg_proof.specs.Cycles.{LiveCyclesAreCycles, LoopsAreLive}
 use Rattle.ipg_proof.proofs.Lists.{all_weaker}
 use Rattle.ipg_proof.proofs.Graphs.{SameEnds, still_simple}
@@ -109,7 +109,7 @@ solved_first eoi None parts h = (λ part e. absurd (none_some part e), h)
 solved_first eoi (Some p) parts h =
     (λ part e. subst (λ (q : Formula × Boxed). Solvable q.0 q.1) (some_same p part e) (h.0.1.0, h.0.1.1.0, h.0.1.1.1), h.1)
 
-solved_one : (calls : Calls) (eoi : ℤ) (cycle : List ℕ) (e : ℕ) (part : Formula × Boxed) → AllSolved eoi (keeps calls cycle) → Contains cycle e
+solved_one : (calls : CallGraph) (eoi : ℤ) (cycle : List ℕ) (e : ℕ) (part : Formula × Boxed) → AllSolved eoi (keeps calls cycle) → Contains cycle e
     → keep_of calls e ≡ Some part → Solvable part.0 part.1
 solved_one calls eoi [] e part h (k, lt, at) is = absurd (omega (arith, lt))
 solved_one calls eoi (x ∷ cycle) e part h (zero, lt, at) is =

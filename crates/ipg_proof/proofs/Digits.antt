@@ -12,8 +12,8 @@ use Rattle.std.proofs.lemmas.Str.{digit_value_digit}
 use Rattle.std.proofs.lemmas.Fmt.{decimal_by_steps, decimal_is_IsNumeral, decimal_step, decimal_digit, decimal_nonempty, first_decimal, decimal_injective}
 use Rattle.std.proofs.lemmas.Int.Digits.{digits_value_is, number_after_append, number_after_ge}
 use Rattle.ipg_proof.specs.Texts.{number_text, IsShort, IsLong}
-use Rattle.ipg_proof.specs.declared.reader.Halt.{Halt}
-use Rattle.ipg_proof.specs.declared.reader.Halt.TheVariants.{Here, Memory}
+use Rattle.ipg_proof.specs.declared.cursor.Stall.{Stall}
+use Rattle.ipg_proof.specs.declared.cursor.Stall.TheVariants.{Here, Memory}
 use Rattle.ipg_proof.specs.Numbers.{IsDigit, Begun, Goes, IsNoStart, IsDone, IsNumber, FirstAnswer, IsMore, NextAnswer, WithDigit}
 use Rattle.ipg_proof.specs.Reads.{IsFrom, IsWithin, AreAlone, Reads, Stops, any, always}
 use Rattle.ipg_proof.proofs.Readers.{Front, fronts, heads, tails, no_cons, here_is_no_memory, made_of, read_memory}
@@ -256,7 +256,7 @@ stuck_same b now left r = at r.says.taken r.says.splits r.says.begins.2 r.says.b
     at (x ∷ y ∷ taken) splits rest e = absurd (let s : ⊥ = omega (arith, ap length e) in s)
 
 -- and then the byte behind it
-pub number_ends : (stop least most v : ℕ) (bytes now left : List ℕ) (r : Result (Unit {0}) Halt) → stop < 48 → most < 2 ^ 64
+pub number_ends : (stop least most v : ℕ) (bytes now left : List ℕ) (r : Result (Unit {0}) Stall) → stop < 48 → most < 2 ^ 64
     → IsNumber least most bytes now v → IsDone most v now
     → Reads any (always (stop ∷ [])) now left r
     → Reads (IsWithin least most) (number_text stop) bytes left (made_of (λ it. v) r)

@@ -3,7 +3,7 @@ use Rattle.std.proofs.Common.{◌≡◌, ℕ, ◌+◌, ◌-◌, ◌≤◌, ◌<�
 use Rattle.std.proofs.Common.{append-nil, length-append, Ok, Err}
 use Rattle.std.proofs.Math.Seq.{take-append_seam}
 use Rattle.ipg_proof.specs.declared.certificate.Certificate.{Certificate}
-use Rattle.ipg_proof.specs.declared.reader.Halt.TheVariants.{Here}
+use Rattle.ipg_proof.specs.declared.cursor.Stall.TheVariants.{Here}
 use Rattle.ipg_proof.specs.Texts.{text_of, edge_line, cycle_line, heading, between, IsShort}
 use Rattle.ipg_proof.specs.Texts.{IsLong, IsEdgeEntry, IsCycleEntry, IsSpeakable, IsTextOf, GoesOn, IsTextFault}
 use Rattle.ipg_proof.specs.Reads.{Continues, Stops, Reads, AreAlone}

@@ -12,7 +12,7 @@ use Rattle.ipg_cert.specs.declared.words.WordFault.TheVariants.{At as FaultAt, M
 use Rattle.ipg_cert.specs.Words.{number_word, entry_words, step_words, spaced, words_of}
 use Rattle.ipg_cert.specs.Texts as cert
 use Rattle.ipg_cert.specs.Texts.{IsWord, IsSignedWord, IsEntry, IsInRange}
-use Rattle.ipg_proof.specs.declared.reader.Halt.TheVariants.{Here}
+use Rattle.ipg_proof.specs.declared.cursor.Stall.TheVariants.{Here}
 use Rattle.ipg_proof.specs.Texts.{number_text, refutation_line, edge_line, cycle_line, counted_text, IsShort, IsTree, IsEdgeEntry, IsCycleEntry}
 use Rattle.ipg_proof.specs.Reads.{Reads, Stops, AreAlone}
 use Rattle.ipg_proof.proofs.Readers.{heads, tails}

@@ -7,11 +7,11 @@ use Rattle.ipg_core.specs.MustTouch.{Marks}
 use Rattle.ipg_graph.specs.declared.edge.Edge.{Edge}
 use Rattle.ipg_lin.specs.declared.formula.Formula.{Formula}
 use Rattle.ipg_lin.specs.declared.formula.Boxed.{Boxed}
-use Rattle.ipg_facts.specs.Numbers.{keep}
-use Rattle.ipg_facts.specs.Joint.{joint}
+use Rattle.ipg_facts.specs.Keep.{keep}
+use Rattle.ipg_facts_forms.specs.Joint.{joint}
 use Rattle.ipg_facts_laws.specs.Laws.{IsPart, ArePartsWith, ConditionsAreParts}
 use Rattle.ipg_facts_laws.specs.Bounded.{JointIsPart}
-use Rattle.ipg_proof.specs.Calls.{Calls, keeps, joint_of}
+use Rattle.ipg_proof.specs.Calls.{CallGraph, keeps, joint_of}
 
 pub some_same : {A : Type 0} (a b : A) → Some a ≡ Some b → a ≡ b
 some_same a b e = cc
@@ -25,7 +25,7 @@ module _ (parts_are : ConditionsAreParts) (g : Grammar) (marks : Marks) where
   keep_is_part (Some edge) made e = subst IsPart (some_same (keep g marks edge) made e) (parts_are g marks (edge ∷ [])).0.0
 
 -- a cycle's edges, as far as they are some
-edges_at : Calls → List ℕ → List Edge
+edges_at : CallGraph → List ℕ → List Edge
 edges_at calls cycle = flat_map (λ e. option_to_list (slice_get calls.edges e)) cycle
 
 one_more : (g : Grammar) (marks : Marks) (found : Option Edge) (edges : List Edge)
@@ -33,7 +33,7 @@ one_more : (g : Grammar) (marks : Marks) (found : Option Edge) (edges : List Edg
 one_more g marks None edges = refl
 one_more g marks (Some edge) edges = refl
 
-keeps_are : (calls : Calls) (cycle : List ℕ) → keeps calls cycle ≡ map (keep calls.grammar calls.marks) (edges_at calls cycle)
+keeps_are : (calls : CallGraph) (cycle : List ℕ) → keeps calls cycle ≡ map (keep calls.grammar calls.marks) (edges_at calls cycle)
 unfolding edges_at
 keeps_are calls [] = refl
 keeps_are calls (e ∷ cycle) =
@@ -44,10 +44,10 @@ joint_by : JointIsPart → (parts : List (Formula × Boxed)) → ArePartsWith (p
 joint_by is [] are some = absurd (let h : ⊥ = omega (arith, some) in h)
 joint_by is (part ∷ parts) are some = (is (pos 0, pos 1073741824) part parts are).0.0
 
-pub conditions_of_cycle : ConditionsAreParts → (calls : Calls) (cycle : List ℕ) → ArePartsWith (pos 0, pos 1073741824) (keeps calls cycle)
+pub conditions_of_cycle : ConditionsAreParts → (calls : CallGraph) (cycle : List ℕ) → ArePartsWith (pos 0, pos 1073741824) (keeps calls cycle)
 conditions_of_cycle parts_are calls cycle =
     subst (ArePartsWith (pos 0, pos 1073741824)) (sym (keeps_are calls cycle)) (parts_are calls.grammar calls.marks (edges_at calls cycle))
 
-pub joint_is_part : ConditionsAreParts → JointIsPart → (calls : Calls) (cycle : List ℕ) → 0 < length (keeps calls cycle) → IsPart (joint_of calls cycle)
+pub joint_is_part : ConditionsAreParts → JointIsPart → (calls : CallGraph) (cycle : List ℕ) → 0 < length (keeps calls cycle) → IsPart (joint_of calls cycle)
 joint_is_part parts_are is calls cycle some =
     joint_by is (keeps calls cycle) (conditions_of_cycle parts_are calls cycle) some

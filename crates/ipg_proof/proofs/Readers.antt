@@ -1,16 +1,16 @@
 -- Readers one after another.
-use Rattle.std.proofs.Common.{◌≡◌, ◌-◌, ℕ, zero, suc, ◌⊎◌, List, [], ◌∷◌, ◌++◌, length, refl, sym, ap, ◌∙◌, subst, inl, inr, arith, append_assoc}
+use Rattle.std.proofs.Common.{◌≡◌, ◌-◌, ◌+◌, ◌<◌, ◌≤◌, ℕ, zero, suc, ◌⊎◌, List, [], ◌∷◌, ◌++◌, length, refl, sym, ap, ◌∙◌, subst, inl, inr, arith, append_assoc}
 use Rattle.std.proofs.Common.{length-append, Result, Ok, Err, append-nil}
 use Rattle.std.specs.Prelude.{MatchResult, IsErrAnd}
 use Rattle.std.proofs.lemmas.Result.{err_from_is_err_and}
 use Rattle.std.specs.List.{flat_map}
 use Rattle.std.proofs.lemmas.List.{append_cancel_left}
-use Rattle.ipg_proof.specs.declared.reader.Halt.{Halt}
-use Rattle.ipg_proof.specs.declared.reader.Halt.TheVariants.{Here, Memory}
+use Rattle.ipg_proof.specs.declared.cursor.Stall.{Stall}
+use Rattle.ipg_proof.specs.declared.cursor.Stall.TheVariants.{Here, Memory}
 use Rattle.ipg_proof.specs.Texts.{AreCounted}
 use Rattle.ipg_proof.specs.Reads.{Continues, Taken, Stops, IsStuck, Halts, Reads, AreAlone, AreSo, any, always}
 
-pub here_is_no_memory : ◌≡◌ {A = Halt} Here Memory → ⊥
+pub here_is_no_memory : ◌≡◌ {A = Stall} Here Memory → ⊥
 here_is_no_memory e = cc
 
 pub no_cons : (x : ℕ) (xs : List ℕ) → ◌≡◌ {A = List ℕ} (x ∷ xs) [] → ⊥
@@ -59,7 +59,7 @@ pub record Joins {A B C : Type 0} (IsA : A → Type 0) (a_spelled : A → List �
   pub some : (a : A) → IsA a → B
   pub some_is : (a : A) (is : IsA a) → IsB a (some a is)
 
-abbrev pub made_of : {B C : Type 0} → (B → C) → Result B Halt → Result C Halt
+abbrev pub made_of : {B C : Type 0} → (B → C) → Result B Stall → Result C Stall
 made_of f (Ok b) = Ok (f b)
 made_of f (Err why) = Err why
 
@@ -97,11 +97,11 @@ module _ {A B C : Type 0} (IsA : A → Type 0) (a_spelled : A → List ℕ) (IsB
                 (splits ∙ sym (append_assoc r.says.taken (x ∷ []) l) ∙ ap (λ w. w ++ l) f.longer ∙ append_assoc (a_spelled a) f.more l))
           ]
 
-  first_halts : (bytes left : List ℕ) (why : Halt) → Reads IsA a_spelled bytes left (Err why) → Halts IsC c_spelled bytes left why
+  first_halts : (bytes left : List ℕ) (why : Stall) → Reads IsA a_spelled bytes left (Err why) → Halts IsC c_spelled bytes left why
   first_halts bytes left Here r = first_stuck bytes left r
   first_halts bytes left Memory r = tt
 
-  pub read_first : (bytes left : List ℕ) (why : Halt) → Reads IsA a_spelled bytes left (Err why) → Reads IsC c_spelled bytes left (Err why)
+  pub read_first : (bytes left : List ℕ) (why : Stall) → Reads IsA a_spelled bytes left (Err why) → Reads IsC c_spelled bytes left (Err why)
   read_first bytes left why r = record {
     says = first_halts bytes left why r;
     back = λ c rest is e. r.back (j.first c) (b_spelled (j.first c) (j.second c) ++ rest) (j.first_is c is)
@@ -157,7 +157,7 @@ module _ {A B C : Type 0} (IsA : A → Type 0) (a_spelled : A → List ℕ) (IsB
                 let s : ⊥ = omega (arith, ap length none, length-append (s.taken ++ x ∷ []) f.more, length-append s.taken (x ∷ [])) in s
           ]
 
-  second_says : AreAlone IsA a_spelled → (bytes mid left : List ℕ) (a : A) (r : Result B Halt) → Reads IsA a_spelled bytes mid (Ok a)
+  second_says : AreAlone IsA a_spelled → (bytes mid left : List ℕ) (a : A) (r : Result B Stall) → Reads IsA a_spelled bytes mid (Ok a)
       → MatchResult r (Taken (IsB a) (b_spelled a) mid left) (Halts (IsB a) (b_spelled a) mid left)
       → MatchResult (made_of (make a) r) (Taken IsC c_spelled bytes left) (Halts IsC c_spelled bytes left)
   second_says alone bytes mid left a (Ok b) r s = record {
@@ -168,13 +168,13 @@ module _ {A B C : Type 0} (IsA : A → Type 0) (a_spelled : A → List ℕ) (IsB
   second_says alone bytes mid left a (Err Here) r s = second_stuck alone bytes mid left a r s
   second_says alone bytes mid left a (Err Memory) r s = tt
 
-  second_back : (left rest : List ℕ) (a : A) (c : C) (r : Result B Halt) → IsC c → a ≡ j.first c
+  second_back : (left rest : List ℕ) (a : A) (c : C) (r : Result B Stall) → IsC c → a ≡ j.first c
       → MatchResult r (λ b. (b ≡ j.second c) × (left ≡ rest)) (λ why. why ≡ Memory)
       → MatchResult (made_of (make a) r) (λ d. (d ≡ c) × (left ≡ rest)) (λ why. why ≡ Memory)
   second_back left rest a c (Ok b) is same h = (ap (λ y. make y b) same ∙ ap (make (j.first c)) h.0 ∙ j.made c is, h.1)
   second_back left rest a c (Err why) is same h = h
 
-  pub read_second : AreAlone IsA a_spelled → (bytes mid left : List ℕ) (a : A) (r : Result B Halt) → Reads IsA a_spelled bytes mid (Ok a)
+  pub read_second : AreAlone IsA a_spelled → (bytes mid left : List ℕ) (a : A) (r : Result B Stall) → Reads IsA a_spelled bytes mid (Ok a)
       → Reads (IsB a) (b_spelled a) mid left r
       → Reads IsC c_spelled bytes left (made_of (make a) r)
   read_second alone bytes mid left a r one two = record {
@@ -217,7 +217,7 @@ module _ {A B C : Type 0} (IsA : A → Type 0) (a_spelled : A → List ℕ) (IsB
 
 -- ---- the exit of a `?`
 
-pub exits : {A : Type 0} (Is : A → Type 0) (spell : A → List ℕ) (bytes left : List ℕ) (r : Result A Halt) (why : Halt) → IsErrAnd r (λ e. e ≡ why)
+pub exits : {A : Type 0} (Is : A → Type 0) (spell : A → List ℕ) (bytes left : List ℕ) (r : Result A Stall) (why : Stall) → IsErrAnd r (λ e. e ≡ why)
     → Reads Is spell bytes left (Err why) → Reads Is spell bytes left r
 exits Is spell bytes left r why is h =
     let p = err_from_is_err_and r is in
@@ -250,7 +250,7 @@ word_joins word IsB spell one one_is = record {
 
 -- what is left of a word answers as the whole
 pub record WordGoes (word first left now : List ℕ) : Type 0 where
-  pub goes : (end : List ℕ) (r : Result (Unit {0}) Halt) → Reads any (always left) now end r → Reads any (always word) first end r
+  pub goes : (end : List ℕ) (r : Result (Unit {0}) Stall) → Reads any (always left) now end r → Reads any (always word) first end r
 
 pub word_begins : (word first : List ℕ) → WordGoes word first word first
 word_begins word first = record { goes = λ end r h. h }
@@ -258,7 +258,7 @@ word_begins word first = record { goes = λ end r h. h }
 byte_joins : (b : ℕ) (left : List ℕ) → Joins any (always (b ∷ [])) (λ it. any) (λ it. always left) any (always (b ∷ left)) (λ it other. other)
 byte_joins b left = word_joins (b ∷ []) any (always left) tt tt
 
-made_same : (r : Result (Unit {0}) Halt) → made_of (λ it. it) r ≡ r
+made_same : (r : Result (Unit {0}) Stall) → made_of (λ it. it) r ≡ r
 made_same (Ok it) = refl
 made_same (Err why) = refl
 
@@ -270,7 +270,7 @@ word_more word first b left now mid one w = record {
       (alone_word (b ∷ [])) now mid end tt r one h));
 }
 
-pub word_halts : (word first : List ℕ) (b : ℕ) (left now end : List ℕ) (why : Halt) → Reads any (always (b ∷ [])) now end (Err why)
+pub word_halts : (word first : List ℕ) (b : ℕ) (left now end : List ℕ) (why : Stall) → Reads any (always (b ∷ [])) now end (Err why)
     → WordGoes word first (b ∷ left) now → Reads any (always word) first end (Err why)
 word_halts word first b left now end why one w =
     w.goes end (Err why) (read_first any (always (b ∷ [])) (λ it. any) (λ it. always left) any (always (b ∷ left)) (λ it other. other)
@@ -345,10 +345,10 @@ module _ {A : Type 0} (Is : A → Type 0) (spell : A → List ℕ) (alone : AreA
 
   -- so many values are left, and what they answer makes the whole answer
   pub record ListGoes (count : ℕ) (first : List ℕ) (done : List A) (n : ℕ) (now : List ℕ) : Type 0 where
-    pub goes : (end : List ℕ) (r : Result (List A) Halt) → Reads (AreSo Is n) (flat_map spell) now end r
+    pub goes : (end : List ℕ) (r : Result (List A) Stall) → Reads (AreSo Is n) (flat_map spell) now end r
         → Reads (AreSo Is count) (flat_map spell) first end (made_of (λ xs. done ++ xs) r)
 
-  made_none : (r : Result (List A) Halt) → r ≡ made_of (λ xs. [] ++ xs) r
+  made_none : (r : Result (List A) Stall) → r ≡ made_of (λ xs. [] ++ xs) r
   made_none (Ok xs) = refl
   made_none (Err why) = refl
 
@@ -359,12 +359,12 @@ module _ {A : Type 0} (Is : A → Type 0) (spell : A → List ℕ) (alone : AreA
   list_starts count first done n none size =
       subst (λ xs. ListGoes count first xs n first) (sym none) (subst (λ k. ListGoes count first [] k first) (sym size) (list_begins count first))
 
-  made_more : (done : List A) (a : A) (r : Result (List A) Halt)
+  made_more : (done : List A) (a : A) (r : Result (List A) Stall)
       → made_of (λ xs. done ++ xs) (made_of (λ xs. a ∷ xs) r) ≡ made_of (λ xs. (done ++ a ∷ []) ++ xs) r
   made_more done a (Ok xs) = ap Ok (sym (append_assoc done (a ∷ []) xs))
   made_more done a (Err why) = refl
 
-  pub list_more : (count : ℕ) (first : List ℕ) (done : List A) (n m : ℕ) (a : A) (now mid : List ℕ) → n ≡ suc m → Reads Is spell now mid (Ok a)
+  list_more : (count : ℕ) (first : List ℕ) (done : List A) (n m : ℕ) (a : A) (now mid : List ℕ) → n ≡ suc m → Reads Is spell now mid (Ok a)
       → ListGoes count first done n now → ListGoes count first (done ++ a ∷ []) m mid
   list_more count first done n m a now mid size r l = record {
     goes = λ end rest h.
@@ -374,7 +374,7 @@ module _ {A : Type 0} (Is : A → Type 0) (spell : A → List ℕ) (alone : AreA
         subst (Reads (AreSo Is count) (flat_map spell) first end) (made_more done a rest) (l.goes end (made_of (λ xs. a ∷ xs) rest) all);
   }
 
-  pub list_halts : (count : ℕ) (first : List ℕ) (done : List A) (n m : ℕ) (why : Halt) (now end : List ℕ) → n ≡ suc m → Reads Is spell now end (Err why)
+  list_halts : (count : ℕ) (first : List ℕ) (done : List A) (n m : ℕ) (why : Stall) (now end : List ℕ) → n ≡ suc m → Reads Is spell now end (Err why)
       → ListGoes count first done n now → Reads (AreSo Is count) (flat_map spell) first end (Err why)
   list_halts count first done n m why now end size r l =
       let one' = read_first Is spell (λ x. AreSo Is m) (λ x. flat_map spell) (AreSo Is (suc m)) (flat_map spell) (λ x xs. x ∷ xs) (cons_joins m) now
@@ -391,11 +391,31 @@ module _ {A : Type 0} (Is : A → Type 0) (spell : A → List ℕ) (alone : AreA
       back [] rest is e = (refl, e)
       back (x ∷ xs) rest is e = absurd (let s : ⊥ = omega (arith, is.0) in s)
 
-  pub list_ends : (count : ℕ) (first : List ℕ) (done : List A) (n : ℕ) (now : List ℕ) → n ≡ 0 → ListGoes count first done n now
+  list_ends : (count : ℕ) (first : List ℕ) (done : List A) (n : ℕ) (now : List ℕ) → n ≡ 0 → ListGoes count first done n now
       → Reads (AreSo Is count) (flat_map spell) first now (Ok done)
   list_ends count first done n now size l =
       subst (λ xs. Reads (AreSo Is count) (flat_map spell) first now (Ok xs)) (append-nil done)
       (l.goes now (Ok []) (subst (λ k. Reads (AreSo Is k) (flat_map spell) now now (Ok [])) (sym size) (none_left now)))
+
+  -- a turn of the loop that reads them: one halts, none is left, or one more is read
+  pub turn_halts : (count : ℕ) (first : List ℕ) (done : List A) (at : ℕ) (r : Result (List A) Stall) (why : Stall) (now end : List ℕ) → at < count
+      → IsErrAnd r (λ e. e ≡ why) → Reads Is spell now end (Err why) → ListGoes count first done (count - at) now
+      → Reads (AreSo Is count) (flat_map spell) first end r
+  turn_halts count first done at r why now end more exit one goes =
+      exits (AreSo Is count) (flat_map spell) first end r why exit
+      (list_halts count first done (count - at) (count - (at + 1)) why now end (omega (arith, more)) one goes)
+
+  pub turns_end : (count : ℕ) (first : List ℕ) (done made : List A) (at : ℕ) (now : List ℕ) → count ≤ at → made ≡ done
+      → ListGoes count first done (count - at) now → Reads (AreSo Is count) (flat_map spell) first now (Ok made)
+  turns_end count first done made at now past is goes =
+      subst (λ xs. Reads (AreSo Is count) (flat_map spell) first now (Ok xs)) (sym is)
+      (list_ends count first done (count - at) now (omega (arith, past)) goes)
+
+  pub turn_reads : (count : ℕ) (first : List ℕ) (done made : List A) (at : ℕ) (a : A) (now mid : List ℕ) → at < count → made ≡ done ++ a ∷ []
+      → Reads Is spell now mid (Ok a) → ListGoes count first done (count - at) now → ListGoes count first made (count - (at + 1)) mid
+  turn_reads count first done made at a now mid more is one goes =
+      subst (λ xs. ListGoes count first xs (count - (at + 1)) mid) (sym is)
+      (list_more count first done (count - at) (count - (at + 1)) a now mid (omega (arith, more)) one goes)
 
   -- a count, and as many values: a whole list
   pub counted_joins : (IsCount : ℕ → Type 0) (number : ℕ → List ℕ)
@@ -433,7 +453,7 @@ pair_joins IsA a_spelled IsB b_spelled IsC c_spelled make first second made spel
 }
 
 -- the same values under another name
-says_same : {A : Type 0} (Is Also : A → Type 0) (spell : A → List ℕ) (bytes left : List ℕ) (r : Result A Halt) → ((a : A) → Is a → Also a)
+says_same : {A : Type 0} (Is Also : A → Type 0) (spell : A → List ℕ) (bytes left : List ℕ) (r : Result A Stall) → ((a : A) → Is a → Also a)
     → ((a : A) → Also a → Is a)
     → MatchResult r (Taken Is spell bytes left) (Halts Is spell bytes left) → MatchResult r (Taken Also spell bytes left) (Halts Also spell bytes left)
 says_same Is Also spell bytes left (Ok a) to from h = record { is = to a h.is; splits = h.splits }
@@ -449,7 +469,7 @@ says_same Is Also spell bytes left (Err Here) to from h = record {
     stops [] s = tt
     stops (x ∷ l) s = λ on. s (on.0, from on.0 on.1, on.2, on.3)
 
-pub read_same : {A : Type 0} (Is Also : A → Type 0) (spell : A → List ℕ) (bytes left : List ℕ) (r : Result A Halt) → ((a : A) → Is a → Also a)
+pub read_same : {A : Type 0} (Is Also : A → Type 0) (spell : A → List ℕ) (bytes left : List ℕ) (r : Result A Stall) → ((a : A) → Is a → Also a)
     → ((a : A) → Also a → Is a)
     → Reads Is spell bytes left r → Reads Also spell bytes left r
 read_same Is Also spell bytes left r to from h = record {

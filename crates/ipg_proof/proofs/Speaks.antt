@@ -17,11 +17,11 @@ use Rattle.ipg_graph.specs.Answers.{Spot, Start, At, IsRun}
 use Rattle.ipg_facts_edges.specs.Edges.{edges_of}
 use Rattle.ipg_lin.specs.declared.formula.Formula.{Formula}
 use Rattle.ipg_lin.specs.declared.formula.Boxed.{Boxed}
-use Rattle.ipg_facts.specs.Numbers.{keep}
+use Rattle.ipg_facts.specs.Keep.{keep}
 use Rattle.ipg_cert.specs.declared.refutation.Refutation.{Refutation}
 use Rattle.ipg_facts_laws.specs.Laws.{EdgesAreFew}
 use Rattle.ipg_facts_laws.specs.Offers.{offers, ConditionsOffer, JointsOffer}
-use Rattle.ipg_proof.specs.Calls.{Calls, calls_of, keep_of, keeps, joint_of, is_checked, edge_checks, cycle_checks, dead_edges, live_graph}
+use Rattle.ipg_proof.specs.Calls.{CallGraph, calls_of, keep_of, keeps, joint_of, is_checked, edge_checks, cycle_checks, dead_edges, live_graph}
 use Rattle.ipg_proof.specs.Places.{Rise}
 use Rattle.ipg_proof.specs.Texts.{IsShort, IsTree, IsEdgeEntry, IsCycleEntry}
 use Rattle.ipg_proof.specs.Speaks.{HaveWords, ProvesIsSpeakable}
@@ -144,7 +144,7 @@ module _ (g : Grammar) (marks : Marks) (dead : List ℕ) (edges_few : length (ed
 pub proves_is_speakable : EdgesAreFew → ConditionsOffer → JointsOffer → ProvesIsSpeakable
 proves_is_speakable edges conditions joints g c good proves typed =
     let checked = proves.1 in
-    let calls : Calls = calls_of g checked.marks in
+    let calls : CallGraph = calls_of g checked.marks in
     let few : length (edges_of g) < 2 ^ 32 = edges g good in
     let rules : length g.rules ≤ 1024 = good.well_formed.limit in
     let rise = proves.0.dead in

@@ -6,11 +6,11 @@ use Rattle.ipg_graph.specs.declared.edge.Edge.{Edge}
 use Rattle.ipg_lin.specs.declared.formula.Formula.{Formula}
 use Rattle.ipg_lin.specs.declared.formula.Boxed.{Boxed}
 use Rattle.ipg_lin.specs.Formula.{Solvable}
-use Rattle.ipg_facts.specs.Numbers.{keep, keep_before}
-use Rattle.ipg_facts.specs.Joint.{joint}
+use Rattle.ipg_facts.specs.Keep.{keep, keep_before}
+use Rattle.ipg_facts_forms.specs.Joint.{joint}
 use Rattle.ipg_facts_laws.specs.Before.{JointsSolveBefore}
-use Rattle.ipg_proof.specs.Calls.{calls_of, joint_of}
-use Rattle.ipg_proof.specs.Wider.{joint_before, AcceptedStays}
+use Rattle.ipg_proof.specs.Calls.{calls_of}
+use Rattle.ipg_proof.specs.Wider.{AcceptedStays}
 
 abbrev edges_at : List Edge → List ℕ → List Edge
 edges_at edges cycle = flat_map (λ e. option_to_list (slice_get edges e)) cycle

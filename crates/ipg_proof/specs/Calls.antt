@@ -8,44 +8,44 @@ use Rattle.ipg_graph.specs.Graph.{Graph, graph_of}
 use Rattle.ipg_facts_edges.specs.Edges.{edges_of}
 use Rattle.ipg_lin.specs.declared.formula.Formula.{Formula}
 use Rattle.ipg_lin.specs.declared.formula.Boxed.{Boxed}
-use Rattle.ipg_facts.specs.Numbers.{keep}
-use Rattle.ipg_facts.specs.Joint.{joint}
+use Rattle.ipg_facts.specs.Keep.{keep}
+use Rattle.ipg_facts_forms.specs.Joint.{joint}
 use Rattle.ipg_cert.specs.declared.refutation.Refutation.{Refutation}
 use Rattle.ipg_cert.specs.Checks.{checks}
 use Rattle.ipg_proof.specs.declared.certificate.Certificate.{Certificate}
 
 -- a grammar, which of its rules must touch a byte, and its edges by number
-pub record Calls : Type 0 where
+pub record CallGraph : Type 0 where
   pub grammar : Grammar
   pub marks : Marks
   pub edges : List Edge
 
-abbrev pub calls_of : Grammar → Marks → Calls
+abbrev pub calls_of : Grammar → Marks → CallGraph
 calls_of g marks = record { grammar = g; marks = marks; edges = edges_of g }
 
 -- the conditions of the edge of a number, where there is one
-abbrev pub keep_of : Calls → ℕ → Option (Formula × Boxed)
+abbrev pub keep_of : CallGraph → ℕ → Option (Formula × Boxed)
 keep_of calls e = option_map (keep calls.grammar calls.marks) (slice_get calls.edges e)
 
-abbrev pub keeps : Calls → List ℕ → List (Formula × Boxed)
+abbrev pub keeps : CallGraph → List ℕ → List (Formula × Boxed)
 keeps calls cycle = flat_map (λ e. option_to_list (keep_of calls e)) cycle
 
 -- the conditions of a cycle's edges at one length of the part
-abbrev pub joint_of : Calls → List ℕ → Formula × Boxed
+abbrev pub joint_of : CallGraph → List ℕ → Formula × Boxed
 joint_of calls cycle = joint (keeps calls cycle)
 
 abbrev pub is_checked : Refutation → Formula × Boxed → Bool
 is_checked r part = checks part.0 part.1 r
 
 -- a dead edge's refutation checks against the edge's conditions, a cycle's against its joint
-abbrev pub edge_checks : Calls → ℕ × Refutation → Bool
+abbrev pub edge_checks : CallGraph → ℕ × Refutation → Bool
 edge_checks calls entry = or_false (option_map (is_checked entry.1) (keep_of calls entry.0))
 
-abbrev pub cycle_checks : Calls → List ℕ × Refutation → Bool
+abbrev pub cycle_checks : CallGraph → List ℕ × Refutation → Bool
 cycle_checks calls entry = is_checked entry.1 (joint_of calls entry.0)
 
 -- whether each entry's refutation checks: the dead edges', then the cycles'
-abbrev pub checked : Calls → Certificate → List Bool
+abbrev pub checked : CallGraph → Certificate → List Bool
 checked calls c = map (edge_checks calls) c.dead ++ map (cycle_checks calls) c.cycles
 
 abbrev pub dead_edges : Certificate → List ℕ

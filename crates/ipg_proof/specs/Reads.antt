@@ -1,8 +1,8 @@
 -- What a reader answers: the value whose spelling it took, or that no spelling goes on with the byte where it stands.
 use Rattle.std.specs.Prelude.{◌≡◌, ℕ, ◌≤◌, ◌<◌, ◌^◌, List, [], ◌∷◌, ◌++◌, length, Result, MatchResult}
 use Rattle.std.specs.List.{AllByRecursion}
-use Rattle.ipg_proof.specs.declared.reader.Halt.{Halt}
-use Rattle.ipg_proof.specs.declared.reader.Halt.TheVariants.{Here, Memory}
+use Rattle.ipg_proof.specs.declared.cursor.Stall.{Stall}
+use Rattle.ipg_proof.specs.declared.cursor.Stall.TheVariants.{Here, Memory}
 
 -- a spelling goes on from the bytes, or is all of them
 abbrev pub Continues : {A : Type 0} → (A → Type 0) → (A → List ℕ) → List ℕ → Type 0
@@ -23,12 +23,12 @@ pub record IsStuck {A : Type 0} (Is : A → Type 0) (spell : A → List ℕ) (by
   pub begins : Continues Is spell taken
   pub stops : Stops Is spell taken left
 
-abbrev pub Halts : {A : Type 0} → (A → Type 0) → (A → List ℕ) → List ℕ → List ℕ → Halt → Type 0
+abbrev pub Halts : {A : Type 0} → (A → Type 0) → (A → List ℕ) → List ℕ → List ℕ → Stall → Type 0
 Halts Is spell bytes left Here = IsStuck Is spell bytes left
 Halts Is spell bytes left Memory = Unit {0}
 
 -- from these bytes the answer, and what is left
-pub record Reads {A : Type 0} (Is : A → Type 0) (spell : A → List ℕ) (bytes left : List ℕ) (r : Result A Halt) : Type 0 where
+pub record Reads {A : Type 0} (Is : A → Type 0) (spell : A → List ℕ) (bytes left : List ℕ) (r : Result A Stall) : Type 0 where
   pub says : MatchResult r (Taken Is spell bytes left) (Halts Is spell bytes left)
   pub back : (a : A) (rest : List ℕ) → Is a → bytes ≡ spell a ++ rest → MatchResult r (λ b. (b ≡ a) × (left ≡ rest)) (λ why. why ≡ Memory)
 

@@ -7,13 +7,13 @@ use Rattle.ipg_graph.specs.Cycle.{IsSimpleCycle}
 use Rattle.ipg_lin.specs.declared.formula.Formula.{Formula}
 use Rattle.ipg_lin.specs.declared.formula.Boxed.{Boxed}
 use Rattle.ipg_lin.specs.Formula.{Solvable}
-use Rattle.ipg_facts.specs.Numbers.{keep_before}
-use Rattle.ipg_facts.specs.Joint.{joint}
-use Rattle.ipg_proof.specs.Calls.{Calls, calls_of, live_graph}
+use Rattle.ipg_facts.specs.Keep.{keep_before}
+use Rattle.ipg_facts_forms.specs.Joint.{joint}
+use Rattle.ipg_proof.specs.Calls.{CallGraph, calls_of, live_graph}
 use Rattle.ipg_proof.specs.Proves.{Accepts}
 
 -- the earlier conditions of a cycle's edges at one length of the part
-abbrev pub joint_before : Calls → List ℕ → Formula × Boxed
+abbrev pub joint_before : CallGraph → List ℕ → Formula × Boxed
 joint_before calls cycle =
     joint (flat_map (λ e. option_to_list (option_map (keep_before calls.grammar calls.marks) (slice_get calls.edges e))) cycle)
 

@@ -3,7 +3,7 @@ use ipg_graph::Edge;
 
 /// A grammar, which of its rules must touch a byte, and its edges by number.
 #[derive(Clone, Copy)]
-pub struct Calls<'a> {
+pub struct CallGraph<'a> {
     pub grammar: &'a Core,
     pub marks: &'a [bool],
     pub edges: &'a [Edge],

@@ -4,7 +4,7 @@ ghost use Rattle.ipg_proof.specs.Calls as spec;
 ghost use Rattle.ipg_proof.specs.Proves.{first_false};
 ghost use Rattle.ipg_proof.specs.Seen.{seen};
 
-use crate::calls::Calls;
+use crate::calls::CallGraph;
 use crate::certificate::Certificate;
 use crate::conditions::{joint_of, keep_of};
 use ipg_cert::{Refutation, check};
@@ -12,7 +12,11 @@ use ipg_num::List;
 use std::alloc::{AllocError, Global};
 
 /// A dead edge's refutation checks against the edge's conditions.
-fn edge_checks(alloc: Global, calls: Calls, entry: &(u32, Refutation)) -> Result<bool, AllocError>
+fn edge_checks(
+    alloc: Global,
+    calls: CallGraph,
+    entry: &(u32, Refutation),
+) -> Result<bool, AllocError>
     ensures { IfOk result (λ on. on ≡ spec.edge_checks (seen calls.entry) entry.now) }
 {
     let edge = entry.0;
@@ -26,7 +30,7 @@ fn edge_checks(alloc: Global, calls: Calls, entry: &(u32, Refutation)) -> Result
 /// A cycle's refutation checks against the joint of its edges' conditions.
 fn cycle_checks(
     alloc: Global,
-    calls: Calls,
+    calls: CallGraph,
     entry: &(List<u32>, Refutation),
 ) -> Result<bool, AllocError>
     ensures { IfOk result (λ on. on ≡ spec.cycle_checks (seen calls.entry) entry.now) }
@@ -37,7 +41,7 @@ fn cycle_checks(
 
 fn unsound_edge(
     alloc: Global,
-    calls: Calls,
+    calls: CallGraph,
     dead: &[(u32, Refutation)],
 ) -> Result<Option<u64>, AllocError>
     ensures { IfOk result (λ at. at ≡ first_false 0 (map (spec.edge_checks (seen calls.entry)) dead.now)) }
@@ -53,7 +57,7 @@ fn unsound_edge(
 /// The first cycle whose refutation does not check, where the first one is entry number `from`.
 fn unsound_cycle(
     alloc: Global,
-    calls: Calls,
+    calls: CallGraph,
     from: u64,
     cycles: &[(List<u32>, Refutation)],
 ) -> Result<Option<u64>, AllocError>
@@ -69,7 +73,7 @@ fn unsound_cycle(
 }
 
 /// The first entry whose refutation does not check.
-pub fn unsound(alloc: Global, calls: Calls, c: &Certificate) -> Result<Option<u64>, AllocError>
+pub fn unsound(alloc: Global, calls: CallGraph, c: &Certificate) -> Result<Option<u64>, AllocError>
     ensures { IfOk result (λ at. at ≡ first_false 0 (spec.checked (seen calls.entry) c.now)) }
 {
     let dead = c.dead.as_slice();

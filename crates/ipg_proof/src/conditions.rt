@@ -5,16 +5,17 @@ ghost use Rattle.ipg_facts_laws.specs.Laws.{IsPart};
 ghost use Rattle.ipg_proof.specs.Calls as spec;
 ghost use Rattle.ipg_proof.specs.Seen.{seen};
 
-use crate::calls::Calls;
+use crate::calls::CallGraph;
 use crate::room::ask_room;
-use ipg_facts::{joint, keep};
+use ipg_facts::keep;
+use ipg_facts_forms::joint;
 use ipg_facts_laws::laws::{conditions_are_parts, joint_is_part};
 use ipg_lin::{Boxed, Formula};
 use std::alloc::{AllocError, Global};
 
 /// The conditions under which the call of the edge is made on its caller's whole part, and the bounds of their
 /// variables, of which the first is the length of the part.
-pub fn keep_of(alloc: Global, calls: Calls, edge: u32) -> Result<(Formula, Boxed), AllocError>
+pub fn keep_of(alloc: Global, calls: CallGraph, edge: u32) -> Result<(Formula, Boxed), AllocError>
     requires { edge < length calls.edges.now }
     ensures is { IfOk result (λ part. spec.keep_of (seen calls.entry) edge ≡ Some part) }
     ensures part { IfOk result IsPart }
@@ -28,7 +29,7 @@ pub fn keep_of(alloc: Global, calls: Calls, edge: u32) -> Result<(Formula, Boxed
 fn put_keep(
     alloc: Global,
     parts: &mut Vec<(Formula, Boxed)>,
-    calls: Calls,
+    calls: CallGraph,
     edge: u32,
 ) -> Result<(), AllocError>
     ensures { OnOk result (parts.new.items ≡ parts.old.items ++ option_to_list (spec.keep_of (seen calls.entry) edge)) }
@@ -41,7 +42,11 @@ fn put_keep(
 }
 
 /// The conditions of a cycle's edges.
-fn keeps(alloc: Global, calls: Calls, cycle: &[u32]) -> Result<Vec<(Formula, Boxed)>, AllocError>
+fn keeps(
+    alloc: Global,
+    calls: CallGraph,
+    cycle: &[u32],
+) -> Result<Vec<(Formula, Boxed)>, AllocError>
     ensures { IfOk result (λ parts. parts.items ≡ spec.keeps (seen calls.entry) cycle.now) }
 {
     let mut parts = Vec::new(alloc);
@@ -52,7 +57,11 @@ fn keeps(alloc: Global, calls: Calls, cycle: &[u32]) -> Result<Vec<(Formula, Box
 }
 
 /// The conditions of a cycle's edges at one length of the part. Numbers that are of no edge say nothing.
-pub fn joint_of(alloc: Global, calls: Calls, cycle: &[u32]) -> Result<(Formula, Boxed), AllocError>
+pub fn joint_of(
+    alloc: Global,
+    calls: CallGraph,
+    cycle: &[u32],
+) -> Result<(Formula, Boxed), AllocError>
     ensures is { IfOk result (λ made. made ≡ spec.joint_of (seen calls.entry) cycle.now) }
     ensures part { 0 < length (spec.keeps (seen calls.entry) cycle.now) → IfOk result IsPart }
 {

@@ -3,7 +3,7 @@ ghost use Rattle.std.specs.Prelude.{◌≡◌, IfOk, MatchResult, MatchOption};
 ghost use Rattle.ipg_proof.specs.Proves.{Proves, AreChecked, IsUnsound, IsUnsoundness, IsFault};
 ghost use Rattle.ipg_facts_edges.specs.Edges.{edges_of};
 
-use crate::calls::Calls;
+use crate::calls::CallGraph;
 use crate::certificate::Certificate;
 use crate::checking::unsound;
 use crate::fault::ProofWhy;
@@ -25,7 +25,7 @@ fn first_unsound(
     ensures { IfOk result (λ at. MatchOption at (AreChecked g.now c.now) (λ at. IsUnsound g.now c.now at)) }
 {
     let marks = must_touch(alloc, g)?;
-    let calls = Calls {
+    let calls = CallGraph {
         grammar: g,
         marks: marks.as_slice(),
         edges,

@@ -6,8 +6,8 @@ ghost use Rattle.ipg_proof.specs.Texts.{text_of, IsSpeakable, IsTextOf, IsCertFa
 ghost use Rattle.ipg_proof.specs.Reads.{Reads};
 
 use crate::certificate::Certificate;
+use crate::cursor::{Cursor, Stall};
 use crate::fault::CertFault;
-use crate::reader::{Halt, Reader};
 use std::alloc::Global;
 
 /// How many bytes of the text stand before those that are left.
@@ -18,16 +18,16 @@ fn place(text: &[u8], left: &[u8]) -> u64
     (text.len() - left.len()) as u64
 }
 
-fn fault_of(text: &[u8], left: &[u8], why: Halt) -> CertFault
+fn fault_of(text: &[u8], left: &[u8], why: Stall) -> CertFault
     requires { Reads IsSpeakable text_of text.now left.now (Err why) }
     ensures is { IsCertFault text.now result }
     ensures back { (c : Certificate) → IsTextOf c text.now → result ≡ Memory }
 {
     match why {
-        Halt::Here => CertFault::CertText {
+        Stall::Here => CertFault::CertText {
             at: place(text, left),
         },
-        Halt::Memory => CertFault::Memory,
+        Stall::Memory => CertFault::Memory,
     }
 }
 
@@ -35,7 +35,7 @@ fn fault_of(text: &[u8], left: &[u8], why: Halt) -> CertFault
 fn ended(
     text: &[u8],
     left: &[u8],
-    read: Result<Certificate, Halt>,
+    read: Result<Certificate, Stall>,
 ) -> Result<Certificate, CertFault>
     requires { Reads IsSpeakable text_of text.now left.now read }
     ensures is { MatchResult result (λ c. IsTextOf c text.now) (λ fault. IsCertFault text.now fault) }
@@ -63,7 +63,7 @@ pub fn cert_read(alloc: Global, text: &[u8]) -> Result<Certificate, CertFault>
     ensures is { MatchResult result (λ c. IsTextOf c text.now) (λ fault. IsCertFault text.now fault) }
     ensures back { (c : Certificate) → IsTextOf c text.now → MatchResult result (λ read. read ≡ c) (λ fault. fault ≡ Memory) }
 {
-    let mut reader = Reader { left: text };
-    let read = reader.certificate(alloc);
-    ended(text, reader.left, read)
+    let mut cursor = Cursor { left: text };
+    let read = cursor.certificate(alloc);
+    ended(text, cursor.left, read)
 }

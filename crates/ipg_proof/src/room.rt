@@ -10,19 +10,19 @@ use std::alloc::{AllocError, Global};
 /// How much the conditions of one edge may take, in words of 64 bits: 1.25 GiB. Past it memory is wanting.
 const MOST_ROOM: u64 = 5 << 25;
 
-/// What an atom or a choice takes, but for its keys.
+/// What an atom or a choice takes, but for its variables.
 const ATOM: u64 = 64;
 
-/// What a key takes, but for the name or the expression that it spells.
-const KEY: u64 = 12;
+/// What a variable takes, but for the name or the expression that it spells.
+const VARIABLE: u64 = 12;
 
 /// What is made of an expression, in words.
 #[derive(Clone, Copy)]
 struct Room {
     /// How long it is spelled.
     words: u64,
-    /// The keys of its form.
-    keys: u64,
+    /// The variables of its form.
+    variables: u64,
     /// The facts that its form carries.
     carried: u64,
     /// The most that a form carries that is made where it is read as a condition.
@@ -42,7 +42,7 @@ impl Room {
 
 /// The names of attributes, and what the bounds of arrays that have run take.
 #[derive(Drop)]
-struct Known<'a> {
+struct Context<'a> {
     names: &'a [Name],
     bounds: Vec<u64>,
 }
@@ -57,12 +57,12 @@ fn sum(parts: &[u64]) -> u64 {
 
 /// An atom over both forms, behind what they carry.
 fn compared(a: Room, b: Room) -> u64 {
-    sum(&[a.carried, b.carried, a.keys, b.keys, ATOM])
+    sum(&[a.carried, b.carried, a.variables, b.variables, ATOM])
 }
 
 /// The same, with an atom more.
 fn equated(a: Room, b: Room) -> u64 {
-    sum(&[compared(a, b), a.keys, b.keys, ATOM])
+    sum(&[compared(a, b), a.variables, b.variables, ATOM])
 }
 
 /// An atom in either order.
@@ -73,7 +73,7 @@ fn parted(a: Room, b: Room) -> u64 {
 fn nought() -> Room {
     Room {
         words: 4,
-        keys: 0,
+        variables: 0,
         carried: 0,
         most: 0,
         holds: ATOM,
@@ -82,10 +82,10 @@ fn nought() -> Room {
 }
 
 /// An expression that is true where it isn't 0.
-fn plain(words: u64, keys: u64, carried: u64, most: u64) -> Room {
+fn plain(words: u64, variables: u64, carried: u64, most: u64) -> Room {
     let form = Room {
         words,
-        keys,
+        variables,
         carried,
         most: most.max(carried),
         holds: 0,
@@ -93,7 +93,7 @@ fn plain(words: u64, keys: u64, carried: u64, most: u64) -> Room {
     };
     Room {
         words,
-        keys,
+        variables,
         carried,
         most: most.max(carried),
         holds: parted(form, nought()),
@@ -101,16 +101,16 @@ fn plain(words: u64, keys: u64, carried: u64, most: u64) -> Room {
     }
 }
 
-/// A variable whose key is the expression's spelling.
+/// A variable that is known by the expression's spelling.
 fn spelled(words: u64, carried: u64, most: u64) -> Room {
-    plain(words, words.saturating_add(KEY), carried, most)
+    plain(words, words.saturating_add(VARIABLE), carried, most)
 }
 
 /// A condition, by what it puts where it is true and where it is false.
 fn condition(words: u64, most: u64, holds: u64, fails: u64) -> Room {
     Room {
         words,
-        keys: words.saturating_add(KEY),
+        variables: words.saturating_add(VARIABLE),
         carried: 0,
         most,
         holds,
@@ -125,29 +125,29 @@ fn name_length(names: &[Name], attr: u32) -> u64 {
     }
 }
 
-fn of_result(known: &Known, sym: &Sym, field: CoreField) -> Room {
+fn of_result(context: &Context, sym: &Sym, field: CoreField) -> Room {
     let words = match sym {
         Sym::Text(bytes) => sum(&[(bytes.len() as u64).saturating_mul(4), 8]),
         Sym::Prim(_) => 8,
         Sym::Rule(_) => 8,
     };
     let name = match field {
-        CoreField::Attr(attr) => name_length(known.names, attr),
+        CoreField::Attr(attr) => name_length(context.names, attr),
         CoreField::Start => 0,
         CoreField::End => 0,
     };
-    plain(words, name.saturating_add(KEY), 0, 0)
+    plain(words, name.saturating_add(VARIABLE), 0, 0)
 }
 
 /// The place behind an array or a repetition: either in the part, or what stands to the left.
-fn of_after(known: &Known, term: u32, left: Room) -> Room {
+fn of_after(context: &Context, term: u32, left: Room) -> Room {
     let words = left.words.saturating_add(4);
     let own = spelled(words, 0, 0);
-    let bounds = match item_at(known.bounds.as_slice(), term as usize) {
+    let bounds = match item_at(context.bounds.as_slice(), term as usize) {
         Some(bounds) => *bounds,
         None => 0,
     };
-    let inside = sum(&[own.keys, own.keys, ATOM, ATOM, ATOM]);
+    let inside = sum(&[own.variables, own.variables, ATOM, ATOM, ATOM]);
     let carried = sum(&[inside, equated(own, left), bounds, bounds]);
     spelled(words, carried, left.most)
 }
@@ -157,8 +157,8 @@ fn of_two(op: Op2, a: Room, b: Room) -> Room {
     let most = a.made().max(b.made());
     match op {
         Op2::Add | Op2::Sub | Op2::Mul => {
-            let keys = sum(&[a.keys, b.keys]).max(words.saturating_add(KEY));
-            plain(words, keys, sum(&[a.carried, b.carried]), most)
+            let variables = sum(&[a.variables, b.variables]).max(words.saturating_add(VARIABLE));
+            plain(words, variables, sum(&[a.carried, b.carried]), most)
         }
         Op2::Eq => condition(words, most, equated(a, b), parted(a, b)),
         Op2::Ne => condition(words, most, parted(a, b), equated(a, b)),
@@ -199,7 +199,7 @@ fn of_cond(c: Room, a: Room, b: Room) -> Room {
     let carried = sum(&[tests, equated(own, a), equated(own, b)]);
     Room {
         words,
-        keys: own.keys,
+        variables: own.variables,
         carried,
         most: c.most.max(a.most).max(b.most),
         holds: sum(&[tests, a.holds, b.holds]),
@@ -207,44 +207,50 @@ fn of_cond(c: Room, a: Room, b: Room) -> Room {
     }
 }
 
-fn of_expr(known: &Known, e: &CoreExpr) -> Room {
+fn of_expr(context: &Context, e: &CoreExpr) -> Room {
     match e {
         CoreExpr::Num(_) => nought(),
-        CoreExpr::Eoi => plain(4, KEY, 0, 0),
-        CoreExpr::Own(_) => plain(4, KEY, 0, 0),
-        CoreExpr::Outer(_) => plain(4, KEY, 0, 0),
-        CoreExpr::Loop => plain(4, KEY, 0, 0),
+        CoreExpr::Eoi => plain(4, VARIABLE, 0, 0),
+        CoreExpr::Own(_) => plain(4, VARIABLE, 0, 0),
+        CoreExpr::Outer(_) => plain(4, VARIABLE, 0, 0),
+        CoreExpr::Loop => plain(4, VARIABLE, 0, 0),
         CoreExpr::Seen {
             term: _,
             sym,
             field,
-        } => of_result(known, sym, *field),
+        } => of_result(context, sym, *field),
         CoreExpr::Item {
             term: _,
             index,
             field: _,
         } => {
-            let words = of_expr(known, index.get()).words.saturating_add(4);
-            spelled(words, sum(&[words, words, KEY, KEY, ATOM, ATOM]), 0)
+            let words = of_expr(context, index.get()).words.saturating_add(4);
+            spelled(
+                words,
+                sum(&[words, words, VARIABLE, VARIABLE, ATOM, ATOM]),
+                0,
+            )
         }
-        CoreExpr::After { term, left } => of_after(known, *term, of_expr(known, left.get())),
+        CoreExpr::After { term, left } => of_after(context, *term, of_expr(context, left.get())),
         CoreExpr::Neg(a) => {
-            let a = of_expr(known, a.get());
+            let a = of_expr(context, a.get());
             plain(
                 a.words.saturating_add(4),
-                a.keys.max(a.words.saturating_add(KEY)),
+                a.variables.max(a.words.saturating_add(VARIABLE)),
                 a.carried,
                 a.most,
             )
         }
-        CoreExpr::Not(a) => of_not(of_expr(known, a.get())),
-        CoreExpr::Two(op, a, b) => { of_two(*op, of_expr(known, a.get()), of_expr(known, b.get())) }
-        CoreExpr::Both(a, b) => of_both(of_expr(known, a.get()), of_expr(known, b.get())),
-        CoreExpr::Either(a, b) => of_either(of_expr(known, a.get()), of_expr(known, b.get())),
+        CoreExpr::Not(a) => of_not(of_expr(context, a.get())),
+        CoreExpr::Two(op, a, b) => {
+            of_two(*op, of_expr(context, a.get()), of_expr(context, b.get()))
+        }
+        CoreExpr::Both(a, b) => of_both(of_expr(context, a.get()), of_expr(context, b.get())),
+        CoreExpr::Either(a, b) => of_either(of_expr(context, a.get()), of_expr(context, b.get())),
         CoreExpr::Cond(c, a, b) => of_cond(
-            of_expr(known, c.get()),
-            of_expr(known, a.get()),
-            of_expr(known, b.get()),
+            of_expr(context, c.get()),
+            of_expr(context, a.get()),
+            of_expr(context, b.get()),
         ),
     }
 }
@@ -257,25 +263,25 @@ struct Put {
 }
 
 /// At most a dozen atoms over both ends, each of which carries its facts four times.
-fn of_ends(known: &Known, from: &CoreExpr, to: &CoreExpr) -> Put {
-    let l = of_expr(known, from);
-    let r = of_expr(known, to);
+fn of_ends(context: &Context, from: &CoreExpr, to: &CoreExpr) -> Put {
+    let l = of_expr(context, from);
+    let r = of_expr(context, to);
     let carried = sum(&[l.carried, r.carried]).saturating_mul(4);
-    let atoms = sum(&[l.keys, r.keys, KEY, ATOM]).saturating_mul(12);
+    let atoms = sum(&[l.variables, r.variables, VARIABLE, ATOM]).saturating_mul(12);
     Put {
         stays: sum(&[carried, atoms]),
         passes: l.made().max(r.made()),
     }
 }
 
-fn of_many(known: &Known, from: &CoreExpr, to: &CoreExpr) -> Put {
-    let l = of_expr(known, from);
-    let r = of_expr(known, to);
+fn of_many(context: &Context, from: &CoreExpr, to: &CoreExpr) -> Put {
+    let l = of_expr(context, from);
+    let r = of_expr(context, to);
     Put {
         stays: sum(&[
             compared(nought(), l),
             compared(l, r),
-            compared(r, plain(4, KEY, 0, 0)),
+            compared(r, plain(4, VARIABLE, 0, 0)),
         ]),
         passes: l.made().max(r.made()),
     }
@@ -296,12 +302,12 @@ fn both_put(a: Put, b: Put) -> Put {
 }
 
 /// The branches of a switch, each behind the tests of those before it.
-fn of_branches(known: &Known, cases: &[(CoreExpr, CoreSlot)], other: &CoreSlot) -> Put {
+fn of_branches(context: &Context, cases: &[(CoreExpr, CoreSlot)], other: &CoreSlot) -> Put {
     let mut earlier: u64 = 0;
-    let mut put = of_ends(known, &other.from, &other.to);
+    let mut put = of_ends(context, &other.from, &other.to);
     for case in cases {
-        let test = of_expr(known, &case.0);
-        put = both_put(put, of_ends(known, &case.1.from, &case.1.to));
+        let test = of_expr(context, &case.0);
+        put = both_put(put, of_ends(context, &case.1.from, &case.1.to));
         put.stays = sum(&[put.stays, earlier, test.holds, ATOM]);
         put.passes = put.passes.max(test.most);
         earlier = sum(&[earlier, test.fails]);
@@ -311,27 +317,27 @@ fn of_branches(known: &Known, cases: &[(CoreExpr, CoreSlot)], other: &CoreSlot) 
 }
 
 /// One branch of a switch, behind the tests of all others.
-fn of_branch(known: &Known, cases: &[(CoreExpr, CoreSlot)], other: &CoreSlot) -> Put {
-    let mut put = of_ends(known, &other.from, &other.to);
+fn of_branch(context: &Context, cases: &[(CoreExpr, CoreSlot)], other: &CoreSlot) -> Put {
+    let mut put = of_ends(context, &other.from, &other.to);
     for case in cases {
-        let test = of_expr(known, &case.0);
-        let ends = of_ends(known, &case.1.from, &case.1.to);
+        let test = of_expr(context, &case.0);
+        let ends = of_ends(context, &case.1.from, &case.1.to);
         put.stays = sum(&[put.stays.max(ends.stays), test.holds, test.fails]);
         put.passes = put.passes.max(test.most).max(ends.passes);
     }
     put
 }
 
-fn of_set(known: &Known, value: &CoreExpr) -> Put {
-    let value = of_expr(known, value);
+fn of_set(context: &Context, value: &CoreExpr) -> Put {
+    let value = of_expr(context, value);
     Put {
-        stays: equated(plain(4, KEY, 0, 0), value),
+        stays: equated(plain(4, VARIABLE, 0, 0), value),
         passes: value.made(),
     }
 }
 
-fn of_test(known: &Known, test: &CoreExpr) -> Put {
-    let test = of_expr(known, test);
+fn of_test(context: &Context, test: &CoreExpr) -> Put {
+    let test = of_expr(context, test);
     Put {
         stays: test.holds,
         passes: test.most,
@@ -339,11 +345,11 @@ fn of_test(known: &Known, test: &CoreExpr) -> Put {
 }
 
 /// What a term puts that has run.
-fn of_term(known: &Known, term: &CoreTerm) -> Put {
+fn of_term(context: &Context, term: &CoreTerm) -> Put {
     match term {
-        CoreTerm::Slot(slot) => of_ends(known, &slot.from, &slot.to),
-        CoreTerm::Set { attr: _, value } => of_set(known, value),
-        CoreTerm::Test(test) => of_test(known, test),
+        CoreTerm::Slot(slot) => of_ends(context, &slot.from, &slot.to),
+        CoreTerm::Set { attr: _, value } => of_set(context, value),
+        CoreTerm::Test(test) => of_test(context, test),
         CoreTerm::Repeat {
             first,
             last,
@@ -352,17 +358,17 @@ fn of_term(known: &Known, term: &CoreTerm) -> Put {
             to: _,
         } => Put {
             stays: 0,
-            passes: of_bounds(known, first, last),
+            passes: of_bounds(context, first, last),
         },
-        CoreTerm::Many { item: _, from, to } => of_many(known, from, to),
-        CoreTerm::Pick { cases, other } => of_branches(known, cases.as_slice(), other),
+        CoreTerm::Many { item: _, from, to } => of_many(context, from, to),
+        CoreTerm::Pick { cases, other } => of_branches(context, cases.as_slice(), other),
     }
 }
 
 /// What the edge's own term puts.
-fn of_own(known: &Known, term: &CoreTerm) -> Put {
+fn of_own(context: &Context, term: &CoreTerm) -> Put {
     match term {
-        CoreTerm::Slot(slot) => of_ends(known, &slot.from, &slot.to),
+        CoreTerm::Slot(slot) => of_ends(context, &slot.from, &slot.to),
         CoreTerm::Set { attr: _, value: _ } => none_put(),
         CoreTerm::Test(_) => none_put(),
         CoreTerm::Repeat {
@@ -371,18 +377,18 @@ fn of_own(known: &Known, term: &CoreTerm) -> Put {
             item: _,
             from,
             to,
-        } => both_put(of_ends(known, first, last), of_ends(known, from, to)),
-        CoreTerm::Many { item: _, from, to } => of_ends(known, from, to),
-        CoreTerm::Pick { cases, other } => of_branch(known, cases.as_slice(), other),
+        } => both_put(of_ends(context, first, last), of_ends(context, from, to)),
+        CoreTerm::Many { item: _, from, to } => of_ends(context, from, to),
+        CoreTerm::Pick { cases, other } => of_branch(context, cases.as_slice(), other),
     }
 }
 
-/// The bounds of an array: they are compared in either way where the place behind it is known.
-fn of_bounds(known: &Known, first: &CoreExpr, last: &CoreExpr) -> u64 {
-    compared(of_expr(known, first), of_expr(known, last))
+/// The bounds of an array: they are compared in either way where the place behind it is context.
+fn of_bounds(context: &Context, first: &CoreExpr, last: &CoreExpr) -> u64 {
+    compared(of_expr(context, first), of_expr(context, last))
 }
 
-fn pass(known: &mut Known, at: u32, term: &CoreTerm) {
+fn pass(context: &mut Context, at: u32, term: &CoreTerm) {
     if let CoreTerm::Repeat {
         first,
         last,
@@ -391,20 +397,20 @@ fn pass(known: &mut Known, at: u32, term: &CoreTerm) {
         to: _,
     } = term
     {
-        let bounds = of_bounds(known, first, last);
-        if (at as usize) < known.bounds.len() {
-            known.bounds[at as usize] = bounds;
+        let bounds = of_bounds(context, first, last);
+        if (at as usize) < context.bounds.len() {
+            context.bounds[at as usize] = bounds;
         }
     }
 }
 
 /// What terms put that run one after another.
-fn of_terms(known: &mut Known, terms: &[CoreTerm], order: &[u32]) -> Put {
+fn of_terms(context: &mut Context, terms: &[CoreTerm], order: &[u32]) -> Put {
     let mut put = none_put();
     for at in order {
         if let Some(term) = item_at(terms, *at as usize) {
-            put = both_put(put, of_term(known, term));
-            pass(known, *at, term);
+            put = both_put(put, of_term(context, term));
+            pass(context, *at, term);
         }
     }
     put
@@ -419,8 +425,12 @@ fn has_room(put: Put) -> Result<(), AllocError> {
     }
 }
 
-fn known_by<'a>(alloc: Global, names: &'a [Name], alt: &CoreAlt) -> Result<Known<'a>, AllocError> {
-    Ok(Known {
+fn context_of<'a>(
+    alloc: Global,
+    names: &'a [Name],
+    alt: &CoreAlt,
+) -> Result<Context<'a>, AllocError> {
+    Ok(Context {
         names,
         bounds: vec![in alloc; 0; alt.terms.len()]?,
     })
@@ -437,19 +447,19 @@ fn before(order: &[u32], term: u32) -> &[u32] {
 }
 
 fn of_call(alloc: Global, names: &[Name], alt: &CoreAlt, term: u32) -> Result<Put, AllocError> {
-    let mut known = known_by(alloc, names, alt)?;
+    let mut context = context_of(alloc, names, alt)?;
     let terms = alt.terms.as_slice();
-    let put = of_terms(&mut known, terms, before(alt.order.as_slice(), term));
+    let put = of_terms(&mut context, terms, before(alt.order.as_slice(), term));
     match item_at(terms, term as usize) {
         None => Ok(put),
-        Some(own) => Ok(both_put(put, of_own(&known, own))),
+        Some(own) => Ok(both_put(put, of_own(&context, own))),
     }
 }
 
 /// All terms of a holder, though some may not matter.
 fn of_alt(alloc: Global, names: &[Name], alt: &CoreAlt) -> Result<Put, AllocError> {
-    let mut known = known_by(alloc, names, alt)?;
-    Ok(of_terms(&mut known, alt.terms.as_slice(), alt.order.as_slice()))
+    let mut context = context_of(alloc, names, alt)?;
+    Ok(of_terms(&mut context, alt.terms.as_slice(), alt.order.as_slice()))
 }
 
 fn alt_at(g: &Core, rule: u32, alt: u32) -> Option<&CoreAlt> {

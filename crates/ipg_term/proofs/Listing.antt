@@ -7,7 +7,7 @@ use Rattle.ipg_graph.specs.Answers.{Listing, Spot, Start, At, End, IsNext, HasNo
 use Rattle.ipg_graph.specs.Lending.{AnswersWith}
 use Rattle.ipg_cert.specs.declared.refutation.Refutation.{Refutation}
 use Rattle.ipg_cert.specs.Laws.{ChecksRefute}
-use Rattle.ipg_proof.specs.Calls.{Calls, joint_of, cycle_checks}
+use Rattle.ipg_proof.specs.Calls.{CallGraph, joint_of, cycle_checks}
 use Rattle.ipg_graph.specs.Cycle.{IsSimpleCycle, StandsBefore}
 use Rattle.ipg_solve_least.specs.Least.{IsLeast}
 use Rattle.ipg_term.specs.Loops.{CanLoop}
@@ -39,7 +39,7 @@ pub handed_on : {A : Type 0} (P : A → Type 0) (Q : TermWhy → Type 0) (why : 
 handed_on P Q why (Ok a) h q = absurd h
 handed_on P Q why (Err e) h q = subst Q (sym h) q
 
-module _ (graph : Graph) (calls : Calls) where
+module _ (graph : Graph) (calls : CallGraph) where
   pub at_start : (at : Spot) → at ≡ Start → AreRefuted graph calls at []
   at_start at start = subst (λ s. AreRefuted graph calls s []) (sym start) (record { run = λ later run. run; check = tt; later = λ cycle simple can. tt })
 
@@ -77,7 +77,7 @@ module _ (graph : Graph) (calls : Calls) where
         not_both c other (is.first other simple (are.later other simple can)) (subst (StandsBefore other) loop.0 before);
   }
 
-pub advanced : ChecksRefute → (old new : Listing) (calls : Calls) (cycles : List (List ℕ × Refutation)) (c : List ℕ) (entry : List ℕ × Refutation)
+pub advanced : ChecksRefute → (old new : Listing) (calls : CallGraph) (cycles : List (List ℕ × Refutation)) (c : List ℕ) (entry : List ℕ × Refutation)
     → AreRefuted old.graph calls old.at cycles → AnswersWith old new (Some c) → entry.0 ≡ c → IsTrue (cycle_checks calls entry)
     → AreRefuted new.graph calls new.at (cycles ++ entry ∷ [])
 advanced refute old new calls cycles c entry are answer same on =
@@ -86,18 +86,18 @@ advanced refute old new calls cycles c entry are answer same on =
     subst (λ g. AreRefuted g calls new.at (cycles ++ entry ∷ [])) (sym answer.0)
     (subst (λ s. AreRefuted old.graph calls s (cycles ++ entry ∷ [])) (sym at) more)
 
-pub ended : (old new : Listing) (graph : Graph) (calls : Calls) (cycles : List (List ℕ × Refutation)) (answer : Option (List ℕ)) → old.graph ≡ graph
+pub ended : (old new : Listing) (graph : Graph) (calls : CallGraph) (cycles : List (List ℕ × Refutation)) (answer : Option (List ℕ)) → old.graph ≡ graph
     → AreRefuted old.graph calls old.at cycles → AnswersWith old new answer → ((c : List ℕ) → answer ≡ Some c → ⊥) → AreRefuted graph calls End cycles
 ended old new graph calls cycles answer same are h never =
     subst (λ g. AreRefuted g calls End cycles) same (at_end old.graph calls old.at cycles are (none_of old new answer h never))
 
-pub looped : (old new : Listing) (graph : Graph) (calls : Calls) (cycles : List (List ℕ × Refutation)) (c : List ℕ) (why : TermWhy) → old.graph ≡ graph
+pub looped : (old new : Listing) (graph : Graph) (calls : CallGraph) (cycles : List (List ℕ × Refutation)) (c : List ℕ) (why : TermWhy) → old.graph ≡ graph
     → AreRefuted old.graph calls old.at cycles → AnswersWith old new (Some c) → IsLoop calls c why → IsReasonIn graph calls why
 looped old new graph calls cycles c why same are answer loop =
     subst (λ g. IsReasonIn g calls why) same (first_loop old.graph calls old.at cycles c why are (next_of old new c answer) loop)
 
 -- the first cycle of all that are listed
-pub first_looked : {A : Type 0} (P : A → Type 0) (old new : Listing) (graph : Graph) (calls : Calls) (c : List ℕ) → old.graph ≡ graph → old.at ≡ Start
+pub first_looked : {A : Type 0} (P : A → Type 0) (old new : Listing) (graph : Graph) (calls : CallGraph) (c : List ℕ) → old.graph ≡ graph → old.at ≡ Start
     → AnswersWith old new (Some c) → (r : Result A TermWhy) → MatchResult r P (IsLoop calls c) → MatchResult r P (IsReasonIn graph calls)
 first_looked P old new graph calls c same start answer (Ok a) h = h
 first_looked P old new graph calls c same start answer (Err why) h = looped old new graph calls [] c why same (at_start old.graph calls old.at start) answer h

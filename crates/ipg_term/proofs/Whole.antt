@@ -14,7 +14,7 @@ use Rattle.ipg_graph.specs.Answers.{Start, End, IsRun}
 use Rattle.ipg_facts_edges.specs.Edges.{edges_of}
 use Rattle.ipg_lin.specs.Formula.{assigned}
 use Rattle.ipg_cert.specs.declared.refutation.Refutation.{Refutation}
-use Rattle.ipg_proof.specs.Calls.{Calls, calls_of, joint_of, keep_of, keeps, edge_checks, cycle_checks, live_graph}
+use Rattle.ipg_proof.specs.Calls.{CallGraph, calls_of, joint_of, keep_of, keeps, edge_checks, cycle_checks, live_graph}
 use Rattle.ipg_proof.specs.Cycles.{LiveCyclesAreCycles, LoopsAreLive}
 use Rattle.ipg_proof.specs.Proves.{Accepts, Proves}
 use Rattle.ipg_touch.specs.Laws.{OneLimit}
@@ -87,7 +87,7 @@ module _ (g : Grammar) (marks m : Marks) (edges : List Edge) (dead listed : List
       reason_by whole loops why (named (λ l k es. IsReasonIn (live l) (record { grammar = g; marks = k; edges = es }) why) reason)
 
 -- the first loop of the edges that aren't dead is the first of all
-pub reason_in_all : LiveCyclesAreCycles → LoopsAreLive → (calls : Calls) (edges : ℕ) (dead : List (ℕ × Refutation)) → calls.edges ≡ edges_of calls.grammar
+pub reason_in_all : LiveCyclesAreCycles → LoopsAreLive → (calls : CallGraph) (edges : ℕ) (dead : List (ℕ × Refutation)) → calls.edges ≡ edges_of calls.grammar
     → AreDead calls edges dead → (why : TermWhy) → IsReasonIn (live_graph calls.grammar (map (λ entry. entry.0) dead)) calls why
     → IsReasonIn (live_graph calls.grammar []) calls why
 reason_in_all whole loops calls edges dead same ok Memory reason = tt
@@ -102,7 +102,7 @@ reason_in_all whole loops calls edges dead same ok (MayLoop cycle values) reason
           before can;
     }
 
-pub reasons_in_all : {A : Type 0} (P : A → Type 0) → LiveCyclesAreCycles → LoopsAreLive → (calls : Calls) (edges : ℕ) (dead : List (ℕ × Refutation))
+pub reasons_in_all : {A : Type 0} (P : A → Type 0) → LiveCyclesAreCycles → LoopsAreLive → (calls : CallGraph) (edges : ℕ) (dead : List (ℕ × Refutation))
     → calls.edges ≡ edges_of calls.grammar → AreDead calls edges dead → (r : Result A TermWhy)
     → MatchResult r P (IsReasonIn (live_graph calls.grammar (map (λ entry. entry.0) dead)) calls)
     → MatchResult r P (IsReasonIn (live_graph calls.grammar []) calls)

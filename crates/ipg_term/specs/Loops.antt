@@ -4,13 +4,13 @@ use Rattle.ipg_core.specs.Grammar.{Grammar}
 use Rattle.ipg_core.specs.MustTouch.{Marks, AreLimit}
 use Rattle.ipg_graph.specs.Cycle.{IsSimpleCycle, StandsBefore}
 use Rattle.ipg_lin.specs.Formula.{Solvable}
-use Rattle.ipg_proof.specs.Calls.{Calls, calls_of, joint_of, live_graph}
+use Rattle.ipg_proof.specs.Calls.{CallGraph, calls_of, joint_of, live_graph}
 use Rattle.ipg_solve_least.specs.Least.{IsLeast}
 use Rattle.ipg_term.specs.declared.fault.TermWhy.{TermWhy}
 use Rattle.ipg_term.specs.declared.fault.TermWhy.TheVariants.{MayLoop, Memory}
 
 -- some length of the part, with some values, meets the conditions of all the cycle's edges
-abbrev pub CanLoop : Calls → List ℕ → Type 0
+abbrev pub CanLoop : CallGraph → List ℕ → Type 0
 CanLoop calls cycle = Solvable (joint_of calls cycle).0 (joint_of calls cycle).1
 
 -- the cycle can be walked at these values, at no lesser length, and no cycle before it can be walked at all

@@ -8,7 +8,7 @@ use crate::fault::{TermFault, TermWhy};
 use ipg_core::accepted::{Checked, Core};
 use ipg_facts_edges::edges;
 use ipg_proof::laws::{accepts_is_total, live_cycles_are_cycles, loops_are_live};
-use ipg_proof::{Calls, Certificate};
+use ipg_proof::{CallGraph, Certificate};
 use ipg_touch::must_touch;
 use std::alloc::Global;
 
@@ -46,7 +46,7 @@ fn examined(alloc: Global, g: &Core) -> Result<Certificate, TermWhy>
     g.rules();
     let edges = edges(alloc, g)?;
     let marks = must_touch(alloc, g)?;
-    let calls = Calls {
+    let calls = CallGraph {
         grammar: g,
         marks: marks.as_slice(),
         edges: edges.as_slice(),

@@ -13,7 +13,7 @@ use ipg_cert::Refutation;
 use ipg_cert::laws::checks_refute;
 use ipg_graph::Cycles;
 use ipg_num::List;
-use ipg_proof::{Calls, joint_of, live_cycles};
+use ipg_proof::{CallGraph, joint_of, live_cycles};
 use ipg_solve::Decision;
 use ipg_solve_least::decide_least;
 use std::alloc::{AllocError, Global};
@@ -30,7 +30,7 @@ fn next_cycle(alloc: Global, cycles: &mut Cycles) -> Result<Option<List<u32>>, A
 /// The cycle with the refutation of its joint conditions; it may loop where they can hold.
 fn refuted_cycle(
     alloc: Global,
-    calls: Calls,
+    calls: CallGraph,
     cycle: List<u32>,
 ) -> Result<(List<u32>, Refutation), TermWhy>
     requires { 0 < length (keeps (seen calls) cycle) }
@@ -63,7 +63,7 @@ fn are_below(edges: &[u32], decided: u32) -> bool {
     true
 }
 
-fn look_at(alloc: Global, calls: Calls, cycle: List<u32>, decided: u32) -> Result<Look, TermWhy>
+fn look_at(alloc: Global, calls: CallGraph, cycle: List<u32>, decided: u32) -> Result<Look, TermWhy>
     requires { 0 < length (keeps (seen calls) cycle) }
     ensures { MatchResult result (λ _. Unit) (IsLoop (seen calls.entry) cycle) }
 {
@@ -79,7 +79,7 @@ fn look_at(alloc: Global, calls: Calls, cycle: List<u32>, decided: u32) -> Resul
 /// Looks at the first cycle where the edges below a number are decided; it may loop.
 pub fn first_look(
     alloc: Global,
-    calls: Calls,
+    calls: CallGraph,
     dead: &[(u32, Refutation)],
     decided: u32,
 ) -> Result<Look, TermWhy>
@@ -98,7 +98,7 @@ pub fn first_look(
 /// The simple cycles of the edges that aren't dead, each with a refutation; or the first that has none.
 pub fn refuted_cycles(
     alloc: Global,
-    calls: Calls,
+    calls: CallGraph,
     dead: &[(u32, Refutation)],
 ) -> Result<List<(List<u32>, Refutation)>, TermWhy>
     requires { calls.edges.now ≡ edges_of calls.grammar.now }

@@ -13,11 +13,15 @@ use ipg_facts_laws::laws::{edges_are_few, edges_are_inside};
 use ipg_graph_parts::edges_on_cycles;
 use ipg_num::List;
 use ipg_proof::laws::{live_cycles_are_cycles, loops_are_live};
-use ipg_proof::{Calls, keep_of};
+use ipg_proof::{CallGraph, keep_of};
 use ipg_solve::{Decision, decide};
 use std::alloc::{AllocError, Global};
 
-fn refuted_edge(alloc: Global, calls: Calls, edge: u32) -> Result<Option<Refutation>, AllocError>
+fn refuted_edge(
+    alloc: Global,
+    calls: CallGraph,
+    edge: u32,
+) -> Result<Option<Refutation>, AllocError>
     requires { edge < length calls.edges.now }
     ensures { IfOk result (λ found. IfSome found (λ r. IsTrue (edge_checks (seen calls.entry) (edge, r)))) }
 {
@@ -86,7 +90,7 @@ impl Turns {
 
 fn look_now(
     alloc: Global,
-    calls: Calls,
+    calls: CallGraph,
     dead: &[(u32, Refutation)],
     edge: u32,
 ) -> Result<Look, TermWhy>
@@ -103,7 +107,7 @@ fn look_now(
 fn is_clear(
     alloc: Global,
     turns: &mut Turns,
-    calls: Calls,
+    calls: CallGraph,
     dead: &[(u32, Refutation)],
     edge: u32,
 ) -> Result<bool, TermWhy>
@@ -124,7 +128,7 @@ fn is_clear(
 fn put_refuted(
     alloc: Global,
     dead: &mut List<(u32, Refutation)>,
-    calls: Calls,
+    calls: CallGraph,
     edge: u32,
 ) -> Result<(), AllocError>
     requires edge { edge < length calls.edges.now }
@@ -142,7 +146,7 @@ fn put_dead(
     alloc: Global,
     dead: &mut List<(u32, Refutation)>,
     turns: &mut Turns,
-    calls: Calls,
+    calls: CallGraph,
     edge: u32,
 ) -> Result<(), TermWhy>
     requires edge { edge < length calls.edges.now }
@@ -164,7 +168,7 @@ fn put_dead(
 /// Edges on cycles that the solver refutes by themselves, by rising number, each with its refutation: all of them, or so many
 /// that no cycle is left of the others. An edge that lies on no cycle needs none, however hard it is to decide. Where it is
 /// seen on the way that the first cycle may loop, that is the answer.
-pub fn dead_edges(alloc: Global, calls: Calls) -> Result<List<(u32, Refutation)>, TermWhy>
+pub fn dead_edges(alloc: Global, calls: CallGraph) -> Result<List<(u32, Refutation)>, TermWhy>
     requires { calls.edges.now ≡ edges_of calls.grammar.now }
     ensures { MatchResult result (AreDead (seen calls.entry) (length calls.entry.edges.now))
         (IsReasonIn (live_graph calls.entry.grammar.now []) (seen calls.entry)) }

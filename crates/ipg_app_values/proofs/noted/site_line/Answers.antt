@@ -7,6 +7,6 @@ values-requires-clause-sound c = (c.in_ok-conditions.ensures c.args.edge c.requi
 
 pub values-requires-clause-there : goal.values-requires-clause-there
 values-requires-clause-there c =
-    ap length (c.as_slice.ensures.value ∙ c.in_ok-keys.ensures)
+    ap length (c.as_slice.ensures.value ∙ c.in_ok-all.ensures)
     ∙ as_many_on c.args.ground.calls.grammar.now c.args.ground.calls.marks.now c.args.edge _ c.in_ok-conditions.conditions
     (c.in_ok-conditions.ensures c.args.edge c.requires)

@@ -1,7 +1,7 @@
 use Rattle.std.proofs.Common.{ap, ◌∙◌}
 use Rattle.ipg_facts.specs.Keep.{before}
 use Rattle.ipg_facts.specs.View.{scope_of}
-use Rattle.ipg_facts.proofs.Parts.{on_ok}
+use Rattle.ipg_facts_forms.specs.Pieces.{on_ok}
 use Rattle.ipg_facts.proofs.Branches.{caller_made}
 use Rattle.ipg_facts.proofs.keeping.put_caller_facts.Goals as goal
 

@@ -1,7 +1,7 @@
 use Rattle.std.proofs.Common.{ap, ◌∙◌, ◌++◌, ◌+◌, ◌≤◌, drop, arith, length, ◌∷◌, []}
 use Rattle.ipg_facts.specs.Reading.{read}
 use Rattle.ipg_facts.specs.Aim.{branches_for, slot_for}
-use Rattle.ipg_facts.specs.declared.fact.Fact.TheVariants.{All}
+use Rattle.ipg_facts_forms.specs.declared.fact.Fact.TheVariants.{All}
 use Rattle.ipg_facts.specs.View.{scope_of}
 use Rattle.ipg_facts.proofs.Branches.{branches_more, branches_all}
 use Rattle.ipg_facts.proofs.members.branches.Goals as goal

@@ -2,7 +2,7 @@ use Rattle.std.proofs.Common.{ap, ◌∙◌, ◌++◌, ◌+◌, ◌-◌, ◌<◌
 use Rattle.ipg_facts.specs.Members.{takes}
 use Rattle.ipg_facts.specs.View.{scope_of}
 use Rattle.ipg_facts.proofs.Branches.{takes_here, takes_more, takes_all}
-use Rattle.ipg_facts.proofs.Parts.{on_ok}
+use Rattle.ipg_facts_forms.specs.Pieces.{on_ok}
 use Rattle.ipg_facts.proofs.members.put_takes.Goals as goal
 
 pub returns-then-at-branch : goal.returns-then-at-branch

@@ -1,6 +1,6 @@
 use Rattle.std.proofs.Common.{ap, ◌∙◌, ◌++◌}
 use Rattle.ipg_facts.specs.View.{scope_of}
-use Rattle.ipg_facts.proofs.Parts.{on_ok}
+use Rattle.ipg_facts_forms.specs.Pieces.{on_ok}
 use Rattle.ipg_facts.proofs.Aims.{terms_keep}
 use Rattle.ipg_facts.proofs.members.put_terms_members.Goals as goal
 

@@ -6,4 +6,4 @@ use Rattle.ipg_facts_holder.proofs.holder.kept_of.Given as goal
 
 abbrev pub invariant-loop-place : goal.invariant-loop-place
 invariant-loop-place l = (caller : List CoreTerm) → l.wanted ≡ outers caller
-    → l.behind.items ≡ holder.kept l.held.grammar.now l.held.at l.held.terms.now caller (drop l.place l.order)
+    → l.behind.items ≡ holder.kept l.holder.grammar.now l.holder.at l.holder.terms.now caller (drop l.place l.order)

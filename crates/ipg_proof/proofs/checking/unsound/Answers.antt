@@ -8,7 +8,7 @@ use Rattle.ipg_proof.specs.Seen.{seen}
 use Rattle.ipg_proof.proofs.Found.{first_some, first_none}
 use Rattle.ipg_proof.proofs.checking.unsound.Goals as goal
 
-behind : (calls : spec.Calls) (dead : List (ℕ × Refutation)) (cycles : List Bool) → first_false 0 (map (spec.edge_checks calls) dead) ≡ None
+behind : (calls : spec.CallGraph) (dead : List (ℕ × Refutation)) (cycles : List Bool) → first_false 0 (map (spec.edge_checks calls) dead) ≡ None
     → first_false (length dead) cycles ≡ first_false 0 (map (spec.edge_checks calls) dead ++ cycles)
 behind calls dead cycles none =
     let all = map (spec.edge_checks calls) dead in

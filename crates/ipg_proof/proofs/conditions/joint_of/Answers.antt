@@ -1,5 +1,5 @@
 use Rattle.std.proofs.Common.{ap, sym, ◌∙◌, subst}
-use Rattle.ipg_facts.specs.Joint.{joint}
+use Rattle.ipg_facts_forms.specs.Joint.{joint}
 use Rattle.ipg_facts_laws.specs.Laws.{IsPart}
 use Rattle.ipg_proof.specs.Seen.{seen}
 use Rattle.ipg_proof.proofs.Parts.{joint_is_part}

@@ -1,7 +1,7 @@
 use Rattle.std.proofs.Common.{ap, sym, append-nil, ◌∙◌, ◌++◌, option_to_list}
 use Rattle.std.specs.Prelude.{option_map}
 use Rattle.std.proofs.lemmas.Option.{slice_get_past}
-use Rattle.ipg_facts.specs.Numbers.{keep}
+use Rattle.ipg_facts.specs.Keep.{keep}
 use Rattle.ipg_proof.proofs.conditions.put_keep.Goals as goal
 
 pub returns-then-calls-edge : goal.returns-then-calls-edge
