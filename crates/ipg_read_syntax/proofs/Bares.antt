@@ -10,8 +10,8 @@ use Rattle.ipg_ast.specs.declared.grammar.Alt.{Alt, out-roll-Alt, roll-Alt}
 use Rattle.ipg_ast.specs.declared.grammar.Rule.{Rule, out-roll-Rule, roll-Rule}
 use Rattle.ipg_ast.specs.declared.grammar.Term.{Term}
 use Rattle.ipg_read_syntax.specs.Classes.{Infix, either, both, op}
-use Rattle.ipg_read_canonical_laws.specs.Bare.{bare_ident, bare_step, bare_expr, bare_place, bare_slot, bare_case, bare_term, bare_local_alt, bare_local}
-use Rattle.ipg_read_canonical_laws.specs.Bare.{bare_alt, bare_rule}
+use Rattle.ipg_read_syntax.specs.Bare.{bare_ident, bare_step, bare_expr, bare_place, bare_slot, bare_case, bare_term, bare_local_alt, bare_local}
+use Rattle.ipg_read_syntax.specs.Bare.{bare_alt, bare_rule}
 use Rattle.ipg_read_syntax.specs.Making.{made, last}
 use Rattle.ipg_read_syntax.proofs.Maps.{Maps}
 use Rattle.ipg_read_syntax.specs.Grammars.{infix_expr, alt_of, rule_of}

@@ -1,5 +1,5 @@
--- A grammar without the places of its tokens.
-use Rattle.std.specs.Prelude.{map}
+-- A token, and a grammar, without the places of tokens.
+use Rattle.std.specs.Prelude.{List, [], ◌∷◌, map}
 use Rattle.ipg_ast.specs.declared.grammar.Ident.{Ident}
 use Rattle.ipg_ast.specs.declared.grammar.Span.{Span}
 use Rattle.ipg_ast.specs.declared.grammar.Field.{Field}
@@ -18,6 +18,7 @@ use Rattle.ipg_ast.specs.declared.grammar.Term.TheVariants.{Slot as SlotTerm, Se
 use Rattle.ipg_ast.specs.declared.grammar.Alt.{Alt, out-Alt, roll-Alt}
 use Rattle.ipg_ast.specs.declared.grammar.Rule.{Rule, out-Rule, roll-Rule}
 use Rattle.ipg_ast.specs.declared.grammar.Grammar.{Grammar}
+use Rattle.ipg_read_syntax.specs.Classes.{Tok, name, text, question, switch_word, many_word}
 
 abbrev pub no_span : Span
 no_span = record { from = 0; to = 0 }
@@ -29,6 +30,18 @@ abbrev pub bare_field : Field → Field
 bare_field (Attribute i) = Attribute (bare_ident i)
 bare_field Start = Start
 bare_field End = End
+
+abbrev pub bare_tok : Tok → Tok
+bare_tok (name i) = name (bare_ident i)
+bare_tok (text bs at) = text bs no_span
+bare_tok (question at) = question no_span
+bare_tok (switch_word at) = switch_word no_span
+bare_tok (many_word at) = many_word no_span
+bare_tok t = t
+
+abbrev pub bare_toks : List Tok → List Tok
+bare_toks [] = []
+bare_toks (t ∷ ts) = bare_tok t ∷ bare_toks ts
 
 -- one level of an expression, over bare parts
 abbrev pub bare_step : Expr-F Expr → Expr
