@@ -1,11 +1,7 @@
 -- To leave out the places of tokens is a map of what is made.
-use Rattle.std.proofs.Common.{◌≡◌, List, [], ◌∷◌, refl, ap, ◌∙◌, sym, map}
+use Rattle.std.proofs.Common.{◌≡◌, List, [], ◌∷◌, refl, ap, map}
 use Rattle.ipg_ast.specs.declared.grammar.Ident.{Ident}
 use Rattle.ipg_ast.specs.declared.grammar.Expr.{Expr}
-use Rattle.ipg_ast.specs.declared.grammar.Expr.TheOpen.{Expr-F}
-use Rattle.ipg_ast.specs.declared.grammar.Expr.TheFolds.{fold-roll-Expr}
-use Rattle.ipg_ast.specs.declared.grammar.Expr.TheVariants.{rolls-Num, rolls-Eoi, rolls-Id, rolls-Part, rolls-Item, rolls-Group, rolls-Neg, rolls-Not}
-use Rattle.ipg_ast.specs.declared.grammar.Expr.TheVariants.{rolls-Two, rolls-Both, rolls-Either, rolls-Cond}
 use Rattle.ipg_ast.specs.declared.grammar.Alt.{Alt, out-roll-Alt, roll-Alt}
 use Rattle.ipg_ast.specs.declared.grammar.Rule.{Rule, out-roll-Rule, roll-Rule}
 use Rattle.ipg_ast.specs.declared.grammar.Term.{Term}
@@ -15,11 +11,12 @@ use Rattle.ipg_read_syntax.specs.Bare.{bare_alt, bare_rule}
 use Rattle.ipg_read_syntax.specs.Making.{made, last}
 use Rattle.ipg_read_syntax.proofs.Maps.{Maps}
 use Rattle.ipg_read_syntax.specs.Grammars.{infix_expr, alt_of, rule_of}
+use Rattle.ipg_ast.specs.Folds.{at_both, at_cond, at_either, at_eoi, at_group, at_id, at_item, at_neg, at_not, at_num, at_part, at_two}
 
 pub bare_infix : (i : Infix) (a b : Expr) → bare_expr (infix_expr i a b) ≡ infix_expr i (bare_expr a) (bare_expr b)
-bare_infix either a b = ap bare_expr (sym (rolls-Either a b)) ∙ fold-roll-Expr Expr bare_step (Expr-F.Either a b)
-bare_infix both a b = ap bare_expr (sym (rolls-Both a b)) ∙ fold-roll-Expr Expr bare_step (Expr-F.Both a b)
-bare_infix (op o) a b = ap bare_expr (sym (rolls-Two o a b)) ∙ fold-roll-Expr Expr bare_step (Expr-F.Two o a b)
+bare_infix either a b = at_either bare_step a b
+bare_infix both a b = at_both bare_step a b
+bare_infix (op o) a b = at_two bare_step o a b
 
 pub map_last : {A B : Type 0} (f : A → B) (xs : List A) (x : A) (y : B) → f x ≡ y → map f (last xs x) ≡ last (map f xs) y
 map_last f [] x y same = ap (λ z. z ∷ []) same
@@ -52,16 +49,16 @@ bared = record {
   on_alts = map bare_alt;
   on_rules = map bare_rule;
   on_log = λ log. tt;
-  num = λ z. ap bare_expr (sym (rolls-Num z)) ∙ fold-roll-Expr Expr bare_step (Expr-F.Num z);
-  eoi = ap bare_expr (sym rolls-Eoi) ∙ fold-roll-Expr Expr bare_step Expr-F.Eoi;
-  own = λ i. ap bare_expr (sym (rolls-Id i)) ∙ fold-roll-Expr Expr bare_step (Expr-F.Id i);
-  part = λ i f. ap bare_expr (sym (rolls-Part i f)) ∙ fold-roll-Expr Expr bare_step (Expr-F.Part i f);
-  item = λ i e f. ap bare_expr (sym (rolls-Item i e f)) ∙ fold-roll-Expr Expr bare_step (Expr-F.Item i e f);
-  group = λ e. ap bare_expr (sym (rolls-Group e)) ∙ fold-roll-Expr Expr bare_step (Expr-F.Group e);
-  neg = λ e. ap bare_expr (sym (rolls-Neg e)) ∙ fold-roll-Expr Expr bare_step (Expr-F.Neg e);
-  isnt = λ e. ap bare_expr (sym (rolls-Not e)) ∙ fold-roll-Expr Expr bare_step (Expr-F.Not e);
+  num = λ z. at_num bare_step z;
+  eoi = at_eoi bare_step;
+  own = λ i. at_id bare_step i;
+  part = λ i f. at_part bare_step i f;
+  item = λ i e f. at_item bare_step i e f;
+  group = λ e. at_group bare_step e;
+  neg = λ e. at_neg bare_step e;
+  isnt = λ e. at_not bare_step e;
   two = bare_infix;
-  choose = λ c at a b. ap bare_expr (sym (rolls-Cond c a b)) ∙ fold-roll-Expr Expr bare_step (Expr-F.Cond c a b);
+  choose = λ c at a b. at_cond bare_step c a b;
   anywhere = refl;
   long = λ e. refl;
   ends = λ l r. refl;
