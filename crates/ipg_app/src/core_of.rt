@@ -24,7 +24,7 @@ use ipg_complete::complete;
 use ipg_complete::completed::{Completed, CompletedRule};
 use ipg_core::accepted::Core;
 use ipg_core::grammar::CoreRule;
-use ipg_names::{NameFault, Named, resolve};
+use ipg_names::{NameFault, NamedGrammar, resolve};
 use ipg_num::item_at;
 use ipg_order::{OrderFault, order};
 use ipg_touch::{loose, must_touch};
@@ -53,7 +53,7 @@ pub fn core_or_reason(alloc: Global, g: &Grammar) -> Result<Result<Core, Reason>
 }
 
 /// The grammar with its intervals written out, unless that takes too much.
-fn completed_in(alloc: Global, named: Named) -> Result<Completed, AllocError>
+fn completed_in(alloc: Global, named: NamedGrammar) -> Result<Completed, AllocError>
     ensures { IfOk result (λ c. c ≡ completed named) }
 {
     if MOST_COMPLETED < completed_size(named.rules()) {
@@ -72,7 +72,7 @@ pub fn core_in_text(alloc: Global, text: &[u8]) -> Result<Result<Core, Settled>,
     }
 }
 
-fn named_in(alloc: Global, g: &Grammar) -> Result<Result<Named, Reason>, AllocError>
+fn named_in(alloc: Global, g: &Grammar) -> Result<Result<NamedGrammar, Reason>, AllocError>
     requires { IsReadable g.now }
     ensures { IfOk result (λ made. MatchResult made (λ named. resolved g.now ≡ Ok named) (λ reason. IsUnnamed g.now (reason_of reason))) }
 {

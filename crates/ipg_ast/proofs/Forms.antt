@@ -1,15 +1,14 @@
 -- The text of each form that is written piece after piece.
 use Rattle.std.proofs.Common.{◌≡◌, ◌∷◌, ◌++◌, [], ℕ, List, ap, refl, ◌∙◌, sym, codes, length, ◌==◌, false, true≢false}
 use Rattle.std.proofs.lemmas.List.{append_assoc}
-use Rattle.ipg_ast.specs.Spelling.{place_tokens, slot_tokens, case_tokens, cases_tokens, term_tokens}
+use Rattle.ipg_ast.specs.Spelling.{place_tokens, slot_tokens, case_tokens, cases_tokens, set_tokens, test_tokens, pick_tokens, term_tokens}
 use Rattle.ipg_ast.specs.Spelling.{locals_tokens, where_tokens, alts_tokens, local_alts_tokens}
 use Rattle.ipg_ast.specs.Canonical.{tokens_text}
 use Rattle.ipg_ast.specs.declared.token.TokenKind.TheVariants.{Word, Symbol}
 use Rattle.ipg_ast.specs.declared.grammar.Ident.{Ident}
-use Rattle.ipg_ast.specs.declared.grammar.Span.{Span}
 use Rattle.ipg_ast.specs.declared.grammar.Expr.{Expr}
 use Rattle.ipg_ast.specs.declared.grammar.Place.TheVariants.{Length, Ends}
-use Rattle.ipg_ast.specs.declared.grammar.Term.TheVariants.{Set, Test, Repeat, Pick}
+use Rattle.ipg_ast.specs.declared.grammar.Term.TheVariants.{Repeat}
 use Rattle.ipg_ast.specs.declared.grammar.Slot.{Slot}
 use Rattle.ipg_ast.specs.declared.grammar.Case.{Case}
 use Rattle.ipg_ast.specs.declared.grammar.Rule.{Rule}
@@ -28,11 +27,11 @@ pub case_text : (c : Case) → ((((99 ∷ 97 ∷ 115 ∷ 101 ∷ 32 ∷ []) ++ (
 case_text c = simp (text_append, append_assoc) refl
 
 pub set_text : (name : Ident) (e : Expr) → ((((123 ∷ 32 ∷ []) ++ (name.name ++ (32 ∷ []))) ++ (61 ∷ 32 ∷ [])) ++ text e) ++ (125 ∷ 32 ∷ [])
-    ≡ tokens_text (term_tokens (Set name e))
+    ≡ tokens_text (set_tokens name e)
 set_text name e = simp (text_append, append_assoc) refl
 
-pub test_text : (at : Span) (e : Expr) → (((63 ∷ 32 ∷ []) ++ (40 ∷ 32 ∷ [])) ++ text e) ++ (41 ∷ 32 ∷ []) ≡ tokens_text (term_tokens (Test at e))
-test_text at e = simp (text_append, append_assoc) refl
+pub test_text : (e : Expr) → (((63 ∷ 32 ∷ []) ++ (40 ∷ 32 ∷ [])) ++ text e) ++ (41 ∷ 32 ∷ []) ≡ tokens_text (test_tokens e)
+test_text e = simp (text_append, append_assoc) refl
 
 pub repeat_text : (var item : Ident) (first last from to : Expr)
     → ((((((((102 ∷ 111 ∷ 114 ∷ 32 ∷ []) ++ (var.name ++ (32 ∷ []))) ++ (61 ∷ 32 ∷ [])) ++ text first) ++ (116 ∷ 111 ∷ 32 ∷ [])) ++ text last)
@@ -44,11 +43,11 @@ repeat_text var item first last from to = simp (text_append, append_assoc) refl
 three_parts : (front middle end cases other : List ℕ) → (((front ++ cases) ++ middle) ++ other) ++ end ≡ front ++ (cases ++ (middle ++ (other ++ end)))
 three_parts front middle end cases other = simp append_assoc refl
 
-pub pick_text : (at : Span) (cases : List Case) (other : Slot)
+pub pick_text : (cases : List Case) (other : Slot)
     → (((((115 ∷ 119 ∷ 105 ∷ 116 ∷ 99 ∷ 104 ∷ 32 ∷ []) ++ (123 ∷ 32 ∷ [])) ++ tokens_text (cases_tokens cases)) ++ (101 ∷ 108 ∷ 115 ∷ 101 ∷ 32 ∷ []))
     ++ tokens_text (slot_tokens other)) ++ (125 ∷ 32 ∷ [])
-    ≡ tokens_text (term_tokens (Pick at cases other))
-pick_text at cases other =
+    ≡ tokens_text (pick_tokens cases other)
+pick_text cases other =
     three_parts (115 ∷ 119 ∷ 105 ∷ 116 ∷ 99 ∷ 104 ∷ 32 ∷ 123 ∷ 32 ∷ []) (101 ∷ 108 ∷ 115 ∷ 101 ∷ 32 ∷ []) (125 ∷ 32 ∷ []) (tokens_text (cases_tokens cases))
     (tokens_text (slot_tokens other))
     ∙ sym (ap (λ t. 115 ∷ 119 ∷ 105 ∷ 116 ∷ 99 ∷ 104 ∷ 32 ∷ 123 ∷ 32 ∷ t)

@@ -25,6 +25,10 @@ pub finally : {T E : Type 0} {old mid front : List ℕ} (r : Result T E) (new ba
 finally {old = old} {front = front} r new back all first whole next =
     on_ok_weaker r (λ e. e ∙ ap (λ m. m ++ back) first.is ∙ append_assoc old front back ∙ ap (λ t. old ++ t) whole) next
 
+-- the same piece, told otherwise
+pub told_as : {T E : Type 0} (r : Result T E) (old new piece all : List ℕ) → piece ≡ all → OnOk r (new ≡ old ++ piece) → OnOk r (new ≡ old ++ all)
+told_as r old new piece all same wrote = on_ok_weaker r (λ e. e ∙ ap (λ t. old ++ t) same) wrote
+
 -- one turn of a loop: what stands and what is left give the whole
 pub turn : {old piece new : List ℕ} (rest whole all : List ℕ) → Wrote old piece new → whole ≡ piece ++ rest → old ++ whole ≡ all → new ++ rest ≡ all
 turn {old = old} {piece = piece} rest whole all wrote splits so_far =

@@ -13,6 +13,7 @@ use Rattle.ipg_ast.specs.declared.grammar.What.{What}
 use Rattle.ipg_ast.specs.declared.grammar.What.TheVariants.{Text as TextWhat, Call}
 use Rattle.ipg_ast.specs.declared.grammar.Place.{Place}
 use Rattle.ipg_ast.specs.declared.grammar.Place.TheVariants.{Open, Length, Ends}
+use Rattle.ipg_ast.specs.declared.grammar.Ident.{Ident}
 use Rattle.ipg_ast.specs.declared.grammar.Expr.{Expr}
 use Rattle.ipg_ast.specs.declared.grammar.Expr.TheOpen.{Expr-F}
 use Rattle.ipg_ast.specs.declared.grammar.Expr.TheOpen.Expr-F.{Num, Eoi, Id, Part, Item, Group, Neg, Not, Two, Both, Either, Cond}
@@ -49,11 +50,14 @@ sign_of Gt = codes ">"
 sign_of Ge = codes ">="
 
 -- one level of an expression, with the tokens of its parts in their places
+abbrev pub part_tokens : Ident → Field → Tokens
+part_tokens of f = Name of.name ∷ Symbol (codes ".") ∷ field_tokens f
+
 abbrev pub expr_step : Expr-F Tokens → Tokens
 expr_step (Num n) = Number n ∷ []
 expr_step Eoi = Word (codes "EOI") ∷ []
 expr_step (Id i) = Name i.name ∷ []
-expr_step (Part of f) = Name of.name ∷ Symbol (codes ".") ∷ field_tokens f
+expr_step (Part of f) = part_tokens of f
 expr_step (Item of e f) = Name of.name ∷ Symbol (codes "(") ∷ (e ++ (Symbol (codes ")") ∷ Symbol (codes ".") ∷ field_tokens f))
 expr_step (Group e) = Symbol (codes "(") ∷ (e ++ (Symbol (codes ")") ∷ []))
 expr_step (Neg e) = Symbol (codes "-") ∷ e
@@ -85,16 +89,25 @@ abbrev pub cases_tokens : List Case → Tokens
 cases_tokens [] = []
 cases_tokens (c ∷ cs) = case_tokens c ++ cases_tokens cs
 
+abbrev pub set_tokens : Ident → Expr → Tokens
+set_tokens name value = Symbol (codes "{") ∷ Name name.name ∷ Symbol (codes "=") ∷ (expr_tokens value ++ (Symbol (codes "}") ∷ []))
+
+abbrev pub test_tokens : Expr → Tokens
+test_tokens cond = Symbol (codes "?") ∷ Symbol (codes "(") ∷ (expr_tokens cond ++ (Symbol (codes ")") ∷ []))
+
+abbrev pub pick_tokens : List Case → Slot → Tokens
+pick_tokens cases other =
+    Word (codes "switch") ∷ Symbol (codes "{") ∷ (cases_tokens cases ++ (Word (codes "else") ∷ (slot_tokens other ++ (Symbol (codes "}") ∷ []))))
+
 abbrev pub term_tokens : Term → Tokens
 term_tokens (SlotTerm s) = slot_tokens s
-term_tokens (Set name value) = Symbol (codes "{") ∷ Name name.name ∷ Symbol (codes "=") ∷ (expr_tokens value ++ (Symbol (codes "}") ∷ []))
-term_tokens (Test at cond) = Symbol (codes "?") ∷ Symbol (codes "(") ∷ (expr_tokens cond ++ (Symbol (codes ")") ∷ []))
+term_tokens (Set name value) = set_tokens name value
+term_tokens (Test at cond) = test_tokens cond
 term_tokens (Repeat var first last item from to) =
     Word (codes "for") ∷ Name var.name ∷ Symbol (codes "=") ∷ (expr_tokens first ++ (Word (codes "to") ∷ (expr_tokens last
     ++ (Word (codes "do") ∷ Name item.name ∷ place_tokens (Ends from to)))))
 term_tokens (Many at item place) = Word (codes "many") ∷ Name item.name ∷ place_tokens place
-term_tokens (Pick at cases other) =
-    Word (codes "switch") ∷ Symbol (codes "{") ∷ (cases_tokens cases ++ (Word (codes "else") ∷ (slot_tokens other ++ (Symbol (codes "}") ∷ []))))
+term_tokens (Pick at cases other) = pick_tokens cases other
 
 abbrev pub terms_tokens : List Term → Tokens
 terms_tokens [] = []

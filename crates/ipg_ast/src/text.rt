@@ -1,12 +1,12 @@
 ghost use Rattle.std.specs.Prelude.{◌≡◌, ◌∷◌, ◌++◌, [], IfOk, OnOk};
-ghost use Rattle.ipg_ast.specs.Spelling.{field_tokens, sign_of, expr_tokens, place_tokens, what_token, slot_tokens, case_tokens};
-ghost use Rattle.ipg_ast.specs.Spelling.{cases_tokens, term_tokens, terms_tokens, local_alts_tokens, local_tokens, locals_tokens};
-ghost use Rattle.ipg_ast.specs.Spelling.{where_tokens, alt_tokens, alts_tokens, rule_tokens, grammar_tokens};
+ghost use Rattle.ipg_ast.specs.Spelling.{field_tokens, part_tokens, sign_of, expr_tokens, place_tokens, what_token, slot_tokens, case_tokens};
+ghost use Rattle.ipg_ast.specs.Spelling.{cases_tokens, set_tokens, test_tokens, pick_tokens, term_tokens, terms_tokens, local_alts_tokens};
+ghost use Rattle.ipg_ast.specs.Spelling.{local_tokens, locals_tokens, where_tokens, alt_tokens, alts_tokens, rule_tokens, grammar_tokens};
 ghost use Rattle.ipg_ast.specs.Canonical.{tokens_text};
 ghost use Rattle.ipg_ast.specs.Shape.{IsFlat};
 
 use crate::put::{put, put_end, put_number, put_string};
-use crate::{Alt, Case, Expr, Field, Grammar, Place, Rule, Slot, Term, What};
+use crate::{Alt, Case, Expr, Field, Grammar, Ident, Place, Rule, Slot, Term, What};
 use ipg_num::Op2;
 use std::alloc::{AllocError, Global};
 
@@ -105,19 +105,8 @@ fn put_term(term: &Term, out: &mut Vec<u8>) -> Result<(), AllocError>
 {
     match term {
         Term::Slot(slot) => put_slot(slot, out),
-        Term::Set { name, value } => {
-            put(b"{", out)?;
-            put(name.name.as_slice(), out)?;
-            put(b"=", out)?;
-            put_expr(value, out)?;
-            put(b"}", out)
-        }
-        Term::Test { at: _, cond } => {
-            put(b"?", out)?;
-            put(b"(", out)?;
-            put_expr(cond, out)?;
-            put(b")", out)
-        }
+        Term::Set { name, value } => put_set(name, value, out),
+        Term::Test { at: _, cond } => put_test(cond, out),
         Term::Repeat {
             var,
             first,
@@ -145,15 +134,38 @@ fn put_term(term: &Term, out: &mut Vec<u8>) -> Result<(), AllocError>
             at: _,
             cases,
             other,
-        } => {
-            put(b"switch", out)?;
-            put(b"{", out)?;
-            put_cases(cases.as_slice(), out)?;
-            put(b"else", out)?;
-            put_slot(other, out)?;
-            put(b"}", out)
-        }
+        } => put_pick(cases.as_slice(), other, out),
     }
+}
+
+fn put_set(name: &Ident, value: &Expr, out: &mut Vec<u8>) -> Result<(), AllocError>
+    ensures { OnOk result (out.new.items ≡ out.old.items ++ tokens_text (set_tokens name.now value.now)) }
+{
+    put(b"{", out)?;
+    put(name.name.as_slice(), out)?;
+    put(b"=", out)?;
+    put_expr(value, out)?;
+    put(b"}", out)
+}
+
+fn put_test(cond: &Expr, out: &mut Vec<u8>) -> Result<(), AllocError>
+    ensures { OnOk result (out.new.items ≡ out.old.items ++ tokens_text (test_tokens cond.now)) }
+{
+    put(b"?", out)?;
+    put(b"(", out)?;
+    put_expr(cond, out)?;
+    put(b")", out)
+}
+
+fn put_pick(cases: &[Case], other: &Slot, out: &mut Vec<u8>) -> Result<(), AllocError>
+    ensures { OnOk result (out.new.items ≡ out.old.items ++ tokens_text (pick_tokens cases.now other.now)) }
+{
+    put(b"switch", out)?;
+    put(b"{", out)?;
+    put_cases(cases, out)?;
+    put(b"else", out)?;
+    put_slot(other, out)?;
+    put(b"}", out)
 }
 
 fn put_cases(cases: &[Case], out: &mut Vec<u8>) -> Result<(), AllocError>
@@ -215,6 +227,7 @@ fn put_ends(left: &Expr, right: &Expr, out: &mut Vec<u8>) -> Result<(), AllocErr
     put(b"]", out)
 }
 
+#[cycle(putting)]
 fn put_expr(e: &Expr, out: &mut Vec<u8>) -> Result<(), AllocError>
     ensures { OnOk result (out.new.items ≡ out.old.items ++ tokens_text (expr_tokens e.now)) }
 {
@@ -222,11 +235,7 @@ fn put_expr(e: &Expr, out: &mut Vec<u8>) -> Result<(), AllocError>
         Expr::Num(n) => put_number(*n, out),
         Expr::Eoi => put(b"EOI", out),
         Expr::Id(name) => put(name.name.as_slice(), out),
-        Expr::Part(of, field) => {
-            put(of.name.as_slice(), out)?;
-            put(b".", out)?;
-            put_field(field, out)
-        }
+        Expr::Part(of, field) => put_part(of, field, out),
         Expr::Item(of, index, field) => {
             put(of.name.as_slice(), out)?;
             put(b"(", out)?;
@@ -248,21 +257,9 @@ fn put_expr(e: &Expr, out: &mut Vec<u8>) -> Result<(), AllocError>
             put(b"!", out)?;
             put_expr(inner.get(), out)
         }
-        Expr::Two(op, a, b) => {
-            put_expr(a.get(), out)?;
-            put(sign(*op), out)?;
-            put_expr(b.get(), out)
-        }
-        Expr::Both(a, b) => {
-            put_expr(a.get(), out)?;
-            put(b"&&", out)?;
-            put_expr(b.get(), out)
-        }
-        Expr::Either(a, b) => {
-            put_expr(a.get(), out)?;
-            put(b"||", out)?;
-            put_expr(b.get(), out)
-        }
+        Expr::Two(op, a, b) => put_infix(a.get(), sign(*op), b.get(), out),
+        Expr::Both(a, b) => put_infix(a.get(), b"&&", b.get(), out),
+        Expr::Either(a, b) => put_infix(a.get(), b"||", b.get(), out),
         Expr::Cond(cond, a, b) => {
             put_expr(cond.get(), out)?;
             put(b"?", out)?;
@@ -271,6 +268,23 @@ fn put_expr(e: &Expr, out: &mut Vec<u8>) -> Result<(), AllocError>
             put_expr(b.get(), out)
         }
     }
+}
+
+#[cycle(putting)]
+fn put_infix(a: &Expr, sign: &[u8], b: &Expr, out: &mut Vec<u8>) -> Result<(), AllocError>
+    ensures { OnOk result (out.new.items ≡ out.old.items ++ ((tokens_text (expr_tokens a.now) ++ (sign.now ++ (32 ∷ []))) ++ tokens_text (expr_tokens b.now))) }
+{
+    put_expr(a, out)?;
+    put(sign, out)?;
+    put_expr(b, out)
+}
+
+fn put_part(of: &Ident, field: &Field, out: &mut Vec<u8>) -> Result<(), AllocError>
+    ensures { OnOk result (out.new.items ≡ out.old.items ++ tokens_text (part_tokens of.now field.now)) }
+{
+    put(of.name.as_slice(), out)?;
+    put(b".", out)?;
+    put_field(field, out)
 }
 
 fn put_field(field: &Field, out: &mut Vec<u8>) -> Result<(), AllocError>

@@ -7,7 +7,7 @@ ghost use Rattle.ipg_complete.specs.Lefts.{HasFewTerms, HaveFewTerms};
 
 use crate::completed::{Completed, CompletedAlt, CompletedRule};
 use crate::completing::terms;
-use ipg_names::{Named, NamedAlt, NamedRule};
+use ipg_names::{NamedAlt, NamedGrammar, NamedRule};
 use ipg_num::List;
 use std::alloc::{AllocError, Global};
 
@@ -43,10 +43,10 @@ fn rules(alloc: Global, rules: List<NamedRule>) -> Result<List<CompletedRule>, A
 ///
 /// `left` of an alternative's first term is 0, behind a slot or a switch it is that term's end, and behind an array or a
 /// repetition the greatest end of its items that touch a byte, else its own `left`.
-pub fn complete(alloc: Global, n: Named) -> Result<Completed, AllocError>
+pub fn complete(alloc: Global, n: NamedGrammar) -> Result<Completed, AllocError>
     ensures { IfOk result (λ c. c ≡ spec.completed n) }
 {
-    let Named {
+    let NamedGrammar {
         rules: written,
         names,
     } = n;

@@ -2,7 +2,7 @@
 use Rattle.std.proofs.Common.{◌≡◌, ℕ, zero, suc, ◌+◌, ◌-◌, ◌<◌, Bool, true, false, ◌⊎◌, inl, inr, nat_lt, List, [], ◌∷◌, take}
 use Rattle.std.proofs.Common.{drop, Option, Some, None, is_some, slice_get, refl, sym, ap, ◌∙◌, cond, arith, true≢false}
 use Rattle.std.proofs.lemmas.Bool.Decides.{nat_tests}
-use Rattle.ipg_names.specs.Nearest.{first_from, last_from, or_else, left_of, right_of, nearest}
+use Rattle.ipg_names_scope.specs.Nearest.{first_from, last_from, or_else, left_of, right_of, nearest}
 use Rattle.ipg_names.proofs.Found.{Found, first_found, last_found, take_get, get_take, get_drop}
 
 pub taken_below : {A : Type 0} (u : ℕ) (xs : List A) (k : ℕ) (x : A) → slice_get (take u xs) k ≡ Some x → k < u

@@ -14,7 +14,7 @@ use Rattle.ipg_ast.specs.declared.grammar.Expr.{Expr, roll-Expr, map-Expr}
 use Rattle.ipg_ast.specs.declared.grammar.Expr.TheOpen.{Expr-F}
 use Rattle.ipg_ast.specs.declared.grammar.Expr.TheFolds.{ind-Expr, fold-roll-Expr}
 use Rattle.ipg_names.specs.declared.fault.NameFault.{NameFault}
-use Rattle.ipg_names.specs.Scope.{Scope, inside}
+use Rattle.ipg_names_scope.specs.Scope.{Scope, inside}
 use Rattle.ipg_names.specs.Faults.{Faults, faults_step, expr_faults, ends_faults, place_faults, what_fault, slot_faults, case_faults}
 use Rattle.ipg_names.specs.Faults.{term_faults, rule_fault, name_fault, reference_fault, set_fault, var_fault}
 use Rattle.ipg_names.specs.Told.{Stands}

@@ -17,8 +17,8 @@ use Rattle.ipg_ast.specs.declared.grammar.Field.TheVariants.{Id as Attribute, St
 use Rattle.ipg_ast.specs.declared.grammar.Expr.{Expr, roll-Expr, map-Expr}
 use Rattle.ipg_ast.specs.declared.grammar.Expr.TheOpen.{Expr-F}
 use Rattle.ipg_ast.specs.declared.grammar.Expr.TheFolds.{ind-Expr, fold-roll-Expr}
-use Rattle.ipg_names.specs.Names.{NameList, field_names, names_step, expr_names, place_names, slot_names, case_names, term_names}
-use Rattle.ipg_names.specs.Names.{terms_names, local_alt_names, local_names, alt_names, rule_names, once, attr_names}
+use Rattle.ipg_names_scope.specs.Names.{NameList, field_names, names_step, expr_names, place_names, slot_names, case_names, term_names}
+use Rattle.ipg_names_scope.specs.Names.{terms_names, local_alt_names, local_names, alt_names, rule_names, once, attr_names}
 use Rattle.ipg_names.specs.Readable.{field_count, count_step, expr_count, place_count, slot_count, case_count, term_count}
 use Rattle.ipg_names.specs.Readable.{local_alt_count, local_count, alt_count, rule_count, IsReadable}
 

@@ -4,9 +4,9 @@ use Rattle.std.specs.List.{AllByRecursion}
 use Rattle.ipg_ast.specs.declared.grammar.Grammar.{Grammar}
 use Rattle.ipg_ast.specs.declared.grammar.Rule.{Rule, out-Rule}
 use Rattle.ipg_ast.specs.declared.grammar.Alt.{Alt, out-Alt}
-use Rattle.ipg_names.specs.Roster.{Entry, global, local, locals_from, family_of, roster_from, roster_of}
+use Rattle.ipg_names_scope.specs.Roster.{ListedRule, global, local, locals_from, family_of, roster_from, roster_of}
 use Rattle.ipg_names.specs.Readable.{IsReadable, IsReadableRule, IsReadableAlt, IsReadableLocal, IsReadableLocalAlt}
-use Rattle.ipg_names.specs.View.{IsFit, HasShortTerms}
+use Rattle.ipg_names_scope.specs.View.{IsFit, HasShortTerms}
 
 pub all_append : {A : Type 0} (P : A → Type 0) (xs ys : List A) → AllByRecursion P xs → AllByRecursion P ys → AllByRecursion P (xs ++ ys)
 all_append P [] ys h k = k
@@ -28,7 +28,7 @@ pub all_map : {A B : Type 0} (P : B → Type 0) (f : A → B) (xs : List A) → 
 all_map P f [] h = tt
 all_map P f (x ∷ xs) h = (h.0, all_map P f xs h.1)
 
-module _ (P : Entry → Type 0) where
+module _ (P : ListedRule → Type 0) where
   -- it holds of the local rules of an alternative, whatever the numbers of their holder
   abbrev pub HasLocals : Alt → Type 0
   HasLocals alt = (r a : ℕ) → AllByRecursion (λ rule. P (local r a alt rule)) (out-Alt alt).locals

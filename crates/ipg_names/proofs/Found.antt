@@ -2,7 +2,7 @@
 use Rattle.std.proofs.Common.{◌≡◌, ℕ, zero, suc, ◌+◌, ◌<◌, Bool, true, false, ◌||◌, ◌⊎◌, inl, inr, List, [], ◌∷◌, ◌++◌, length, map}
 use Rattle.std.proofs.Common.{take, drop, Option, Some, None, slice_get, refl, sym, ap, subst, ◌∙◌, cond, arith, true≢false}
 use Rattle.std.specs.List.{AllByRecursion, list_any}
-use Rattle.ipg_names.specs.Nearest.{first_from, last_from, or_else, left_of, right_of, nearest}
+use Rattle.ipg_names_scope.specs.Nearest.{first_from, last_from, or_else, left_of, right_of, nearest}
 use Rattle.ipg_names.specs.declared.fault.NameFault.{NameFault}
 use Rattle.ipg_names.proofs.Mentions.{both_none}
 

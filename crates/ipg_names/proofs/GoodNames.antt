@@ -15,10 +15,10 @@ use Rattle.ipg_core.specs.declared.grammar.CoreAlt.{CoreAlt}
 use Rattle.ipg_core.specs.declared.grammar.CoreRule.{CoreRule}
 use Rattle.ipg_core.specs.Grammar.{Grammar, rule_at, holder_of}
 use Rattle.ipg_core.specs.Good.{AltAt, HolderSets, GoodAlt, GoodRule, IsGlobalAlt, slots_in, WellFormed}
-use Rattle.ipg_names.specs.Roster.{Entry, alts_of, global, local, locals_from, family_of, roster_from, roster_of}
-use Rattle.ipg_names.specs.Terms.{sets}
-use Rattle.ipg_names.specs.Scope.{Scope}
-use Rattle.ipg_names.specs.Names.{NameList, terms_names, local_alt_names, local_names, alt_names, rule_names, attr_names}
+use Rattle.ipg_names_scope.specs.Roster.{ListedRule, alts_of, global, local, locals_from, family_of, roster_from, roster_of}
+use Rattle.ipg_names_scope.specs.Terms.{sets}
+use Rattle.ipg_names_scope.specs.Scope.{Scope}
+use Rattle.ipg_names_scope.specs.Names.{NameList, terms_names, local_alt_names, local_names, alt_names, rule_names, attr_names}
 use Rattle.ipg_names.specs.Resolved.{terms_from, term_in, case_in, alt_scopes, alt_in, alts_from, rule_in, rules_from, names_of}
 use Rattle.ipg_names.specs.Fault.{earlier, first_of}
 use Rattle.ipg_names.specs.Faults.{Faults, alt_faults, alts_faults, rules_faults, head_faults, faults_of}
@@ -26,7 +26,7 @@ use Rattle.ipg_names.specs.Bare.{bare, bare_term, bare_case, bare_alt, bare_rule
 use Rattle.ipg_names.specs.Readable.{IsReadable, IsReadableRule, IsReadableAlt, IsReadableLocal, IsReadableLocalAlt}
 use Rattle.ipg_names.specs.Readable.{case_count, term_count, local_alt_count, local_count, alt_count, rule_count}
 use Rattle.ipg_names.specs.declared.fault.NameFault.{NameFault}
-use Rattle.ipg_names.proofs.Rosters.{roster_length}
+use Rattle.ipg_names_scope.specs.Laws.{RosterIsWhole}
 use Rattle.ipg_names.proofs.Families.{all_append, all_left, all_right, all_of_all, all_map, HasFamily, HasLocals, roster_all}
 use Rattle.ipg_names.proofs.Counts.{names_few}
 use Rattle.ipg_names.proofs.Within.{IsIn, AllIn, once_has, once_distinct}
@@ -37,22 +37,22 @@ use Rattle.ipg_names.proofs.GoodTerms.{whole, rule_there, rules_length, OuterSet
 -- ---- holders
 
 -- the holder of that number, in which terms set attributes
-pub record HolderAt (all : List Entry) (outer : List written.Term) (h : ℕ × ℕ) : Type 0 where
+pub record HolderAt (all : List ListedRule) (outer : List written.Term) (h : ℕ × ℕ) : Type 0 where
   pub rule : Rule
   pub alt : Alt
   pub is_rule : slice_get all h.0 ≡ Some (global rule)
   pub is_alt : slice_get (out-Rule rule).alts h.1 ≡ Some alt
   pub outer_is : outer ≡ (out-Alt alt).terms
 
-pub record HasHolder (all : List Entry) (entry : Entry) : Type 0 where
+pub record HasHolder (all : List ListedRule) (entry : ListedRule) : Type 0 where
   pub none : entry.holder ≡ None → entry.outer ≡ []
   pub some : (h : ℕ × ℕ) → entry.holder ≡ Some h → HolderAt all entry.outer h
 
-get_append : (before rest : List Entry) (e : Entry) → slice_get (before ++ e ∷ rest) (length before) ≡ Some e
+get_append : (before rest : List ListedRule) (e : ListedRule) → slice_get (before ++ e ∷ rest) (length before) ≡ Some e
 get_append [] rest e = refl
 get_append (x ∷ before) rest e = get_append before rest e
 
-held : (all : List Entry) (r a : ℕ) (rule : Rule) (alt : Alt) (l : Rule) → slice_get all r ≡ Some (global rule)
+held : (all : List ListedRule) (r a : ℕ) (rule : Rule) (alt : Alt) (l : Rule) → slice_get all r ≡ Some (global rule)
     → slice_get (out-Rule rule).alts a ≡ Some alt → HasHolder all (local r a alt l)
 held all r a rule alt l is_rule is_alt = record {
   none = λ e. absurd (cc);
@@ -66,7 +66,7 @@ held all r a rule alt l is_rule is_alt = record {
   });
 }
 
-locals_held : (all : List Entry) (r : ℕ) (rule : Rule) → slice_get all r ≡ Some (global rule) → (a : ℕ) (alts : List Alt)
+locals_held : (all : List ListedRule) (r : ℕ) (rule : Rule) → slice_get all r ≡ Some (global rule) → (a : ℕ) (alts : List Alt)
     → ((k : ℕ) (alt : Alt) → slice_get alts k ≡ Some alt → slice_get (out-Rule rule).alts (a + k) ≡ Some alt)
     → AllByRecursion (HasHolder all) (locals_from r a alts)
 locals_held all r rule is a [] f = tt
@@ -80,7 +80,7 @@ locals_held all r rule is a (alt ∷ alts) f =
     each [] g = tt
     each (l ∷ ls) g = (g l, each ls g)
 
-roster_held : (all before : List Entry) (rules : List Rule) → before ++ roster_from (length before) rules ≡ all
+roster_held : (all before : List ListedRule) (rules : List Rule) → before ++ roster_from (length before) rules ≡ all
     → AllByRecursion (HasHolder all) (roster_from (length before) rules)
 roster_held all before [] h = tt
 roster_held all before (rule ∷ rules) h =
@@ -100,7 +100,7 @@ roster_held all before (rule ∷ rules) h =
 
 -- ---- no list is empty, and none is too long
 
-pub record IsSolid (entry : Entry) : Type 0 where
+pub record IsSolid (entry : ListedRule) : Type 0 where
   pub alts : IsFilled max_alts (alts_of entry)
   pub terms : AllByRecursion (λ alt. IsFilled max_terms (out-Alt alt).terms) (alts_of entry)
 
@@ -121,7 +121,7 @@ solid_family rule h = record {
 
 -- ---- the names of the terms are among the names of attributes
 
-abbrev AreIn : NameList → Entry → Type 0
+abbrev AreIn : NameList → ListedRule → Type 0
 AreIn names entry = AllByRecursion (λ alt. AllIn names (terms_names (out-Alt alt).terms)) (alts_of entry)
 
 all_flat : {A : Type 0} (names : NameList) (f : A → NameList) (xs : List A) → AllIn names (flat_map f xs) → AllByRecursion (λ x. AllIn names (f x)) xs
@@ -179,10 +179,10 @@ alt_slots alt = sum_by slots_in alt.terms
 abbrev rule_slots : CoreRule → ℕ
 rule_slots rule = sum_by alt_slots rule.alts
 
-abbrev entry_count : Entry → ℕ
+abbrev entry_count : ListedRule → ℕ
 entry_count entry = sum_by local_alt_count (alts_of entry)
 
-alts_slots : (roster : List Entry) (names : NameList) (entry : Entry) (r a : ℕ) (alts : List Alt)
+alts_slots : (roster : List ListedRule) (names : NameList) (entry : ListedRule) (r a : ℕ) (alts : List Alt)
     → sum_by alt_slots (map bare_alt (alts_from roster names entry r a alts)) ≤ sum_by local_alt_count alts
 alts_slots roster names entry r a [] = omega arith
 alts_slots roster names entry r a (alt ∷ alts) =
@@ -194,7 +194,7 @@ alts_slots roster names entry r a (alt ∷ alts) =
       alts_slots roster names entry r (a + 1) alts,
     )
 
-rules_slots : (roster : List Entry) (names : NameList) (r : ℕ) (es : List Entry)
+rules_slots : (roster : List ListedRule) (names : NameList) (r : ℕ) (es : List ListedRule)
     → sum_by rule_slots (map bare_rule (rules_from roster names r es)) ≤ sum_by entry_count es
 rules_slots roster names r [] = omega arith
 rules_slots roster names r (e ∷ es) =
@@ -247,20 +247,20 @@ roster_counts r (rule ∷ rules) =
 
 -- ---- alternatives and rules
 
-module _ (roster : List Entry) (names : NameList) (none : rules_faults roster names 0 roster ≡ [])
+module _ (roster : List ListedRule) (names : NameList) (none : rules_faults roster names 0 roster ≡ [])
     (solid : AllByRecursion IsSolid roster) (holders : AllByRecursion (HasHolder roster) roster) (are_in : AllByRecursion (AreIn names) roster) where
   abbrev B : Grammar
   B = whole roster names
 
   -- the alternative of that number, by the text
-  alt_there : (entry : Entry) (r a : ℕ) (alt : Alt) → slice_get (alts_of entry) a ≡ Some alt
+  alt_there : (entry : ListedRule) (r a : ℕ) (alt : Alt) → slice_get (alts_of entry) a ≡ Some alt
       → slice_get (bare_rule (rule_in roster names r entry)).alts a ≡ Some (bare_alt (alt_in roster names entry (r, a) alt))
   alt_there entry r a alt h =
       item_map bare_alt (alts_from roster names entry r 0 (alts_of entry)) a (alt_in roster names entry (r, 0 + a) alt)
       (made_at (alts_from roster names entry r) (λ n x. alt_in roster names entry (r, n) x) (λ n x xs. refl) (λ n. refl) 0 (alts_of entry) a alt h)
       ∙ ap (λ m. Some (bare_alt (alt_in roster names entry (r, m) alt))) (let e : 0 + a ≡ a = omega arith in e)
 
-  outer_sets : (entry : Entry) → HasHolder roster entry → OuterSets roster names entry.holder entry.outer
+  outer_sets : (entry : ListedRule) → HasHolder roster entry → OuterSets roster names entry.holder entry.outer
   outer_sets entry has name h = by entry.holder refl
     where
       held_by : (p : ℕ × ℕ) → HolderAt roster entry.outer p → HolderSets B (Some p) (position_or_len (bytes_eq name) names)
@@ -275,7 +275,7 @@ module _ (roster : List Entry) (names : NameList) (none : rules_faults roster na
       by None e = absurd (true≢false (sym h ∙ ap (λ ts. sets ts name) (has.none e)))
       by (Some p) e = held_by p (has.some p e)
 
-  good_alt : (entry : Entry) (at : ℕ × ℕ) (alt : Alt) → slice_get roster at.0 ≡ Some entry → slice_get (alts_of entry) at.1 ≡ Some alt
+  good_alt : (entry : ListedRule) (at : ℕ × ℕ) (alt : Alt) → slice_get roster at.0 ≡ Some entry → slice_get (alts_of entry) at.1 ≡ Some alt
       → GoodAlt B at entry.holder (bare_alt (alt_in roster names entry at alt))
   good_alt entry at alt is_entry is_alt =
       let ts = (out-Alt alt).terms in
@@ -304,7 +304,7 @@ module _ (roster : List Entry) (names : NameList) (none : rules_faults roster na
 
   -- a rule of the grammar, by the text
   rule_of : (r : ℕ) (rule : CoreRule) → rule_at B r ≡ Some rule
-      → (entry : Entry) × (slice_get roster r ≡ Some entry) × (rule ≡ bare_rule (rule_in roster names r entry))
+      → (entry : ListedRule) × (slice_get roster r ≡ Some entry) × (rule ≡ bare_rule (rule_in roster names r entry))
   rule_of r rule h =
       let w = of_item bare_rule (rules_from roster names 0 roster) r rule h in
       let v = of_made (rules_from roster names) (rule_in roster names) (λ n x xs. refl) (λ n. refl) 0 roster r w.0 w.1 in
@@ -361,9 +361,9 @@ first_rule : (rules : List Rule) → 0 < length rules → (rule : Rule) × (slic
 first_rule [] h = absurd (omega arith)
 first_rule (rule ∷ rules) h = (rule, refl)
 
-pub names_good : (g : text.Grammar) → IsReadable g → first_of (faults_of g) ≡ None → WellFormed (bare (names_of g))
+pub names_good : RosterIsWhole → (g : text.Grammar) → IsReadable g → first_of (faults_of g) ≡ None → WellFormed (bare (names_of g))
 unfolding IsDistinct
-names_good g readable faultless =
+names_good roster_length g readable faultless =
     let roster = roster_of g in
     let names = attr_names g in
     let all = flat_map rule_names g.rules in

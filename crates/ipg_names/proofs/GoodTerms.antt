@@ -23,13 +23,13 @@ use Rattle.ipg_core.specs.Grammar.{Grammar, rule_at, holder_of, same_place}
 use Rattle.ipg_core.specs.Mention.{EachSym}
 use Rattle.ipg_core.specs.Order.{Sets as SetsAt}
 use Rattle.ipg_core.specs.Good.{SetsSome, HolderSets, HasItems, IsSlotOrSwitch, IsSym, MayCall, IsCallable, IsGoodMention, IsItemSym, IsGoodShape, GoodTerm}
-use Rattle.ipg_names.specs.declared.marks.Family.TheVariants.{Calls, Items, Sets}
+use Rattle.ipg_names_scope.specs.declared.marks.Family.TheVariants.{Calls, Items, Sets}
 use Rattle.ipg_names.specs.declared.fault.NameFault.TheVariants.{DuplicateAttr}
-use Rattle.ipg_names.specs.Roster.{Entry}
-use Rattle.ipg_names.specs.Terms.{has, sets}
-use Rattle.ipg_names.specs.Primitives.{primitive_of}
-use Rattle.ipg_names.specs.Scope.{Scope, home_of, is_visible, entry_visible, rule_named, rule_sym, sym_else, sym_named, scope_of}
-use Rattle.ipg_names.specs.Names.{NameList, term_names, terms_names}
+use Rattle.ipg_names_scope.specs.Roster.{ListedRule}
+use Rattle.ipg_names_scope.specs.Terms.{has, sets}
+use Rattle.ipg_names_scope.specs.Primitives.{primitive_of}
+use Rattle.ipg_names_scope.specs.Scope.{Scope, home_of, is_visible, entry_visible, rule_named, rule_sym, sym_else, sym_named, scope_of}
+use Rattle.ipg_names_scope.specs.Names.{NameList, term_names, terms_names}
 use Rattle.ipg_names.specs.Resolved.{sym_or_empty, symbol, what_symbol, case_in, expr_in, term_in, terms_from, rule_in, rules_from}
 use Rattle.ipg_names.specs.Faults.{rule_fault, what_fault, slot_faults, case_faults, place_faults, expr_faults}
 use Rattle.ipg_names.specs.Faults.{ends_faults, set_fault, var_fault, when, term_faults, terms_faults}
@@ -92,11 +92,11 @@ same_pair a b h =
     let q : a.1 ≡ b.1 = eqb-true a.1 b.1 e.1 in
     λ i. (p i, q i)
 
-module _ (roster : List Entry) (names : NameList) where
+module _ (roster : List ListedRule) (names : NameList) where
   abbrev pub whole : Grammar
   whole = bare (record { rules = rules_from roster names 0 roster; names = names })
 
-  pub rule_there : (r : ℕ) (entry : Entry) → slice_get roster r ≡ Some entry → rule_at whole r ≡ Some (bare_rule (rule_in roster names r entry))
+  pub rule_there : (r : ℕ) (entry : ListedRule) → slice_get roster r ≡ Some entry → rule_at whole r ≡ Some (bare_rule (rule_in roster names r entry))
   rule_there r entry h =
       item_map bare_rule (rules_from roster names 0 roster) r (rule_in roster names (0 + r) entry) (made_at (rules_from roster names)
       (rule_in roster names) (λ n x xs. refl) (λ n. refl) 0 roster r entry h)
@@ -115,7 +115,7 @@ module _ (roster : List Entry) (names : NameList) where
       → IsCallable whole at holder (Rule r)
   callable_rule at holder r h = by (slice_get roster r) refl h
     where
-      by : (o : Option Entry) → slice_get roster r ≡ o → entry_visible (home_of at holder) o ≡ true → IsCallable whole at holder (Rule r)
+      by : (o : Option ListedRule) → slice_get roster r ≡ o → entry_visible (home_of at holder) o ≡ true → IsCallable whole at holder (Rule r)
       by None e k = absurd (true≢false (sym k))
       by (Some entry) e k = (
         omega (arith, rules_length, get_below roster r entry e),

@@ -1,77 +1,73 @@
--- The table of heads as it is made.
-use Rattle.std.proofs.Common.{◌≡◌, ℕ, ◌+◌, ◌<◌, Bool, true, false, ◌||◌, List, [], ◌∷◌, ◌++◌, length, take, drop, get_or}
-use Rattle.std.proofs.Common.{map, Option, Some, None, is_some, refl, sym, ap, ◌∙◌, cond, bytes_eq, arith}
-use Rattle.std.proofs.lemmas.List.{length-map}
+-- Which heads are at fault, by the rule that is known by each name.
+use Rattle.std.proofs.Common.{◌≡◌, ℕ, suc, ◌+◌, Bool, true, false, ◌||◌, not, List, [], ◌∷◌, ◌++◌, length, map, Option, Some, None, is_some}
+use Rattle.std.proofs.Common.{refl, sym, ap, ap₂, ◌∙◌, cond, bytes_eq, nat_eq, arith, append_assoc, length-append}
 use Rattle.std.specs.List.{list_any}
-use Rattle.ipg_names.specs.declared.fault.NameFault.{NameFault}
+use Rattle.std.proofs.lemmas.List.{map-append}
+use Rattle.std.proofs.lemmas.Bool.Decides.{nat_tests}
 use Rattle.ipg_names.specs.declared.fault.NameFault.TheVariants.{DuplicateRule}
-use Rattle.ipg_names.specs.declared.roster.Entry as code
-use Rattle.ipg_names.specs.Nearest.{or_else}
-use Rattle.ipg_names.specs.Roster.{Entry, name_of}
-use Rattle.ipg_names.specs.Primitives.{primitive_of}
-use Rattle.ipg_names.specs.Scope.{rule_named, is_named}
-use Rattle.ipg_names.specs.Fault.{earlier, first_of}
-use Rattle.ipg_names.specs.Faults.{head_faults, when}
-use Rattle.ipg_names.specs.View.{entry_view, entries_view, entry_name, entry_at}
-use Rattle.ipg_names.proofs.Bytes.{same_bytes, bytes_turned}
-use Rattle.ipg_names.proofs.Lists.{at_item, take_item, taken, map_push, any_map}
-use Rattle.ipg_names.proofs.Spots.{first_append, else_none, found_any}
-use Rattle.ipg_names.proofs.Firsts as firsts
+use Rattle.ipg_names_scope.specs.Nearest.{first_from}
+use Rattle.ipg_names_scope.specs.Roster.{ListedRule, name_of, head_at}
+use Rattle.ipg_names_scope.specs.Primitives.{primitive_of}
+use Rattle.ipg_names_scope.specs.Scope.{rule_named, is_named}
+use Rattle.ipg_names.specs.Faults.{Faults, head_faults, when}
+use Rattle.ipg_names.specs.Heads.{is_rule}
+use Rattle.ipg_names.proofs.Bytes.{bytes_same}
 
 pub is_none : {A : Type 0} (o : Option A) → is_some o ≡ false → o ≡ None
 is_none None h = refl
 is_none (Some a) h = absurd (cc)
 
--- a new name, which isn't there yet
-pub added : (f : List ℕ → Option ℕ) (name x : List ℕ) (r : ℕ) → f name ≡ None
-    → cond (bytes_eq name x) (Some r) (f x) ≡ or_else (f x) (cond (bytes_eq name x) (Some r) None)
-added f name x r none = by (bytes_eq name x) refl
+-- a head is the first of its name where its name isn't among those before
+known : (n : ℕ) (before : List ListedRule) (e : ListedRule) (es : List ListedRule)
+    → list_any (bytes_eq (name_of e)) (map name_of before) ≡ not (is_rule (first_from (is_named (name_of e)) n (before ++ e ∷ es)) (n + length before))
+known n [] e es = by (bytes_eq (name_of e) (name_of e)) (bytes_same (name_of e))
   where
-    by : (b : Bool) → bytes_eq name x ≡ b → cond b (Some r) (f x) ≡ or_else (f x) (cond b (Some r) None)
-    by true h = sym (ap (λ o. or_else o (Some r)) (ap f (sym (same_bytes name x h)) ∙ none))
-    by false h = sym (else_none (is_named x) (f x))
+    here : nat_eq n (n + 0) ≡ true
+    here = grind (arith, nat_tests)
 
-view_more : (roster : List code.Entry) (r : ℕ) (e : code.Entry) → e ≡ get_or roster r e → r < length roster
-    → entries_view (take (r + 1) roster) ≡ entries_view (take r roster) ++ entry_view e ∷ []
-view_more roster r e is within = ap entries_view (take_item roster r e is within) ∙ map_push entry_view (take r roster) e
+    by : (b : Bool) → b ≡ true → false ≡ not (is_rule (cond b (Some n) (first_from (is_named (name_of e)) (n + 1) es)) (n + 0))
+    by true is = ap not (sym here)
+    by false is = absurd (cc)
+known n (x ∷ before) e es = by (bytes_eq (name_of e) (name_of x)) (known (n + 1) before e es)
+  where
+    apart : nat_eq n (n + suc (length before)) ≡ false
+    apart = grind (arith, nat_tests)
 
-view_length : (roster : List code.Entry) (r : ℕ) → r < length roster → length (entries_view (take r roster)) ≡ r
-view_length roster r within = length-map (take r roster) entry_view ∙ taken roster r within
+    rest : Option ℕ
+    rest = first_from (is_named (name_of e)) (n + 1) (before ++ e ∷ es)
 
-pub numbers_turn : (roster : List code.Entry) (r : ℕ) (e : code.Entry) (x : List ℕ) → e ≡ get_or roster r e → r < length roster
-    → rule_named (entries_view (take (r + 1) roster)) x ≡ or_else (rule_named (entries_view (take r roster)) x) (cond (bytes_eq (entry_name e) x) (Some r) None)
-numbers_turn roster r e x is within =
-    let es = entries_view (take r roster) in
-    let count : 0 + length es ≡ r = let h = view_length roster r within in omega arith in
-    ap (λ ys. rule_named ys x) (view_more roster r e is within)
-    ∙ first_append (is_named x) 0 es (entry_view e ∷ [])
-    ∙ ap (λ n. or_else (rule_named es x) (cond (bytes_eq x (entry_name e)) (Some n) None)) count
-    ∙ ap (λ b. or_else (rule_named es x) (cond b (Some r) None)) (bytes_turned x (entry_name e))
+    by : (b : Bool) → list_any (bytes_eq (name_of e)) (map name_of before) ≡ not (is_rule rest (n + 1 + length before))
+        → (b || list_any (bytes_eq (name_of e)) (map name_of before)) ≡ not (is_rule (cond b (Some n) rest) (n + suc (length before)))
+    by true later = ap not (sym apart)
+    by false later = later ∙ ap (λ k. not (is_rule rest k)) (let e : n + 1 + length before ≡ n + suc (length before) = omega arith in e)
 
--- a head is known where it is among the names before
-known : (es : List Entry) (name : List ℕ) → is_some (rule_named es name) ≡ list_any (bytes_eq name) (map name_of es)
-known es name = found_any (is_named name) 0 es ∙ sym (any_map (bytes_eq name) name_of es)
+-- the faults of heads from number r on
+abbrev pub head_which : List ListedRule → ℕ → ListedRule → Faults
+head_which all r e = when (not (is_rule (rule_named all (name_of e)) r) || is_some (primitive_of (name_of e))) (DuplicateRule (head_at e))
 
-pub faults_turn : (roster : List code.Entry) (r : ℕ) (e : code.Entry) (old found all : Option NameFault) → e ≡ get_or roster r e → r < length roster
-    → found ≡ cond (is_some (rule_named (entries_view (take r roster)) (entry_name e)) || is_some (primitive_of (entry_name e))) (Some (DuplicateRule
-    (entry_at e))) None
-    → earlier old (first_of (head_faults (map name_of (entries_view (take r roster))) (entries_view (drop r roster)))) ≡ all
-    → earlier (earlier old found) (first_of (head_faults (map name_of (entries_view (take (r + 1) roster))) (entries_view (drop (r + 1) roster)))) ≡ all
-faults_turn roster r e old found all is within head so_far =
-    let es = entries_view (take r roster) in
-    let names = map name_of es in
-    let rest = entries_view (drop (r + 1) roster) in
-    let name = entry_name e in
-    let test = list_any (bytes_eq name) names || is_some (primitive_of name) in
-    let more : map name_of (entries_view (take (r + 1) roster)) ≡ names ++ name ∷ [] = ap (map name_of) (view_more roster r e is within)
-    ∙ map_push name_of es (entry_view e) in
-    let later = first_of (head_faults (names ++ name ∷ []) rest) in
-    let is_found : found ≡ first_of (when test (DuplicateRule (entry_at e))) =
-    head ∙ ap (λ b. cond (b || is_some (primitive_of name)) (Some (DuplicateRule (entry_at e))) None) (known es name)
-    ∙ sym (firsts.first_when test (DuplicateRule (entry_at e))) in
-    ap (λ ns. earlier (earlier old found) (first_of (head_faults ns rest))) more
-    ∙ firsts.earlier_assoc old found later
-    ∙ ap (λ f. earlier old (earlier f later)) is_found
-    ∙ ap (earlier old) (sym (firsts.first_append (when test (DuplicateRule (entry_at e))) (head_faults (names ++ name ∷ []) rest)))
-    ∙ ap (λ xs. earlier old (first_of (head_faults names (entries_view xs)))) (sym (at_item roster r e is within))
-    ∙ so_far
+abbrev pub heads_from : List ListedRule → ℕ → List ListedRule → Faults
+heads_from all r [] = []
+heads_from all r (e ∷ es) = head_which all r e ++ heads_from all (r + 1) es
+
+from_there : (before es : List ListedRule) → heads_from (before ++ es) (length before) es ≡ head_faults (map name_of before) es
+from_there before [] = refl
+from_there before (e ∷ es) = ap₂ (λ here later. here ++ later) one (ap₂ (λ all r. heads_from all r es) whole count ∙ from_there (before ++ e ∷ []) es
+    ∙ ap (λ names. head_faults names es) (map-append name_of before (e ∷ [])))
+  where
+    whole : before ++ e ∷ es ≡ (before ++ e ∷ []) ++ es
+    whole = sym (append_assoc before (e ∷ []) es)
+
+    count : length before + 1 ≡ length (before ++ e ∷ [])
+    count = omega (arith, length-append before (e ∷ []))
+
+    at : 0 + length before ≡ length before
+    at = omega arith
+
+    one : head_which (before ++ e ∷ es) (length before) e
+        ≡ when (list_any (bytes_eq (name_of e)) (map name_of before) || is_some (primitive_of (name_of e))) (DuplicateRule (head_at e))
+    one = ap (λ b. when (b || is_some (primitive_of (name_of e))) (DuplicateRule (head_at e)))
+        (ap (λ r. not (is_rule (rule_named (before ++ e ∷ es) (name_of e)) r)) (sym at) ∙ sym (known 0 before e es))
+
+-- they are those of the text
+pub heads_are : (es : List ListedRule) → heads_from es 0 es ≡ head_faults [] es
+heads_are es = from_there [] es

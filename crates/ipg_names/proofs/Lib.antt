@@ -1,14 +1,8 @@
 pub mod Bytes
 pub mod Lists
-pub mod Once
-pub mod Folds
-pub mod Rosters
 pub mod Firsts
-pub mod HeadTable
-pub mod FieldTable
-pub mod Narrowed
-pub mod Scopes
 pub mod Turns
+pub mod HeadTable
 pub mod Families
 pub mod Counts
 pub mod Within
@@ -23,4 +17,3 @@ pub mod Causes
 pub mod Alone
 pub mod Meanings
 pub mod Refusals
-pub mod Spots

@@ -6,9 +6,9 @@ use Rattle.ipg_ast.specs.declared.grammar.Grammar.{Grammar}
 use Rattle.ipg_core.specs.declared.grammar.Primitive.{Primitive}
 use Rattle.ipg_core.specs.declared.grammar.Sym.{Sym}
 use Rattle.ipg_core.specs.declared.grammar.Sym.TheVariants.{Prim, Rule}
-use Rattle.ipg_names.specs.Roster.{Entry, name_of, head_at, roster_of}
-use Rattle.ipg_names.specs.Primitives.{primitive_of}
-use Rattle.ipg_names.specs.Scope.{is_named, is_visible, entry_visible, rule_named, rule_sym, sym_else, sym_named}
+use Rattle.ipg_names_scope.specs.Roster.{ListedRule, name_of, head_at, roster_of}
+use Rattle.ipg_names_scope.specs.Primitives.{primitive_of}
+use Rattle.ipg_names_scope.specs.Scope.{is_named, is_visible, entry_visible, rule_named, rule_sym, sym_else, sym_named}
 use Rattle.ipg_names.specs.Refusals.{IsDuplicateRule, IsRuleFor, IsPrimitive}
 use Rattle.ipg_names.proofs.Bytes.{same_bytes, bytes_same}
 use Rattle.ipg_names.proofs.HeadTable.{is_none}
@@ -28,10 +28,10 @@ in_sight home None h = inl refl
 in_sight home (Some p) h = inr (ap Some (same_pair p home h))
 
 module _ (g : Grammar) (apart : (at : ℕ) → IsDuplicateRule g at → ⊥) where
-  abbrev roster : List Entry
+  abbrev roster : List ListedRule
   roster = roster_of g
 
-  earlier : (r s : ℕ) (e f : Entry) → slice_get roster r ≡ Some e → slice_get roster s ≡ Some f → name_of e ≡ name_of f → r < s → ⊥
+  earlier : (r s : ℕ) (e f : ListedRule) → slice_get roster r ≡ Some e → slice_get roster s ≡ Some f → name_of e ≡ name_of f → r < s → ⊥
   earlier r s e f a b same lt = apart (head_at f) (record {
     rule = s;
     entry = f;
@@ -40,7 +40,7 @@ module _ (g : Grammar) (apart : (at : ℕ) → IsDuplicateRule g at → ⊥) whe
     twice = inl (record { earlier = r; before = lt; entry = e; is_rule = a; has_name = same });
   })
 
-  one_rule : (r s : ℕ) (e f : Entry) → slice_get roster r ≡ Some e → slice_get roster s ≡ Some f → name_of e ≡ name_of f → r ≡ s
+  one_rule : (r s : ℕ) (e f : ListedRule) → slice_get roster r ≡ Some e → slice_get roster s ≡ Some f → name_of e ≡ name_of f → r ≡ s
   one_rule r s e f a b same = by (nat_lt r s) (nat_lt s r) refl refl
     where
       by : (x y : Bool) → nat_lt r s ≡ x → nat_lt s r ≡ y → r ≡ s
@@ -48,7 +48,7 @@ module _ (g : Grammar) (apart : (at : ℕ) → IsDuplicateRule g at → ⊥) whe
       by false true h k = absurd (earlier s r f e b a (sym same) (grind (arith, nat_tests)))
       by false false h k = grind (arith, nat_tests)
 
-  no_primitive : (r : ℕ) (e : Entry) → slice_get roster r ≡ Some e → primitive_of (name_of e) ≡ None
+  no_primitive : (r : ℕ) (e : ListedRule) → slice_get roster r ≡ Some e → primitive_of (name_of e) ≡ None
   no_primitive r e a = by (is_some (primitive_of (name_of e))) refl
     where
       by : (b : Bool) → is_some (primitive_of (name_of e)) ≡ b → primitive_of (name_of e) ≡ None
@@ -59,14 +59,14 @@ module _ (g : Grammar) (apart : (at : ℕ) → IsDuplicateRule g at → ⊥) whe
     abbrev meaning : Option Sym
     meaning = sym_named roster home name
 
-    rule_is : (r : ℕ) (e : Entry) → slice_get roster r ≡ Some e → name_of e ≡ name → rule_named roster name ≡ Some r
+    rule_is : (r : ℕ) (e : ListedRule) → slice_get roster r ≡ Some e → name_of e ≡ name → rule_named roster name ≡ Some r
     rule_is r e a same =
         first_is (is_named name) 0 roster r e a (ap (bytes_eq name) same ∙ bytes_same name)
         (λ j f b t. one_rule j r f e b a (sym (same_bytes name (name_of f) t) ∙ sym same))
         ∙ ap Some (let z : 0 + r ≡ r = omega arith in z)
 
     -- a rule of the name that is in sight is what the name means
-    pub rule_meant : (e : Entry) → IsRuleFor g home name e → (r : ℕ) × (slice_get roster r ≡ Some e) × (meaning ≡ Some (Rule r))
+    pub rule_meant : (e : ListedRule) → IsRuleFor g home name e → (r : ℕ) × (slice_get roster r ≡ Some e) × (meaning ≡ Some (Rule r))
     rule_meant e w = (
       w.rule,
       w.is_rule,
@@ -84,9 +84,9 @@ module _ (g : Grammar) (apart : (at : ℕ) → IsDuplicateRule g at → ⊥) whe
     abbrev pub Meant : Sym → Type 0
     Meant s =
         ((p : Primitive) × (primitive_of name ≡ Some p) × (s ≡ Prim p))
-        ⊎ ((r : ℕ) × (e : Entry) × (slice_get roster r ≡ Some e) × IsRuleFor g home name e × (s ≡ Rule r))
+        ⊎ ((r : ℕ) × (e : ListedRule) × (slice_get roster r ≡ Some e) × IsRuleFor g home name e × (s ≡ Rule r))
 
-    seen : (r : ℕ) (e : Entry) (s : Sym) → slice_get roster r ≡ Some e → name_of e ≡ name → (b : Bool) → is_visible home e.holder ≡ b
+    seen : (r : ℕ) (e : ListedRule) (s : Sym) → slice_get roster r ≡ Some e → name_of e ≡ name → (b : Bool) → is_visible home e.holder ≡ b
         → cond b (Some (Rule r)) None ≡ Some s → Meant s
     seen r e s a n true k h =
         inr (r, e, a, record { rule = r; is_rule = a; has_name = n; in_sight = in_sight home e.holder k }, (let same : s ≡ Rule r = cc in same))
@@ -110,14 +110,14 @@ module _ (g : Grammar) (apart : (at : ℕ) → IsDuplicateRule g at → ⊥) whe
         by (Some p) e k = inl (p, e, (let same : s ≡ Prim p = cc in same))
         by None e k = of_named s (rule_named roster name) refl k
 
-    pub unknown : is_some meaning ≡ false → (IsPrimitive name → ⊥) × ((e : Entry) → IsRuleFor g home name e → ⊥)
+    pub unknown : is_some meaning ≡ false → (IsPrimitive name → ⊥) × ((e : ListedRule) → IsRuleFor g home name e → ⊥)
     unknown h = (by (primitive_of name) refl, λ e w. true≢false (sym (ap is_some (rule_meant e w).2) ∙ h))
       where
         by : (o : Option Primitive) → primitive_of name ≡ o → is_some o ≡ true → ⊥
         by (Some p) e k = true≢false (sym (ap is_some (primitive_meant p e)) ∙ h)
         by None e k = true≢false (sym k)
 
-    pub unmeant : (IsPrimitive name → ⊥) → ((e : Entry) → IsRuleFor g home name e → ⊥) → is_some meaning ≡ false
+    pub unmeant : (IsPrimitive name → ⊥) → ((e : ListedRule) → IsRuleFor g home name e → ⊥) → is_some meaning ≡ false
     unmeant primitive rule = by meaning refl
       where
         no : (s : Sym) → Meant s → ⊥

@@ -25,8 +25,8 @@ use Rattle.ipg_core.specs.declared.grammar.CoreExpr.TheFolds.{fold-roll-CoreExpr
 use Rattle.ipg_core.specs.Mention.{Mention, SeenOf, ItemOf, OwnOf, OuterOf, FieldOf, LoopOf, field_mentions}
 use Rattle.ipg_core.specs.Mention.{mentions, mentions_step, slot_mentions, case_mentions, term_mentions}
 use Rattle.ipg_core.specs.Good.{HasItems}
-use Rattle.ipg_names.specs.Scope.{Scope, attr_number, is_var, inside}
-use Rattle.ipg_names.specs.Names.{NameList, names_step, field_names, expr_names, place_names, slot_names, case_names, term_names}
+use Rattle.ipg_names_scope.specs.Scope.{Scope, attr_number, is_var, inside}
+use Rattle.ipg_names_scope.specs.Names.{NameList, names_step, field_names, expr_names, place_names, slot_names, case_names, term_names}
 use Rattle.ipg_names.specs.Resolved.{resolved_step, expr_in, name_in, seen_at, item_at, symbol, sym_or_empty, field_in, place_in, slot_in, case_in, term_in}
 use Rattle.ipg_names.specs.Faults.{Faults, faults_step, expr_faults, ends_faults, place_faults, slot_faults, case_faults, term_faults}
 use Rattle.ipg_names.specs.Faults.{is_known, rule_fault, what_fault, occurrence_fault, unless, set_fault, var_fault}

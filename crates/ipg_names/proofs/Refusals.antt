@@ -14,13 +14,13 @@ use Rattle.ipg_core.specs.declared.grammar.Sym.{Sym}
 use Rattle.ipg_core.specs.declared.grammar.Sym.TheVariants.{Prim, Rule}
 use Rattle.ipg_names.specs.declared.fault.NameFault.{NameFault}
 use Rattle.ipg_names.specs.declared.fault.NameFault.TheVariants.{DuplicateRule, UnknownRule, DuplicateAttr, UnknownAttr, PartAttr, NoOccurrence, Memory}
-use Rattle.ipg_names.specs.declared.marks.Family.TheVariants.{Calls, Items}
-use Rattle.ipg_names.specs.Roster.{Entry, name_of, head_at, alts_of, roster_of}
-use Rattle.ipg_names.specs.Primitives.{primitive_of, primitive_has}
-use Rattle.ipg_names.specs.Terms.{has, sets}
-use Rattle.ipg_names.specs.Nearest.{nearest}
-use Rattle.ipg_names.specs.Names.{attr_names}
-use Rattle.ipg_names.specs.Scope.{Scope, is_named, is_var, sym_named, alt_sets, alts_at}
+use Rattle.ipg_names_scope.specs.declared.marks.Family.TheVariants.{Calls, Items}
+use Rattle.ipg_names_scope.specs.Roster.{ListedRule, name_of, head_at, alts_of, roster_of}
+use Rattle.ipg_names_scope.specs.Primitives.{primitive_of, primitive_has}
+use Rattle.ipg_names_scope.specs.Terms.{has, sets}
+use Rattle.ipg_names_scope.specs.Nearest.{nearest}
+use Rattle.ipg_names_scope.specs.Names.{attr_names}
+use Rattle.ipg_names_scope.specs.Scope.{Scope, is_named, is_var, sym_named, alt_sets, alts_at}
 use Rattle.ipg_names.specs.Fault.{number_of, place_of, is_before, first_of}
 use Rattle.ipg_names.specs.Faults.{Faults, head_faults, rules_faults, unless, rule_fault, occurrence_fault, field_fault}
 use Rattle.ipg_names.specs.Faults.{attr_fault, reference_fault, is_known, set_fault, var_fault, faults_of}
@@ -118,7 +118,7 @@ none_own (term.Pick at cases other) name u found h k = k
 -- ---- heads
 
 module _ (g : Grammar) where
-  abbrev roster : List Entry
+  abbrev roster : List ListedRule
   roster = roster_of g
 
   -- a name among those of the rules before
@@ -247,7 +247,7 @@ module _ (g : Grammar) where
           without = inl (record { primitive = p; is = is; without = has });
         }))
 
-        of_rule : (entry : Entry) → IsRuleFor g (where_of here) r.of entry → (b c : Bool) → list_any (alt_sets r.attr.name) (alts_of entry) ≡ b
+        of_rule : (entry : ListedRule) → IsRuleFor g (where_of here) r.of entry → (b c : Bool) → list_any (alt_sets r.attr.name) (alts_of entry) ≡ b
             → list_all (alt_sets r.attr.name) (alts_of entry) ≡ c
             → Stands (cond b (unless c (PartAttr r.attr.span.from)) (UnknownAttr r.attr.span.from ∷ [])) f → IsRefusal g f
         of_rule entry named false c any all k = subst (IsRefusal g) (sym (only (UnknownAttr r.attr.span.from) f k)) (inr (record {
@@ -269,7 +269,7 @@ module _ (g : Grammar) where
           not_all = all;
         })
 
-        at_rule : (n : ℕ) (entry : Entry) → slice_get roster n ≡ Some entry → told (Rule n)
+        at_rule : (n : ℕ) (entry : ListedRule) → slice_get roster n ≡ Some entry → told (Rule n)
             → Stands (cond (list_any (alt_sets r.attr.name) (alts_of entry)) (unless (list_all (alt_sets r.attr.name) (alts_of entry))
             (PartAttr r.attr.span.from)) (UnknownAttr r.attr.span.from ∷ [])) f
         at_rule n entry is k =
@@ -513,7 +513,7 @@ module _ (g : Grammar) where
         (unmeant g apart (where_of w.here) w.symbol.name w.no_primitive w.no_rule) (ap UnknownRule (sym w.is_at)))
 
     -- the fault of a field of a rule, by what its alternatives set
-    at_rule_told : (here : TermOf g) (r : Read) (n : ℕ) (entry : Entry) (f : NameFault) (b c : Bool) → slice_get roster n ≡ Some entry
+    at_rule_told : (here : TermOf g) (r : Read) (n : ℕ) (entry : ListedRule) (f : NameFault) (b c : Bool) → slice_get roster n ≡ Some entry
         → list_any (alt_sets r.attr.name) (alts_of entry) ≡ b → list_all (alt_sets r.attr.name) (alts_of entry) ≡ c
         → Stands (cond b (unless c (PartAttr r.attr.span.from)) (UnknownAttr r.attr.span.from ∷ [])) f → Stands (attr_fault (scope here) (Rule n) r.attr) f
     at_rule_told here r n entry f b c is any all h =

@@ -7,10 +7,10 @@ use Rattle.ipg_ast.specs.declared.grammar.Grammar.{Grammar}
 use Rattle.ipg_ast.specs.declared.grammar.Alt.{out-Alt}
 use Rattle.ipg_names.specs.declared.fault.NameFault.{NameFault}
 use Rattle.ipg_names.specs.declared.fault.NameFault.TheVariants.{DuplicateRule}
-use Rattle.ipg_names.specs.Roster.{Entry, name_of, head_at, alts_of, roster_of}
-use Rattle.ipg_names.specs.Primitives.{primitive_of}
-use Rattle.ipg_names.specs.Names.{attr_names}
-use Rattle.ipg_names.specs.Scope.{Scope}
+use Rattle.ipg_names_scope.specs.Roster.{ListedRule, name_of, head_at, alts_of, roster_of}
+use Rattle.ipg_names_scope.specs.Primitives.{primitive_of}
+use Rattle.ipg_names_scope.specs.Names.{attr_names}
+use Rattle.ipg_names_scope.specs.Scope.{Scope}
 use Rattle.ipg_names.specs.Resolved.{alt_scopes}
 use Rattle.ipg_names.specs.Fault.{number_of, place_of, is_before, earlier, first_of}
 use Rattle.ipg_names.specs.Faults.{when, head_faults, term_faults, terms_faults, alt_faults, alts_faults, rules_faults, faults_of}
@@ -104,17 +104,17 @@ module _ {A : Type 0} (faults_from : ℕ → List A → List NameFault) (faults_
 
 -- ---- heads
 
-abbrev pub clash : List (List ℕ) → Entry → Bool
+abbrev pub clash : List (List ℕ) → ListedRule → Bool
 clash before entry = list_any (bytes_eq (name_of entry)) before || is_some (primitive_of (name_of entry))
 
-pub record Head (before : List (List ℕ)) (es : List Entry) (f : NameFault) : Type 0 where
+pub record Head (before : List (List ℕ)) (es : List ListedRule) (f : NameFault) : Type 0 where
   pub number : ℕ
-  pub entry : Entry
+  pub entry : ListedRule
   pub is_entry : slice_get es number ≡ Some entry
   pub twice : clash (before ++ map name_of (take number es)) entry ≡ true
   pub fault_is : f ≡ DuplicateRule (head_at entry)
 
-pub heads_which : (before : List (List ℕ)) (es : List Entry) (f : NameFault) → Stands (head_faults before es) f → Head before es f
+pub heads_which : (before : List (List ℕ)) (es : List ListedRule) (f : NameFault) → Stands (head_faults before es) f → Head before es f
 heads_which before [] f h = absurd h
 heads_which before (e ∷ es) f h =
     by (either (when (clash before e) (DuplicateRule (head_at e))) (head_faults (before ++ name_of e ∷ []) es) f h) (heads_which
@@ -136,7 +136,7 @@ heads_which before (e ∷ es) f h =
           fault_is = w.fault_is;
         }
 
-pub heads_there : (before : List (List ℕ)) (es : List Entry) (f : NameFault) (k : ℕ) (entry : Entry) → slice_get es k ≡ Some entry
+pub heads_there : (before : List (List ℕ)) (es : List ListedRule) (f : NameFault) (k : ℕ) (entry : ListedRule) → slice_get es k ≡ Some entry
     → clash (before ++ map name_of (take k es)) entry ≡ true → f ≡ DuplicateRule (head_at entry) → Stands (head_faults before es) f
 heads_there before [] f k entry is twice e = absurd (cc)
 heads_there before (x ∷ es) f zero entry is twice e =
@@ -160,7 +160,7 @@ pub record TermFault (g : Grammar) (fault : NameFault) : Type 0 where
   pub stands : Stands (term_faults (scope_at here) here.term) fault
 
 module _ (g : Grammar) (f : NameFault) where
-  abbrev roster : List Entry
+  abbrev roster : List ListedRule
   roster = roster_of g
 
   abbrev names : List (List ℕ)

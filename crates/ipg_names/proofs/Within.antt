@@ -2,7 +2,7 @@
 use Rattle.std.proofs.Common.{◌≡◌, ℕ, suc, ◌+◌, ◌<◌, Bool, true, false, not, ◌||◌, List, [], ◌∷◌, ◌++◌}
 use Rattle.std.proofs.Common.{length, refl, sym, ap, ◌∙◌, cond, bytes_eq, arith, true≢false}
 use Rattle.std.specs.List.{AllByRecursion, IsDistinct, list_any, position_or_len}
-use Rattle.ipg_names.specs.Names.{NameList, once}
+use Rattle.ipg_names_scope.specs.Names.{NameList, once}
 use Rattle.ipg_names.proofs.Bytes.{same_bytes, bytes_same, bytes_turned}
 
 abbrev pub IsIn : NameList → List ℕ → Type 0

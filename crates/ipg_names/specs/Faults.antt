@@ -20,11 +20,11 @@ use Rattle.ipg_ast.specs.declared.grammar.Expr.TheFolds.{fold-Expr}
 use Rattle.ipg_core.specs.declared.grammar.Sym.{Sym}
 use Rattle.ipg_names.specs.declared.fault.NameFault.{NameFault}
 use Rattle.ipg_names.specs.declared.fault.NameFault.TheVariants.{DuplicateRule, UnknownRule, DuplicateAttr, UnknownAttr, PartAttr, NoOccurrence}
-use Rattle.ipg_names.specs.Primitives.{primitive_of}
-use Rattle.ipg_names.specs.Roster.{Entry, name_of, head_at, alts_of, roster_of}
-use Rattle.ipg_names.specs.Names.{attr_names}
-use Rattle.ipg_names.specs.Scope.{Scope, is_var}
-pub use Rattle.ipg_names.specs.Scope.{inside}
+use Rattle.ipg_names_scope.specs.Primitives.{primitive_of}
+use Rattle.ipg_names_scope.specs.Roster.{ListedRule, name_of, head_at, alts_of, roster_of}
+use Rattle.ipg_names_scope.specs.Names.{attr_names}
+use Rattle.ipg_names_scope.specs.Scope.{Scope, is_var}
+pub use Rattle.ipg_names_scope.specs.Scope.{inside}
 use Rattle.ipg_names.specs.Resolved.{alt_scopes}
 
 abbrev pub Faults : Type 0
@@ -40,7 +40,7 @@ when holds fault = if holds then fault ∷ [] else []
 -- ---- heads
 
 -- a head that has the name of an earlier one, or of a primitive
-abbrev pub head_faults : List (List ℕ) → List Entry → Faults
+abbrev pub head_faults : List (List ℕ) → List ListedRule → Faults
 head_faults earlier [] = []
 head_faults earlier (entry ∷ entries) =
     when (list_any (bytes_eq (name_of entry)) earlier || is_some (primitive_of (name_of entry))) (DuplicateRule (head_at entry))
@@ -137,18 +137,18 @@ abbrev pub terms_faults : (ℕ → Scope) → ℕ → List Term → Faults
 terms_faults scopes u [] = []
 terms_faults scopes u (t ∷ ts) = term_faults (scopes u) t ++ terms_faults scopes (u + 1) ts
 
-abbrev pub alt_faults : List Entry → List (List ℕ) → Entry → ℕ × ℕ → Alt → Faults
+abbrev pub alt_faults : List ListedRule → List (List ℕ) → ListedRule → ℕ × ℕ → Alt → Faults
 alt_faults roster names entry at alt = terms_faults (alt_scopes roster names entry at alt) 0 (out-Alt alt).terms
 
-abbrev pub alts_faults : List Entry → List (List ℕ) → Entry → ℕ → ℕ → List Alt → Faults
+abbrev pub alts_faults : List ListedRule → List (List ℕ) → ListedRule → ℕ → ℕ → List Alt → Faults
 alts_faults roster names entry r a [] = []
 alts_faults roster names entry r a (alt ∷ alts) = alt_faults roster names entry (r, a) alt ++ alts_faults roster names entry r (a + 1) alts
 
-abbrev pub rules_faults : List Entry → List (List ℕ) → ℕ → List Entry → Faults
+abbrev pub rules_faults : List ListedRule → List (List ℕ) → ℕ → List ListedRule → Faults
 rules_faults roster names r [] = []
 rules_faults roster names r (entry ∷ entries) = alts_faults roster names entry r 0 (alts_of entry) ++ rules_faults roster names (r + 1) entries
 
-abbrev pub roster_faults : List Entry → List (List ℕ) → Faults
+abbrev pub roster_faults : List ListedRule → List (List ℕ) → Faults
 roster_faults roster names = head_faults [] roster ++ rules_faults roster names 0 roster
 
 abbrev pub faults_of : Grammar → Faults

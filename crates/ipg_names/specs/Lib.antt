@@ -2,14 +2,7 @@
 pub mod Readable
 -- which of several faults is told
 pub mod Fault
--- the rules of a text, the names of terms, and what a name means at a place
-pub mod Roster
-pub mod Terms
-pub mod Nearest
-pub mod Primitives
-pub mod Scope
--- the names of attributes, the resolved grammar, the faults
-pub mod Names
+-- the resolved grammar, the faults
 pub mod Resolved
 pub mod Faults
 -- what a resolved grammar keeps
@@ -20,9 +13,5 @@ pub mod Uses
 pub mod Refusals
 pub mod Laws
 -- what functions inside the crate promise each other
-pub mod Marks
-pub mod View
-pub mod Fields
-pub mod Lookup
-pub mod Site
+pub mod Heads
 pub mod Judged

@@ -9,12 +9,12 @@ use Rattle.ipg_ast.specs.declared.grammar.Field.{Field}
 use Rattle.ipg_core.specs.declared.grammar.Primitive.{Primitive}
 use Rattle.ipg_names.specs.declared.fault.NameFault.{NameFault}
 use Rattle.ipg_names.specs.declared.fault.NameFault.TheVariants.{DuplicateRule, UnknownRule, DuplicateAttr, UnknownAttr, PartAttr, NoOccurrence, Memory}
-use Rattle.ipg_names.specs.declared.marks.Family.{Family}
-use Rattle.ipg_names.specs.declared.marks.Family.TheVariants.{Calls, Items}
-use Rattle.ipg_names.specs.Roster.{Entry, name_of, head_at, alts_of, roster_of}
-use Rattle.ipg_names.specs.Primitives.{primitive_of, primitive_has}
-use Rattle.ipg_names.specs.Terms.{has, sets}
-use Rattle.ipg_names.specs.Scope.{home_of, alt_sets}
+use Rattle.ipg_names_scope.specs.declared.marks.Family.{Family}
+use Rattle.ipg_names_scope.specs.declared.marks.Family.TheVariants.{Calls, Items}
+use Rattle.ipg_names_scope.specs.Roster.{ListedRule, name_of, head_at, alts_of, roster_of}
+use Rattle.ipg_names_scope.specs.Primitives.{primitive_of, primitive_has}
+use Rattle.ipg_names_scope.specs.Terms.{has, sets}
+use Rattle.ipg_names_scope.specs.Scope.{home_of, alt_sets}
 use Rattle.ipg_names.specs.Fault.{is_before}
 use Rattle.ipg_names.specs.Told.{Stands}
 use Rattle.ipg_names.specs.Uses.{Bare, Part, Item, Symbol, Read, set_by, loop_of, uses_in, item_uses, all_uses, symbols_in, reads_in}
@@ -24,7 +24,7 @@ use Rattle.ipg_names.specs.Uses.{Bare, Part, Item, Symbol, Read, set_by, loop_of
 -- a term, in an alternative of a rule, global or local
 pub record TermOf (g : Grammar) : Type 0 where
   pub rule : ℕ
-  pub entry : Entry
+  pub entry : ListedRule
   pub is_rule : slice_get (roster_of g) rule ≡ Some entry
   pub place : ℕ
   pub alt : Alt
@@ -41,7 +41,7 @@ abbrev pub where_of : {g : Grammar} → TermOf g → ℕ × ℕ
 where_of here = home_of (here.rule, here.place) here.entry.holder
 
 -- a rule of that name: a global one, or a local one of that `where`
-pub record IsRuleFor (g : Grammar) (home : ℕ × ℕ) (name : List ℕ) (entry : Entry) : Type 0 where
+pub record IsRuleFor (g : Grammar) (home : ℕ × ℕ) (name : List ℕ) (entry : ListedRule) : Type 0 where
   pub rule : ℕ
   pub is_rule : slice_get (roster_of g) rule ≡ Some entry
   pub has_name : name_of entry ≡ name
@@ -59,14 +59,14 @@ IsAlone family name terms u = (v : ℕ) (term : Term) → slice_get terms v ≡ 
 pub record IsEarlierName (g : Grammar) (rule : ℕ) (name : List ℕ) : Type 0 where
   pub earlier : ℕ
   pub before : earlier < rule
-  pub entry : Entry
+  pub entry : ListedRule
   pub is_rule : slice_get (roster_of g) earlier ≡ Some entry
   pub has_name : name_of entry ≡ name
 
 -- the head at `at` has the name of an earlier rule, global or local, or of a primitive
 pub record IsDuplicateRule (g : Grammar) (at : ℕ) : Type 0 where
   pub rule : ℕ
-  pub entry : Entry
+  pub entry : ListedRule
   pub is_rule : slice_get (roster_of g) rule ≡ Some entry
   pub is_at : head_at entry ≡ at
   pub twice : IsEarlierName g rule (name_of entry) ⊎ IsPrimitive (name_of entry)
@@ -80,7 +80,7 @@ pub record IsUnknownRule (g : Grammar) (at : ℕ) : Type 0 where
   pub stands : Stands (symbols_in here.term) symbol
   pub is_at : symbol.at ≡ at
   pub no_primitive : IsPrimitive symbol.name → ⊥
-  pub no_rule : (entry : Entry) → IsRuleFor g (where_of here) symbol.name entry → ⊥
+  pub no_rule : (entry : ListedRule) → IsRuleFor g (where_of here) symbol.name entry → ⊥
 
 -- ---- G8
 
@@ -129,7 +129,7 @@ pub record IsPrimitiveWithout (name field : List ℕ) : Type 0 where
 
 -- a rule of that name, none of whose alternatives sets the attribute
 pub record IsRuleWithout (g : Grammar) (home : ℕ × ℕ) (name field : List ℕ) : Type 0 where
-  pub entry : Entry
+  pub entry : ListedRule
   pub named : IsRuleFor g home name entry
   pub none : list_any (alt_sets field) (alts_of entry) ≡ false
 
@@ -152,7 +152,7 @@ pub record IsPartAttr (g : Grammar) (at : ℕ) : Type 0 where
   pub read : Read
   pub stands : Stands (reads_in here.term) read
   pub is_at : read.attr.span.from ≡ at
-  pub entry : Entry
+  pub entry : ListedRule
   pub named : IsRuleFor g (where_of here) read.of entry
   pub some : list_any (alt_sets read.attr.name) (alts_of entry) ≡ true
   pub not_all : list_all (alt_sets read.attr.name) (alts_of entry) ≡ false

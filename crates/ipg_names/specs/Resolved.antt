@@ -28,10 +28,10 @@ use Rattle.ipg_names.specs.declared.named.NamedTerm.{NamedTerm}
 use Rattle.ipg_names.specs.declared.named.NamedTerm.TheVariants as named
 use Rattle.ipg_names.specs.declared.named.NamedAlt.{NamedAlt}
 use Rattle.ipg_names.specs.declared.named.NamedRule.{NamedRule}
-use Rattle.ipg_names.specs.Roster.{Entry, name_of, alts_of, roster_of}
-use Rattle.ipg_names.specs.Names.{attr_names}
-use Rattle.ipg_names.specs.Scope.{Scope, attr_number, is_var, inside, scope_of}
-pub use Rattle.ipg_names.specs.Scope.{home_of}
+use Rattle.ipg_names_scope.specs.Roster.{ListedRule, name_of, alts_of, roster_of}
+use Rattle.ipg_names_scope.specs.Names.{attr_names}
+use Rattle.ipg_names_scope.specs.Scope.{Scope, attr_number, is_var, inside, scope_of}
+pub use Rattle.ipg_names_scope.specs.Scope.{home_of}
 
 -- ---- what names stand for
 
@@ -117,22 +117,22 @@ terms_from scopes u [] = []
 terms_from scopes u (t ∷ ts) = term_in (scopes u) t ∷ terms_from scopes (u + 1) ts
 
 -- an alternative at a place, of a rule with that holder and the holder's terms
-abbrev pub alt_scopes : List Entry → List (List ℕ) → Entry → ℕ × ℕ → Alt → ℕ → Scope
+abbrev pub alt_scopes : List ListedRule → List (List ℕ) → ListedRule → ℕ × ℕ → Alt → ℕ → Scope
 alt_scopes roster names entry at alt u = scope_of roster names (home_of at entry.holder) entry.outer (out-Alt alt).terms u
 
-abbrev pub alt_in : List Entry → List (List ℕ) → Entry → ℕ × ℕ → Alt → NamedAlt
+abbrev pub alt_in : List ListedRule → List (List ℕ) → ListedRule → ℕ × ℕ → Alt → NamedAlt
 alt_in roster names entry at alt = record { terms = terms_from (alt_scopes roster names entry at alt) 0 (out-Alt alt).terms }
 
 -- the alternatives of rule r from number a on
-abbrev pub alts_from : List Entry → List (List ℕ) → Entry → ℕ → ℕ → List Alt → List NamedAlt
+abbrev pub alts_from : List ListedRule → List (List ℕ) → ListedRule → ℕ → ℕ → List Alt → List NamedAlt
 alts_from roster names entry r a [] = []
 alts_from roster names entry r a (alt ∷ alts) = alt_in roster names entry (r, a) alt ∷ alts_from roster names entry r (a + 1) alts
 
-abbrev pub rule_in : List Entry → List (List ℕ) → ℕ → Entry → NamedRule
+abbrev pub rule_in : List ListedRule → List (List ℕ) → ℕ → ListedRule → NamedRule
 rule_in roster names r entry = record { name = name_of entry; holder = entry.holder; alts = alts_from roster names entry r 0 (alts_of entry) }
 
 -- the rules from number r on
-abbrev pub rules_from : List Entry → List (List ℕ) → ℕ → List Entry → List NamedRule
+abbrev pub rules_from : List ListedRule → List (List ℕ) → ℕ → List ListedRule → List NamedRule
 rules_from roster names r [] = []
 rules_from roster names r (entry ∷ entries) = rule_in roster names r entry ∷ rules_from roster names (r + 1) entries
 

@@ -4,16 +4,16 @@
 ghost use Rattle.std.specs.Prelude.{◌≡◌, None, option_map, flat_map, is_some};
 ghost use Rattle.ipg_names.specs.Fault.{first_of};
 ghost use Rattle.ipg_names.specs.Faults as spec;
-ghost use Rattle.ipg_names.specs.Site.{spot_scope, callee_sym};
+ghost use Rattle.ipg_names_scope.specs.Site.{spot_scope, callee_sym};
 
 use crate::fault::{NameFault, earlier};
-use crate::scope::{
-    Callee, Inside, Spot, all_have, call_at, callee_at, is_before, is_outer, is_own, is_var,
+use ipg_ast::{Case, Expr, Field, Ident, Place, Slot, Term, What};
+use ipg_names_scope::{
+    Callee, TermSpot, all_have, call_at, callee_at, is_before, is_outer, is_own, is_var, item_spot,
     items_at, some_has,
 };
-use ipg_ast::{Case, Expr, Field, Ident, Place, Slot, Term, What};
 
-fn rule_fault(spot: &Spot<'_, '_, '_>, name: &[u8], at: u32) -> Option<NameFault>
+fn rule_fault(spot: &TermSpot<'_, '_, '_>, name: &[u8], at: u32) -> Option<NameFault>
     ensures { result ≡ first_of (spec.rule_fault (spot_scope spot.now) name.now at) }
 {
     if callee_at(spot, name).is_some() {
@@ -23,13 +23,13 @@ fn rule_fault(spot: &Spot<'_, '_, '_>, name: &[u8], at: u32) -> Option<NameFault
     }
 }
 
-fn is_known(spot: &Spot<'_, '_, '_>, name: &[u8]) -> bool
+fn is_known(spot: &TermSpot<'_, '_, '_>, name: &[u8]) -> bool
     ensures { result ≡ spec.is_known (spot_scope spot.now) name.now }
 {
     is_own(spot, name) || (is_var(spot, name) || is_outer(spot, name))
 }
 
-fn name_fault(spot: &Spot<'_, '_, '_>, name: &Ident) -> Option<NameFault>
+fn name_fault(spot: &TermSpot<'_, '_, '_>, name: &Ident) -> Option<NameFault>
     ensures { result ≡ first_of (spec.name_fault (spot_scope spot.now) name.now) }
 {
     if is_known(spot, name.name.as_slice()) {
@@ -39,7 +39,7 @@ fn name_fault(spot: &Spot<'_, '_, '_>, name: &Ident) -> Option<NameFault>
     }
 }
 
-fn attr_fault(spot: &Spot<'_, '_, '_>, callee: Callee, field: &Ident) -> Option<NameFault>
+fn attr_fault(spot: &TermSpot<'_, '_, '_>, callee: Callee, field: &Ident) -> Option<NameFault>
     ensures { result ≡ first_of (spec.attr_fault (spot_scope spot.now) (callee_sym callee) field.now) }
 {
     let at = field.span.from;
@@ -53,7 +53,11 @@ fn attr_fault(spot: &Spot<'_, '_, '_>, callee: Callee, field: &Ident) -> Option<
     }
 }
 
-fn field_fault(spot: &Spot<'_, '_, '_>, callee: Option<Callee>, field: &Field) -> Option<NameFault>
+fn field_fault(
+    spot: &TermSpot<'_, '_, '_>,
+    callee: Option<Callee>,
+    field: &Field,
+) -> Option<NameFault>
     ensures { result ≡ first_of (spec.field_fault (spot_scope spot.now) (option_map callee_sym callee) field.now) }
 {
     match (callee, field) {
@@ -74,7 +78,7 @@ fn occurrence_fault(referred: Option<u32>, at: u32) -> Option<NameFault>
 }
 
 fn reference_fault(
-    spot: &Spot<'_, '_, '_>,
+    spot: &TermSpot<'_, '_, '_>,
     referred: Option<u32>,
     of: &Ident,
     field: &Field,
@@ -88,7 +92,7 @@ fn reference_fault(
     earlier(rule, earlier(occurrence, field))
 }
 
-fn expr_fault(spot: &Spot<'_, '_, '_>, e: &Expr) -> Option<NameFault>
+fn expr_fault(spot: &TermSpot<'_, '_, '_>, e: &Expr) -> Option<NameFault>
     ensures { result ≡ first_of (spec.expr_faults (spot_scope spot.now) e.now) }
 {
     match e {
@@ -117,7 +121,7 @@ fn expr_fault(spot: &Spot<'_, '_, '_>, e: &Expr) -> Option<NameFault>
     }
 }
 
-fn place_fault(spot: &Spot<'_, '_, '_>, place: &Place) -> Option<NameFault>
+fn place_fault(spot: &TermSpot<'_, '_, '_>, place: &Place) -> Option<NameFault>
     ensures { result ≡ first_of (spec.place_faults (spot_scope spot.now) place.now) }
 {
     match place {
@@ -127,7 +131,7 @@ fn place_fault(spot: &Spot<'_, '_, '_>, place: &Place) -> Option<NameFault>
     }
 }
 
-fn what_fault(spot: &Spot<'_, '_, '_>, what: &What, at: u32) -> Option<NameFault>
+fn what_fault(spot: &TermSpot<'_, '_, '_>, what: &What, at: u32) -> Option<NameFault>
     ensures { result ≡ first_of (spec.what_fault (spot_scope spot.now) what.now at) }
 {
     match what {
@@ -136,7 +140,7 @@ fn what_fault(spot: &Spot<'_, '_, '_>, what: &What, at: u32) -> Option<NameFault
     }
 }
 
-fn slot_fault(spot: &Spot<'_, '_, '_>, slot: &Slot) -> Option<NameFault>
+fn slot_fault(spot: &TermSpot<'_, '_, '_>, slot: &Slot) -> Option<NameFault>
     ensures { result ≡ first_of (spec.slot_faults (spot_scope spot.now) slot.now) }
 {
     earlier(
@@ -145,13 +149,13 @@ fn slot_fault(spot: &Spot<'_, '_, '_>, slot: &Slot) -> Option<NameFault>
     )
 }
 
-fn case_fault(spot: &Spot<'_, '_, '_>, case: &Case) -> Option<NameFault>
+fn case_fault(spot: &TermSpot<'_, '_, '_>, case: &Case) -> Option<NameFault>
     ensures { result ≡ first_of (spec.case_faults (spot_scope spot.now) case.now) }
 {
     earlier(expr_fault(spot, &case.cond), slot_fault(spot, &case.slot))
 }
 
-fn cases_fault(spot: &Spot<'_, '_, '_>, cases: &[Case]) -> Option<NameFault>
+fn cases_fault(spot: &TermSpot<'_, '_, '_>, cases: &[Case]) -> Option<NameFault>
     ensures { result ≡ first_of (flat_map (spec.case_faults (spot_scope spot.now)) cases.now) }
 {
     let mut fault = None;
@@ -161,7 +165,7 @@ fn cases_fault(spot: &Spot<'_, '_, '_>, cases: &[Case]) -> Option<NameFault>
     fault
 }
 
-fn set_fault(spot: &Spot<'_, '_, '_>, name: &Ident) -> Option<NameFault>
+fn set_fault(spot: &TermSpot<'_, '_, '_>, name: &Ident) -> Option<NameFault>
     ensures { result ≡ first_of (spec.set_fault (spot_scope spot.now) name.now) }
 {
     if is_before(spot, name.name.as_slice()) {
@@ -171,7 +175,7 @@ fn set_fault(spot: &Spot<'_, '_, '_>, name: &Ident) -> Option<NameFault>
     }
 }
 
-fn var_fault(spot: &Spot<'_, '_, '_>, var: &Ident) -> Option<NameFault>
+fn var_fault(spot: &TermSpot<'_, '_, '_>, var: &Ident) -> Option<NameFault>
     ensures { result ≡ first_of (spec.var_fault (spot_scope spot.now) var.now) }
 {
     if is_own(spot, var.name.as_slice()) {
@@ -181,32 +185,14 @@ fn var_fault(spot: &Spot<'_, '_, '_>, var: &Ident) -> Option<NameFault>
     }
 }
 
-/// The item interval of an array.
-pub fn item_spot<'s, 't, 'a>(
-    spot: &Spot<'s, 't, 'a>,
-    var: &'s Ident,
-    item: &'s Ident,
-) -> Spot<'s, 't, 'a>
-    requires { spot.now.inside ≡ None }
-    ensures { spot_scope result ≡ spec.inside (spot_scope spot.now) var.now.name item.now.name }
-{
-    Spot {
-        site: spot.site,
-        inside: Some(Inside {
-            var: var.name.as_slice(),
-            item: item.name.as_slice(),
-        }),
-    }
-}
-
-fn ends_fault(spot: &Spot<'_, '_, '_>, from: &Expr, to: &Expr) -> Option<NameFault>
+fn ends_fault(spot: &TermSpot<'_, '_, '_>, from: &Expr, to: &Expr) -> Option<NameFault>
     ensures { result ≡ first_of (spec.ends_faults (spot_scope spot.now) from.now to.now) }
 {
     earlier(expr_fault(spot, from), expr_fault(spot, to))
 }
 
 /// The first fault of a term.
-pub fn term_fault(spot: &Spot<'_, '_, '_>, term: &Term) -> Option<NameFault>
+pub fn term_fault(spot: &TermSpot<'_, '_, '_>, term: &Term) -> Option<NameFault>
     requires { spot.now.inside ≡ None }
     ensures { result ≡ first_of (spec.term_faults (spot_scope spot.now) term.now) }
 {

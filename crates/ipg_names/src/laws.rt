@@ -2,6 +2,8 @@
 
 ghost use Rattle.ipg_names.specs.Laws.{FormedIsReadable, FirstIsTold, HeadsStand, FaultsStand, FirstIsRefused, FaultlessIsFormed};
 
+use ipg_names_scope::laws::roster_is_whole;
+
 /// A well formed grammar of at most 2^20 tokens, and so each that is read, meets the conditions of `resolve`.
 pub fn formed_is_readable()
     ensures { FormedIsReadable }
@@ -30,4 +32,6 @@ pub fn first_is_refused()
 /// What the names of a readable text without a fault stand for is well formed.
 pub fn faultless_is_formed()
     ensures { FaultlessIsFormed }
-{}
+{
+    roster_is_whole();
+}

@@ -2,14 +2,15 @@
 ghost use Rattle.std.specs.Prelude.{◌≡◌, None, map, option_map, IfOk};
 ghost use Rattle.ipg_core.specs.declared.grammar.CoreExpr.TheVariants as core;
 ghost use Rattle.ipg_names.specs.Resolved as spec;
-ghost use Rattle.ipg_names.specs.Site.{spot_scope, callee_sym};
+ghost use Rattle.ipg_names_scope.specs.Site.{spot_scope, callee_sym};
 ghost use Rattle.ipg_names.specs.Judged.{repeat_named};
 
-use crate::faults::item_spot;
 use crate::named::{NamedPlace, NamedSlot, NamedTerm};
-use crate::scope::{Callee, Spot, attr, call_at, callee_at, is_outer, is_own, is_var, items_at};
 use ipg_ast::{Case, Expr, Field, Place, Slot, Term, What};
 use ipg_core::grammar::{CoreExpr, CoreField, Name, Sym};
+use ipg_names_scope::{
+    Callee, TermSpot, attr, call_at, callee_at, is_outer, is_own, is_var, item_spot, items_at,
+};
 use ipg_num::{Held, List, Op2};
 use std::alloc::{AllocError, Global};
 
@@ -29,13 +30,13 @@ fn sym_of(alloc: Global, callee: Option<Callee>) -> Sym
     }
 }
 
-fn symbol(alloc: Global, spot: &Spot<'_, '_, '_>, name: &[u8]) -> Sym
+fn symbol(alloc: Global, spot: &TermSpot<'_, '_, '_>, name: &[u8]) -> Sym
     ensures { result ≡ spec.symbol (spot_scope spot.now) name.now }
 {
     sym_of(alloc, callee_at(spot, name))
 }
 
-fn what_symbol(alloc: Global, spot: &Spot<'_, '_, '_>, what: &What) -> Result<Sym, AllocError>
+fn what_symbol(alloc: Global, spot: &TermSpot<'_, '_, '_>, what: &What) -> Result<Sym, AllocError>
     ensures { IfOk result (λ sym. sym ≡ spec.what_symbol (spot_scope spot.now) what.now) }
 {
     match what {
@@ -44,7 +45,7 @@ fn what_symbol(alloc: Global, spot: &Spot<'_, '_, '_>, what: &What) -> Result<Sy
     }
 }
 
-fn core_field(spot: &Spot<'_, '_, '_>, field: &Field) -> CoreField
+fn core_field(spot: &TermSpot<'_, '_, '_>, field: &Field) -> CoreField
     ensures { result ≡ spec.field_in (spot_scope spot.now) field.now }
 {
     match field {
@@ -54,7 +55,7 @@ fn core_field(spot: &Spot<'_, '_, '_>, field: &Field) -> CoreField
     }
 }
 
-fn core_name(spot: &Spot<'_, '_, '_>, name: &[u8]) -> CoreExpr
+fn core_name(spot: &TermSpot<'_, '_, '_>, name: &[u8]) -> CoreExpr
     ensures { result ≡ spec.name_in (spot_scope spot.now) name.now }
 {
     if is_own(spot, name) {
@@ -95,6 +96,18 @@ fn item(
     }
 }
 
+fn negative(alloc: Global, of: CoreExpr) -> Result<CoreExpr, AllocError>
+    ensures { IfOk result (λ made. made ≡ core.Neg of) }
+{
+    Ok(CoreExpr::Neg(Held::new(alloc, of)?))
+}
+
+fn opposite(alloc: Global, of: CoreExpr) -> Result<CoreExpr, AllocError>
+    ensures { IfOk result (λ made. made ≡ core.Not of) }
+{
+    Ok(CoreExpr::Not(Held::new(alloc, of)?))
+}
+
 fn two(alloc: Global, op: Op2, a: CoreExpr, b: CoreExpr) -> Result<CoreExpr, AllocError>
     ensures { IfOk result (λ made. made ≡ core.Two op a b) }
 {
@@ -128,7 +141,7 @@ fn conditional(
     ))
 }
 
-fn expr(alloc: Global, spot: &Spot<'_, '_, '_>, e: &Expr) -> Result<CoreExpr, AllocError>
+fn expr(alloc: Global, spot: &TermSpot<'_, '_, '_>, e: &Expr) -> Result<CoreExpr, AllocError>
     ensures { IfOk result (λ made. made ≡ spec.expr_in (spot_scope spot.now) e.now) }
 {
     match e {
@@ -146,14 +159,8 @@ fn expr(alloc: Global, spot: &Spot<'_, '_, '_>, e: &Expr) -> Result<CoreExpr, Al
             item(alloc, referred, expr(alloc, spot, index.get())?, field)
         }
         Expr::Group(inner) => expr(alloc, spot, inner.get()),
-        Expr::Neg(inner) => {
-            let inner = expr(alloc, spot, inner.get())?;
-            Ok(CoreExpr::Neg(Held::new(alloc, inner)?))
-        }
-        Expr::Not(inner) => {
-            let inner = expr(alloc, spot, inner.get())?;
-            Ok(CoreExpr::Not(Held::new(alloc, inner)?))
-        }
+        Expr::Neg(inner) => negative(alloc, expr(alloc, spot, inner.get())?),
+        Expr::Not(inner) => opposite(alloc, expr(alloc, spot, inner.get())?),
         Expr::Two(op, a, b) => {
             let a = expr(alloc, spot, a.get())?;
             two(alloc, *op, a, expr(alloc, spot, b.get())?)
@@ -176,7 +183,7 @@ fn expr(alloc: Global, spot: &Spot<'_, '_, '_>, e: &Expr) -> Result<CoreExpr, Al
 
 fn named_place(
     alloc: Global,
-    spot: &Spot<'_, '_, '_>,
+    spot: &TermSpot<'_, '_, '_>,
     place: &Place,
 ) -> Result<NamedPlace, AllocError>
     ensures { IfOk result (λ made. made ≡ spec.place_in (spot_scope spot.now) place.now) }
@@ -191,7 +198,11 @@ fn named_place(
     }
 }
 
-fn named_slot(alloc: Global, spot: &Spot<'_, '_, '_>, slot: &Slot) -> Result<NamedSlot, AllocError>
+fn named_slot(
+    alloc: Global,
+    spot: &TermSpot<'_, '_, '_>,
+    slot: &Slot,
+) -> Result<NamedSlot, AllocError>
     ensures { IfOk result (λ made. made ≡ spec.slot_in (spot_scope spot.now) slot.now) }
 {
     let sym = what_symbol(alloc, spot, &slot.what)?;
@@ -203,7 +214,7 @@ fn named_slot(alloc: Global, spot: &Spot<'_, '_, '_>, slot: &Slot) -> Result<Nam
 
 fn named_case(
     alloc: Global,
-    spot: &Spot<'_, '_, '_>,
+    spot: &TermSpot<'_, '_, '_>,
     case: &Case,
 ) -> Result<(CoreExpr, NamedSlot), AllocError>
     ensures { IfOk result (λ made. made ≡ spec.case_in (spot_scope spot.now) case.now) }
@@ -214,7 +225,7 @@ fn named_case(
 
 fn named_cases(
     alloc: Global,
-    spot: &Spot<'_, '_, '_>,
+    spot: &TermSpot<'_, '_, '_>,
     cases: &[Case],
 ) -> Result<List<(CoreExpr, NamedSlot)>, AllocError>
     ensures { IfOk result (λ made. made ≡ map (spec.case_in (spot_scope spot.now)) cases.now) }
@@ -228,10 +239,10 @@ fn named_cases(
 
 fn named_repeat(
     alloc: Global,
-    spot: &Spot<'_, '_, '_>,
+    spot: &TermSpot<'_, '_, '_>,
     bounds: (&Expr, &Expr),
     sym: Sym,
-    own: &Spot<'_, '_, '_>,
+    own: &TermSpot<'_, '_, '_>,
     ends: (&Expr, &Expr),
 ) -> Result<NamedTerm, AllocError>
     ensures { IfOk result (λ made. made ≡ repeat_named spot.now bounds.entry sym own.now ends.entry) }
@@ -251,7 +262,7 @@ fn named_repeat(
 /// A term with its names resolved.
 pub fn named_term(
     alloc: Global,
-    spot: &Spot<'_, '_, '_>,
+    spot: &TermSpot<'_, '_, '_>,
     term: &Term,
 ) -> Result<NamedTerm, AllocError>
     requires { spot.now.inside ≡ None }

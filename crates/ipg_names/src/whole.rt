@@ -13,12 +13,12 @@ use std::marker::Model;
 ///
 /// But for the order of terms it keeps what a good core grammar keeps.
 #[derive(Drop)]
-pub struct Named {
+pub struct NamedGrammar {
     pub rules: List<NamedRule>,
     pub names: List<Name>,
 }
 
-impl Model for Named {
+impl Model for NamedGrammar {
     ghost use Rattle.ipg_core.specs.Good.{WellFormed};
     ghost use Rattle.ipg_core.specs.contracts.grammar.CoreExpr as e;
     ghost use Rattle.ipg_names.specs.Resolved.{Resolved};
@@ -34,7 +34,7 @@ impl Model for Named {
     ghost invariant = { λ n. WellFormed (bare (record { rules = n.rules; names = n.names })) };
 }
 
-impl Named {
+impl NamedGrammar {
     /// The rules, in the order of their heads in the text.
     pub fn rules(&self) -> &[NamedRule]
         ensures rules { result.now ≡ self.now.rules }

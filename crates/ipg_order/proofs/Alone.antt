@@ -1,36 +1,21 @@
 -- A grammar and the same without orders are well-formed together, and have the same providers.
 use Rattle.std.proofs.Common.{◌≡◌, ℕ, ◌^◌, ◌<◌, ◌≤◌, refl, sym, ap, ◌∙◌, subst, arith, List, [], ◌∷◌, Option, Some, None, length, inl, inr, ◌⊎◌}
 use Rattle.std.specs.Prelude.{slice_get, map, option_map, sum_by, Contains}
-use Rattle.std.specs.List.{AllByRecursion}
 use Rattle.std.proofs.lemmas.List.{length-map}
 use Rattle.std.proofs.lemmas.List.Sums.{sum_by-cons}
 use Rattle.std.proofs.lemmas.Option.{slice_get-map}
-use Rattle.ipg_core.specs.declared.grammar.Sym.{Sym}
-use Rattle.ipg_core.specs.declared.grammar.Sym.TheVariants.{Text, Prim, Rule}
+use Rattle.ipg_core.specs.declared.grammar.Sym.TheVariants.{Prim}
 use Rattle.ipg_core.specs.declared.grammar.CoreTerm.{CoreTerm}
-use Rattle.ipg_core.specs.declared.grammar.CoreTerm.TheVariants.{Slot, Set, Test, Repeat, Many, Pick}
 use Rattle.ipg_core.specs.declared.grammar.CoreAlt.{CoreAlt}
 use Rattle.ipg_core.specs.declared.grammar.CoreRule.{CoreRule}
 use Rattle.ipg_core.specs.Grammar.{Grammar, rule_at, holder_of}
-use Rattle.ipg_core.specs.Mention.{Mention, SeenOf, ItemOf, AfterOf, OwnOf, OuterOf, FieldOf, LoopOf, term_mentions, EachSym}
 use Rattle.ipg_core.specs.Order.{TermOf, Reads, itself, through, Passes, Names, Provides}
-use Rattle.ipg_core.specs.Good.{AltAt, IsSym, SetsSome, HolderSets, IsGoodMention, IsGoodShape, IsCallable, MayCall, GoodAlt, IsGlobalAlt, WellFormed}
+use Rattle.ipg_core.specs.Good.{AltAt, SetsSome, HolderSets, GoodAlt, IsGlobalAlt, WellFormed}
 use Rattle.ipg_core.specs.Good.{slots_of, slots_in}
 use Rattle.ipg_order.specs.Answer.{alt_alone, rule_alone, without_orders}
 use Rattle.ipg_order.proofs.Members.{in_map, to_map}
 use Rattle.ipg_order.proofs.Telling.{written}
-
-pub all_more : {X : Type 0} (P Q : X → Type 0) (xs : List X) → ((x : X) → P x → Q x) → AllByRecursion P xs → AllByRecursion Q xs
-all_more P Q [] f h = tt
-all_more P Q (x ∷ xs) f h = (f x h.0, all_more P Q xs f h.1)
-
-pub each_more : (P Q : Sym → Type 0) (term : CoreTerm) → ((s : Sym) → P s → Q s) → EachSym P term → EachSym Q term
-each_more P Q (Slot slot) f h = f slot.sym h
-each_more P Q (Set attr e) f h = tt
-each_more P Q (Test e) f h = tt
-each_more P Q (Repeat first last item from to) f h = f item h
-each_more P Q (Many item from to) f h = f item h
-each_more P Q (Pick cases other) f h = (all_more (λ c. P c.1.sym) (λ c. Q c.1.sym) cases (λ c p. f c.1.sym p) h.0, f other.sym h.1)
+use Rattle.ipg_order.proofs.Lifted.{good_term}
 
 sum_of_map : {X Y : Type 0} (f : Y → ℕ) (h : X → Y) (k : X → ℕ) → ((x : X) → f (h x) ≡ k x) → (xs : List X) → sum_by f (map h xs) ≡ sum_by k xs
 sum_of_map f h k same [] = refl
@@ -87,44 +72,12 @@ module _ (g : Grammar) where
       let w = of_alone h.0 h.1 holder h.2 in
       (w.rule_there, w.alt_there, w.there, subst (λ (a : CoreAlt). SetsSome a.terms attr) w.same_alt h.3)
 
-  is_sym : (s : Sym) → IsSym alone s → IsSym g s
-  is_sym (Rule r) h = fewer r h
-  is_sym (Text bytes) h = tt
-  is_sym (Prim prim) h = tt
-
-  mention : (holder : Option (ℕ × ℕ)) (terms : List CoreTerm) (u : ℕ) (m : Mention) → IsGoodMention alone holder terms u m → IsGoodMention g holder terms u m
-  mention holder terms u (SeenOf term s) h = (h.0, is_sym s h.1)
-  mention holder terms u (ItemOf term) h = h
-  mention holder terms u (AfterOf term) h = h
-  mention holder terms u (OwnOf attr) h = h
-  mention holder terms u (OuterOf attr) h = holder_sets holder attr h
-  mention holder terms u (FieldOf attr) h = h
-  mention holder terms u LoopOf h = tt
-
-  callable : (at : ℕ × ℕ) (holder : Option (ℕ × ℕ)) (s : Sym) → IsCallable alone at holder s → IsCallable g at holder s
-  callable at holder (Rule r) h = (fewer r h.0, subst (MayCall at holder) (holder_is r) h.1)
-  callable at holder (Text bytes) h = tt
-  callable at holder (Prim prim) h = tt
-
-  shape : (term : CoreTerm) → IsGoodShape alone term → IsGoodShape g term
-  shape (Slot slot) h = h
-  shape (Set attr e) h = h
-  shape (Test e) h = h
-  shape (Repeat first last item from to) h = h
-  shape (Many item from to) h = h
-  shape (Pick cases other) h = h
-
   good_alt : (at : ℕ × ℕ) (holder : Option (ℕ × ℕ)) (alt : CoreAlt) → GoodAlt alone at holder (alt_alone alt) → GoodAlt g at holder alt
   good_alt at holder alt h = record {
     some = h.some;
     limit = h.limit;
     sets_once = h.sets_once;
-    terms = λ u term e. let t = h.terms u term e in record {
-      shape = shape term t.shape;
-      syms = each_more (IsCallable alone at holder) (IsCallable g at holder) term (callable at holder) t.syms;
-      mentions = all_more (IsGoodMention alone holder alt.terms u) (IsGoodMention g holder alt.terms u) (term_mentions term)
-          (mention holder alt.terms u) t.mentions;
-    };
+    terms = λ u term e. good_term alone g fewer holder_is refl holder_sets at holder alt.terms u term (h.terms u term e);
   }
 
   global : (at : ℕ × ℕ) → IsGlobalAlt alone at → IsGlobalAlt g at

@@ -1,22 +1,19 @@
 -- A well-formed grammar is well-formed without orders, and good with orders that its terms have without them.
-use Rattle.std.proofs.Common.{◌≡◌, ℕ, ◌^◌, ◌<◌, ◌≤◌, sym, ap, ◌∙◌, subst, List, [], Option, Some, None, length}
+use Rattle.std.proofs.Common.{◌≡◌, ℕ, ◌^◌, ◌<◌, ◌≤◌, refl, sym, ap, ◌∙◌, subst, [], Option, Some, None, length}
 use Rattle.std.specs.Prelude.{slice_get, option_map}
 use Rattle.std.proofs.lemmas.List.{length-map}
-use Rattle.ipg_core.specs.declared.grammar.Sym.{Sym}
-use Rattle.ipg_core.specs.declared.grammar.Sym.TheVariants.{Text, Prim, Rule}
-use Rattle.ipg_core.specs.declared.grammar.CoreTerm.{CoreTerm}
-use Rattle.ipg_core.specs.declared.grammar.CoreTerm.TheVariants.{Slot, Set, Test, Repeat, Many, Pick}
+use Rattle.ipg_core.specs.declared.grammar.Sym.TheVariants.{Prim}
 use Rattle.ipg_core.specs.declared.grammar.CoreAlt.{CoreAlt}
 use Rattle.ipg_core.specs.declared.grammar.CoreRule.{CoreRule}
 use Rattle.ipg_core.specs.Grammar.{Grammar}
-use Rattle.ipg_core.specs.Mention.{Mention, SeenOf, ItemOf, AfterOf, OwnOf, OuterOf, FieldOf, LoopOf, term_mentions}
 use Rattle.ipg_core.specs.Order.{Provides}
-use Rattle.ipg_core.specs.Good.{AltAt, IsSym, HolderSets, IsGoodMention, IsGoodShape, IsCallable, MayCall, GoodAlt, IsGlobalAlt, WellFormed}
+use Rattle.ipg_core.specs.Good.{AltAt, HolderSets, GoodAlt, IsGlobalAlt, WellFormed}
 use Rattle.ipg_order.specs.Answer.{alt_alone, rule_alone, without_orders}
 use Rattle.ipg_order.specs.Laws.{FormedWithout, GoodAsOrdered}
-use Rattle.ipg_order.proofs.Alone.{all_more, each_more, rule_is, holder_is, to_alone, slots, whole, provides_to, provides_from}
+use Rattle.ipg_order.proofs.Alone.{rule_is, holder_is, to_alone, slots, whole, provides_to, provides_from}
 use Rattle.ipg_order.proofs.Sequences.{order_to}
 use Rattle.ipg_order.proofs.Telling.{written}
+use Rattle.ipg_order.proofs.Lifted.{good_term}
 
 module _ (g : Grammar) where
   abbrev alone : Grammar
@@ -31,44 +28,12 @@ module _ (g : Grammar) where
   holder_sets None attr h = h
   holder_sets (Some holder) attr h = (rule_alone h.0, alt_alone h.1, to_alone g h.0 h.1 holder h.2, h.3)
 
-  is_sym : (s : Sym) → IsSym g s → IsSym alone s
-  is_sym (Rule r) h = more r h
-  is_sym (Text bytes) h = tt
-  is_sym (Prim prim) h = tt
-
-  mention : (holder : Option (ℕ × ℕ)) (terms : List CoreTerm) (u : ℕ) (m : Mention) → IsGoodMention g holder terms u m → IsGoodMention alone holder terms u m
-  mention holder terms u (SeenOf term s) h = (h.0, is_sym s h.1)
-  mention holder terms u (ItemOf term) h = h
-  mention holder terms u (AfterOf term) h = h
-  mention holder terms u (OwnOf attr) h = h
-  mention holder terms u (OuterOf attr) h = holder_sets holder attr h
-  mention holder terms u (FieldOf attr) h = h
-  mention holder terms u LoopOf h = tt
-
-  callable : (at : ℕ × ℕ) (holder : Option (ℕ × ℕ)) (s : Sym) → IsCallable g at holder s → IsCallable alone at holder s
-  callable at holder (Rule r) h = (more r h.0, subst (MayCall at holder) (sym (holder_is g r)) h.1)
-  callable at holder (Text bytes) h = tt
-  callable at holder (Prim prim) h = tt
-
-  shape : (term : CoreTerm) → IsGoodShape g term → IsGoodShape alone term
-  shape (Slot slot) h = h
-  shape (Set attr e) h = h
-  shape (Test e) h = h
-  shape (Repeat first last item from to) h = h
-  shape (Many item from to) h = h
-  shape (Pick cases other) h = h
-
   good_alt : (at : ℕ × ℕ) (holder : Option (ℕ × ℕ)) (alt : CoreAlt) → GoodAlt g at holder alt → GoodAlt alone at holder (alt_alone alt)
   good_alt at holder alt h = record {
     some = h.some;
     limit = h.limit;
     sets_once = h.sets_once;
-    terms = λ u term e. let t = h.terms u term e in record {
-      shape = shape term t.shape;
-      syms = each_more (IsCallable g at holder) (IsCallable alone at holder) term (callable at holder) t.syms;
-      mentions = all_more (IsGoodMention g holder alt.terms u) (IsGoodMention alone holder alt.terms u) (term_mentions term)
-          (mention holder alt.terms u) t.mentions;
-    };
+    terms = λ u term e. good_term g alone more (λ r. sym (holder_is g r)) refl holder_sets at holder alt.terms u term (h.terms u term e);
   }
 
   -- ---- the whole

@@ -1,3 +1,4 @@
+pub mod Called
 pub mod Going
 pub mod Handing
 pub mod Members
@@ -7,6 +8,7 @@ pub mod Bounds
 pub mod Provided
 pub mod Sequences
 pub mod Alternatives
+pub mod Lifted
 pub mod Alone
 pub mod Formed
 pub mod Outcome

@@ -6,6 +6,7 @@ pub mod Laws
 -- what functions inside the crate promise each other
 pub mod Needs
 pub mod Named
+pub mod Callees
 pub mod Closure
 pub mod Locals
 pub mod Reading

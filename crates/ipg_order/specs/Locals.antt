@@ -4,8 +4,6 @@ use Rattle.std.specs.Prelude.{nat_eq, if◌then◌else◌, slice_get}
 use Rattle.std.specs.List.{AllByRecursion}
 use Rattle.ipg_core.specs.declared.grammar.Sym.{Sym}
 use Rattle.ipg_core.specs.declared.grammar.Sym.TheVariants as syms
-use Rattle.ipg_core.specs.declared.grammar.CoreExpr.{CoreExpr}
-use Rattle.ipg_core.specs.declared.grammar.CoreSlot.{CoreSlot}
 use Rattle.ipg_core.specs.declared.grammar.CoreTerm.{CoreTerm}
 use Rattle.ipg_core.specs.declared.grammar.CoreTerm.TheVariants.{Slot, Set, Test, Repeat, Many, Pick}
 use Rattle.ipg_core.specs.Mention.{term_mentions, term_syms}
@@ -83,13 +81,13 @@ abbrev pub is_local : Option CompletedRule → Bool
 is_local None = false
 is_local (Some rule) = is_some rule.holder
 
+abbrev pub hands_to : List CompletedRule → ℕ → ℕ → List Hand
+hands_to rules rule callee = if is_local (slice_get rules callee) then record { caller = rule; callee = callee } ∷ [] else []
+
 abbrev pub sym_hands : List CompletedRule → ℕ → Sym → List Hand
 sym_hands rules rule (syms.Text bytes) = []
 sym_hands rules rule (syms.Prim prim) = []
-sym_hands rules rule (syms.Rule callee) = if is_local (slice_get rules callee) then record { caller = rule; callee = callee } ∷ [] else []
-
-abbrev pub case_syms : CoreExpr × CoreSlot → List Sym
-case_syms c = c.1.sym ∷ []
+sym_hands rules rule (syms.Rule callee) = hands_to rules rule callee
 
 abbrev pub term_hands : List CompletedRule → ℕ → CoreTerm → List Hand
 term_hands rules rule term = flat_map (sym_hands rules rule) (term_syms term)

@@ -46,10 +46,13 @@ abbrev pub row_needs : Marks → ℕ → ℕ → ℕ → List ℕ
 row_needs flags row u zero = []
 row_needs flags row u (suc n) = row_needs flags row u n ++ (if is_marked flags (flag row n) then other u n else [])
 
+abbrev pub callee_needs : Holders → Marks → ℕ × ℕ → ℕ → ℕ → ℕ → List ℕ
+callee_needs holders flags at n u callee = if is_here holders at callee then row_needs flags callee u n else []
+
 abbrev pub sym_needs : Holders → Marks → ℕ × ℕ → ℕ → ℕ → Sym → List ℕ
 sym_needs holders flags at n u (syms.Text bytes) = []
 sym_needs holders flags at n u (syms.Prim prim) = []
-sym_needs holders flags at n u (syms.Rule callee) = if is_here holders at callee then row_needs flags callee u n else []
+sym_needs holders flags at n u (syms.Rule callee) = callee_needs holders flags at n u callee
 
 abbrev pub syms_needs : Holders → Marks → ℕ × ℕ → List CoreTerm → ℕ → CoreTerm → List ℕ
 syms_needs holders flags at terms u term = flat_map (sym_needs holders flags at (length terms) u) (term_syms term)

@@ -2,6 +2,7 @@
 #![tactic(auto)]
 
 mod arranging;
+mod callees;
 mod closure;
 mod fault;
 pub mod laws;

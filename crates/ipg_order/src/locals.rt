@@ -2,12 +2,13 @@
 
 ghost use Rattle.std.specs.Prelude.{◌≡◌, ◌≤◌, ◌<◌, ◌++◌, length, flat_map, slice_get, IfOk, IfSome, OnOk};
 ghost use Rattle.ipg_order.specs.Locals as spec;
-ghost use Rattle.ipg_order.specs.Locals.{IsFew, case_syms};
+ghost use Rattle.ipg_order.specs.Locals.{IsFew};
 
+use crate::callees::callees_in;
 use crate::closure::{Hand, ROW};
 use crate::named::{Named, named_in};
 use ipg_complete::completed::{CompletedAlt, CompletedRule};
-use ipg_core::grammar::{CoreExpr, CoreSlot, CoreTerm, Sym};
+use ipg_core::grammar::CoreTerm;
 use ipg_num::item_at;
 use std::alloc::{AllocError, Global};
 
@@ -150,13 +151,20 @@ pub(crate) fn all_hands(alloc: Global, rules: &[CompletedRule]) -> Result<Vec<Ha
     let mut hands = Vec::new(alloc);
     for (number, rule) in rules.iter().enumerate() {
         if rule.holder.is_some() {
-            add_alts_hands(&mut hands, rules, number as u32, rule.alts.as_slice())?;
+            add_alts_hands(
+                alloc,
+                &mut hands,
+                rules,
+                number as u32,
+                rule.alts.as_slice(),
+            )?;
         }
     }
     Ok(hands)
 }
 
 fn add_alts_hands(
+    alloc: Global,
     hands: &mut Vec<Hand>,
     rules: &[CompletedRule],
     rule: u32,
@@ -165,12 +173,13 @@ fn add_alts_hands(
     ensures { OnOk result (hands.new.items ≡ hands.old.items ++ flat_map (spec.alt_hands rules.now rule) alts.now) }
 {
     for alt in alts {
-        add_terms_hands(hands, rules, rule, alt.terms.as_slice())?;
+        add_terms_hands(alloc, hands, rules, rule, alt.terms.as_slice())?;
     }
     Ok(())
 }
 
 fn add_terms_hands(
+    alloc: Global,
     hands: &mut Vec<Hand>,
     rules: &[CompletedRule],
     rule: u32,
@@ -179,12 +188,13 @@ fn add_terms_hands(
     ensures { OnOk result (hands.new.items ≡ hands.old.items ++ flat_map (spec.term_hands rules.now rule) terms.now) }
 {
     for term in terms {
-        add_term_hands(hands, rules, rule, term)?;
+        add_term_hands(alloc, hands, rules, rule, term)?;
     }
     Ok(())
 }
 
 fn add_term_hands(
+    alloc: Global,
     hands: &mut Vec<Hand>,
     rules: &[CompletedRule],
     rule: u32,
@@ -192,39 +202,20 @@ fn add_term_hands(
 ) -> Result<(), AllocError>
     ensures { OnOk result (hands.new.items ≡ hands.old.items ++ spec.term_hands rules.now rule term.now) }
 {
-    match term {
-        CoreTerm::Slot(slot) => add_hand(hands, rules, rule, &slot.sym),
-        CoreTerm::Set { attr: _, value: _ } => Ok(()),
-        CoreTerm::Test(_) => Ok(()),
-        CoreTerm::Repeat {
-            first: _,
-            last: _,
-            item,
-            from: _,
-            to: _,
-        } => add_hand(hands, rules, rule, item),
-        CoreTerm::Many {
-            item,
-            from: _,
-            to: _,
-        } => add_hand(hands, rules, rule, item),
-        CoreTerm::Pick { cases, other } => {
-            add_cases_hands(hands, rules, rule, cases.as_slice())?;
-            add_hand(hands, rules, rule, &other.sym)
-        }
-    }
+    let callees = callees_in(alloc, term)?;
+    add_hands(hands, rules, rule, callees.as_slice())
 }
 
-fn add_cases_hands(
+fn add_hands(
     hands: &mut Vec<Hand>,
     rules: &[CompletedRule],
     rule: u32,
-    cases: &[(CoreExpr, CoreSlot)],
+    callees: &[u32],
 ) -> Result<(), AllocError>
-    ensures { OnOk result (hands.new.items ≡ hands.old.items ++ flat_map (spec.sym_hands rules.now rule) (flat_map case_syms cases.now)) }
+    ensures { OnOk result (hands.new.items ≡ hands.old.items ++ flat_map (spec.hands_to rules.now rule) callees.now) }
 {
-    for case in cases {
-        add_hand(hands, rules, rule, &case.1.sym)?;
+    for callee in callees {
+        add_hand(hands, rules, rule, *callee)?;
     }
     Ok(())
 }
@@ -233,19 +224,16 @@ fn add_hand(
     hands: &mut Vec<Hand>,
     rules: &[CompletedRule],
     rule: u32,
-    sym: &Sym,
+    callee: u32,
 ) -> Result<(), AllocError>
-    ensures { OnOk result (hands.new.items ≡ hands.old.items ++ spec.sym_hands rules.now rule sym.now) }
+    ensures { OnOk result (hands.new.items ≡ hands.old.items ++ spec.hands_to rules.now rule callee) }
 {
-    let Sym::Rule(callee) = sym else {
-        return Ok(());
-    };
-    if !is_local(rules, *callee) {
+    if !is_local(rules, callee) {
         return Ok(());
     }
     hands.push(Hand {
         caller: rule,
-        callee: *callee,
+        callee,
     })?;
     Ok(())
 }

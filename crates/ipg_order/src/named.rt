@@ -80,16 +80,8 @@ fn add_expr(out: &mut Vec<Named>, e: &CoreExpr) -> Result<(), AllocError>
         CoreExpr::Loop => Ok(()),
         CoreExpr::Own(attr) => add(out, Named::Own(*attr)),
         CoreExpr::Outer(attr) => add(out, Named::Outer(*attr)),
-        CoreExpr::Seen {
-            term,
-            sym: _,
-            field: _,
-        } => add(out, Named::Term(*term)),
-        CoreExpr::Item {
-            term,
-            index,
-            field: _,
-        } => {
+        CoreExpr::Seen { term, .. } => add(out, Named::Term(*term)),
+        CoreExpr::Item { term, index, .. } => {
             add(out, Named::Term(*term))?;
             add_expr(out, index.get())
         }

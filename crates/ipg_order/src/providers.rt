@@ -2,12 +2,12 @@
 
 ghost use Rattle.std.specs.Prelude.{◌≡◌, ◌≤◌, ◌<◌, ◌++◌, length, flat_map, IfOk, OnOk};
 ghost use Rattle.ipg_order.specs.Providers as spec;
-ghost use Rattle.ipg_order.specs.Locals.{case_syms};
 
+use crate::callees::callees_in;
 use crate::closure::ROW;
 use crate::locals::setter;
 use crate::named::{Named, named_in};
-use ipg_core::grammar::{CoreExpr, CoreSlot, CoreTerm, Sym};
+use ipg_core::grammar::CoreTerm;
 use ipg_num::{List, item_at};
 use std::alloc::{AllocError, Global};
 
@@ -61,7 +61,7 @@ fn term_needs(
     let names = named_in(alloc, term)?;
     let mut needs = Vec::new(alloc);
     add_names(&mut needs, of, names.as_slice())?;
-    add_syms(&mut needs, local, of, term)?;
+    add_syms(alloc, &mut needs, local, of, term)?;
     Ok(needs)
 }
 
@@ -101,6 +101,7 @@ fn add(needs: &mut Vec<u32>, number: u32, other: u32) -> Result<(), AllocError>
 }
 
 fn add_syms(
+    alloc: Global,
     needs: &mut Vec<u32>,
     local: Local<'_>,
     of: Of<'_>,
@@ -110,58 +111,41 @@ fn add_syms(
     ensures { OnOk result (needs.new.items ≡ needs.old.items ++ spec.syms_needs local.entry.holders.now local.entry.flags.now of.entry.at
         of.entry.terms.now of.entry.number term.now) }
 {
-    match term {
-        CoreTerm::Slot(slot) => add_sym(needs, local, of, &slot.sym),
-        CoreTerm::Set { attr: _, value: _ } => Ok(()),
-        CoreTerm::Test(_) => Ok(()),
-        CoreTerm::Repeat {
-            first: _,
-            last: _,
-            item,
-            from: _,
-            to: _,
-        } => add_sym(needs, local, of, item),
-        CoreTerm::Many {
-            item,
-            from: _,
-            to: _,
-        } => add_sym(needs, local, of, item),
-        CoreTerm::Pick { cases, other } => {
-            add_cases(needs, local, of, cases.as_slice())?;
-            add_sym(needs, local, of, &other.sym)
-        }
-    }
+    let callees = callees_in(alloc, term)?;
+    add_callees(needs, local, of, callees.as_slice())
 }
 
-fn add_cases(
+fn add_callees(
     needs: &mut Vec<u32>,
     local: Local<'_>,
     of: Of<'_>,
-    cases: &[(CoreExpr, CoreSlot)],
+    callees: &[u32],
 ) -> Result<(), AllocError>
     requires { length of.terms.now ≤ 256 }
-    ensures { OnOk result (needs.new.items ≡ needs.old.items ++ flat_map (spec.sym_needs local.entry.holders.now local.entry.flags.now of.entry.at
-        (length of.entry.terms.now) of.entry.number) (flat_map case_syms cases.now)) }
+    ensures { OnOk result (needs.new.items ≡ needs.old.items ++ flat_map (spec.callee_needs local.entry.holders.now local.entry.flags.now of.entry.at
+        (length of.entry.terms.now) of.entry.number) callees.now) }
 {
-    for case in cases {
-        add_sym(needs, local, of, &case.1.sym)?;
+    for callee in callees {
+        add_callee(needs, local, of, *callee)?;
     }
     Ok(())
 }
 
 /// A call of a local rule of this alternative needs what that rule waits for.
-fn add_sym(needs: &mut Vec<u32>, local: Local<'_>, of: Of<'_>, sym: &Sym) -> Result<(), AllocError>
+fn add_callee(
+    needs: &mut Vec<u32>,
+    local: Local<'_>,
+    of: Of<'_>,
+    callee: u32,
+) -> Result<(), AllocError>
     requires { length of.terms.now ≤ 256 }
-    ensures { OnOk result (needs.new.items ≡ needs.old.items ++ spec.sym_needs local.entry.holders.now local.entry.flags.now of.entry.at
-        (length of.entry.terms.now) of.entry.number sym.now) }
+    ensures { OnOk result (needs.new.items ≡ needs.old.items ++ spec.callee_needs local.entry.holders.now local.entry.flags.now of.entry.at
+        (length of.entry.terms.now) of.entry.number callee) }
 {
-    let Sym::Rule(callee) = sym else {
-        return Ok(());
-    };
-    if !is_here(local.holders, of.at, *callee) {
+    if !is_here(local.holders, of.at, callee) {
         return Ok(());
     }
-    add_row(needs, local.flags, *callee, of.number, of.terms.len())
+    add_row(needs, local.flags, callee, of.number, of.terms.len())
 }
 
 fn is_here(holders: &[Option<(u32, u32)>], at: (u32, u32), rule: u32) -> bool

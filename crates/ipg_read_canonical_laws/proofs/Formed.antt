@@ -11,6 +11,7 @@ use Rattle.ipg_ast.specs.declared.grammar.Rule.{out-Rule, out-roll-Rule}
 use Rattle.ipg_ast.specs.Shape.{Form, stands, IsFilled, IsFormedExpr, IsFormedPlace, IsFormedCase, IsFormedTerm, IsFormedTerms, IsFormedLocalAlt}
 use Rattle.ipg_ast.specs.Shape.{IsFormedLocal, IsFormedAlt, IsFormedRule, IsFormed, rules_in, tool_rules}
 use Rattle.ipg_read_syntax.specs.Classes.{level}
+use Rattle.ipg_read_syntax.specs.Levels.{level_high}
 use Rattle.ipg_read_syntax.specs.Written.{ExprTree, num, eoi, own, part, item, group, neg, isnt, two, choose, PlaceTree, anywhere, long, ends, CaseTree}
 use Rattle.ipg_read_syntax.specs.Written.{TermTree, slot_term, set_term, test_term, repeat_term, many_term, pick_term, LocalTree, AltTree, RuleTree}
 use Rattle.ipg_read_syntax.specs.Written.{spell_expr, spell_case, spell_cases, spell_term, spell_terms, spell_local, spell_alt, spell_rule, Stands}
@@ -18,7 +19,6 @@ use Rattle.ipg_read_syntax.specs.Written.{prefix_level, Each, SomeEach, PlaceFit
 use Rattle.ipg_read_syntax.specs.Limits.{Size, past, depth, is_over, first_over, expr_size, place_sizes, slot_sizes, case_sizes, cases_sizes, term_sizes}
 use Rattle.ipg_read_syntax.specs.Limits.{terms_sizes, local_alts_sizes, locals_sizes, alt_sizes, alts_sizes, locals_in, rules_sizes, sizes}
 use Rattle.ipg_read_canonical_laws.specs.Laws.{ReadsFormed}
-use Rattle.ipg_read_syntax.proofs.Frames.{level_high}
 use Rattle.ipg_read_canonical_laws.proofs.Forms.{Within, form_tree, form_made, depth_form, rule_counted}
 use Rattle.ipg_read_syntax.specs.Grammars.{made_expr, made_place, made_case, made_term}
 use Rattle.ipg_read_syntax.specs.Grammars.{made_local_alt, made_local, made_alt, made_rule, grammar_of}

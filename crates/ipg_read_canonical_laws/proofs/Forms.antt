@@ -1,6 +1,6 @@
 -- The trees of well formed grammars fit, and pass no limit.
 use Rattle.std.proofs.lemmas.List.{length-map}
-use Rattle.std.proofs.Common.{◌≡◌, ℕ, suc, ◌+◌, ◌≤◌, ◌<◌, max, true, false, cond, ◌&&◌, nat_le, List, [], ◌∷◌, ◌++◌, length, Some, None, refl, ap, map}
+use Rattle.std.proofs.Common.{◌≡◌, ℕ, ◌+◌, ◌≤◌, ◌<◌, max, true, false, cond, ◌&&◌, nat_le, List, [], ◌∷◌, ◌++◌, length, Some, None, refl, ap, map}
 use Rattle.std.proofs.Common.{ap₂, ◌∙◌, sym, subst, arith, sum_by}
 use Rattle.std.proofs.lemmas.Bool.{leb-true, le-leb, le-ltb, and_parts}
 use Rattle.std.specs.List.{AllByRecursion}
@@ -10,8 +10,7 @@ use Rattle.ipg_num.specs.declared.op.Op2.TheVariants.{Add, Sub, Mul, Div, Mod, S
 use Rattle.ipg_ast.specs.declared.grammar.Expr.{Expr}
 use Rattle.ipg_ast.specs.declared.grammar.Expr.TheOpen.{Expr-F}
 use Rattle.ipg_ast.specs.declared.grammar.Expr.TheFolds.{fold-roll-Expr}
-use Rattle.ipg_ast.specs.declared.grammar.Expr.TheVariants.{rolls-Num, rolls-Eoi, rolls-Id, rolls-Part, rolls-Item, rolls-Group, rolls-Neg, rolls-Not}
-use Rattle.ipg_ast.specs.declared.grammar.Expr.TheVariants.{rolls-Two, rolls-Both, rolls-Either, rolls-Cond}
+use Rattle.ipg_ast.specs.declared.grammar.Expr.TheVariants.{rolls-Item, rolls-Group, rolls-Neg, rolls-Not}
 use Rattle.ipg_ast.specs.declared.grammar.Alt.{out-roll-Alt}
 use Rattle.ipg_ast.specs.declared.grammar.Rule.{out-Rule, out-roll-Rule}
 use Rattle.ipg_ast.specs.Shape.{Form, alone, stands, prefixed, infixed, form_step, form_of, level_of, IsFilled, IsFormedExpr, IsFormedPlace}
@@ -27,6 +26,7 @@ use Rattle.ipg_read_syntax.specs.Limits.{Size, past, depth, is_over, first_over,
 use Rattle.ipg_read_syntax.specs.Limits.{terms_sizes, local_alts_sizes, locals_sizes, alt_sizes, alts_sizes, locals_in, rules_sizes, sizes}
 use Rattle.ipg_read_syntax.specs.Grammars.{infix_expr, made_expr, made_place, made_case, made_term}
 use Rattle.ipg_read_syntax.specs.Grammars.{made_local_alt, made_local, made_alt, made_rule, grammar_of}
+use Rattle.ipg_ast.specs.Folds.{at_both, at_cond, at_either, at_eoi, at_id, at_num, at_part, at_two}
 
 -- ---- expressions
 
@@ -65,16 +65,16 @@ same_level Gt = refl
 same_level Ge = refl
 
 infix_form : (i : Infix) (x y : Expr) → form_of (infix_expr i x y) ≡ infixed (level i) (form_of x) (form_of y)
-infix_form either x y = ap form_of (sym (rolls-Either x y)) ∙ fold-roll-Expr Form form_step (Expr-F.Either x y)
-infix_form both x y = ap form_of (sym (rolls-Both x y)) ∙ fold-roll-Expr Form form_step (Expr-F.Both x y)
+infix_form either x y = at_either form_step x y
+infix_form both x y = at_both form_step x y
 infix_form (op o) x y =
-    ap form_of (sym (rolls-Two o x y)) ∙ fold-roll-Expr Form form_step (Expr-F.Two o x y) ∙ ap (λ l. infixed l (form_of x) (form_of y)) (same_level o)
+    at_two form_step o x y ∙ ap (λ l. infixed l (form_of x) (form_of y)) (same_level o)
 
 pub form_made : (e : ExprTree) → form_of (made_expr e) ≡ form_tree e
-form_made (num z) = ap form_of (sym (rolls-Num z)) ∙ fold-roll-Expr Form form_step (Expr-F.Num z)
-form_made eoi = ap form_of (sym rolls-Eoi) ∙ fold-roll-Expr Form form_step Expr-F.Eoi
-form_made (own i) = ap form_of (sym (rolls-Id i)) ∙ fold-roll-Expr Form form_step (Expr-F.Id i)
-form_made (part i f) = ap form_of (sym (rolls-Part i f)) ∙ fold-roll-Expr Form form_step (Expr-F.Part i f)
+form_made (num z) = at_num form_step z
+form_made eoi = at_eoi form_step
+form_made (own i) = at_id form_step i
+form_made (part i f) = at_part form_step i f
 form_made (item i e f) =
     ap form_of (sym (rolls-Item i (made_expr e) f)) ∙ fold-roll-Expr Form form_step (Expr-F.Item i (made_expr e) f)
     ∙ ap (λ x. alone (x.depth + 1) x.fits) (form_made e)
@@ -88,7 +88,7 @@ form_made (choose c at a b) =
     let w : Expr = made_expr c in
     let x : Expr = made_expr a in
     let y : Expr = made_expr b in
-    ap form_of (sym (rolls-Cond w x y)) ∙ fold-roll-Expr Form form_step (Expr-F.Cond w x y)
+    at_cond form_step w x y
     ∙ ap (λ f. record {
       level = 0;
       depth = max f.depth (max (form_of x).depth (form_of y).depth) + 1;

@@ -1,7 +1,6 @@
 -- The class of a token gives its kind back; and no token of a tree is a stray one.
-use Rattle.std.proofs.Common.{◌≡◌, ℕ, List, [], ◌∷◌, ◌++◌, Result, Ok, Err, Bool, true, false, cond, refl, ap, ap₂, ◌∙◌, sym, subst, codes, ◌==◌, true≢false}
+use Rattle.std.proofs.Common.{◌≡◌, ℕ, List, [], ◌∷◌, ◌++◌, Result, Ok, Err, Bool, true, false, cond, map, refl, ap, ap₂, ◌∙◌, sym, subst, ◌==◌, true≢false}
 use Rattle.std.proofs.lemmas.Bool.{eqb-true, and_parts}
-use Rattle.ipg_num.specs.declared.op.Op2.TheVariants.{Add, Sub, Mul, Div, Mod, Shl, Shr, BitAnd, BitOr, BitXor, Eq, Ne, Lt, Le, Gt, Ge}
 use Rattle.ipg_ast.specs.declared.grammar.Span.{Span}
 use Rattle.ipg_ast.specs.declared.grammar.What.{What}
 use Rattle.ipg_ast.specs.declared.grammar.What.TheVariants.{Text as TextWhat, Call}
@@ -12,9 +11,9 @@ use Rattle.ipg_ast.specs.declared.token.TokenKind.TheVariants.{Name, Word, Numbe
 use Rattle.ipg_ast.specs.Spelling.{grammar_tokens}
 use Rattle.ipg_read_tokens.specs.Lexical.{is_same}
 use Rattle.ipg_read_tokens.specs.declared.token.Token.{Token}
-use Rattle.ipg_read_syntax.specs.Classes.{either, both, op, Tok, name, sign, bang, question, colon, dot, comma, equals, arrow, semicolon, left_paren}
-use Rattle.ipg_read_syntax.specs.Classes.{right_paren, left_bracket, right_bracket, left_brace, right_brace, for_word, to_word, do_word, switch_word}
-use Rattle.ipg_read_syntax.specs.Classes.{case_word, else_word, where_word, start_word, end_word, eoi_word, many_word, stray, slash, word_class}
+use Rattle.ipg_read_syntax.specs.Classes.{Tok, name, sign, question, colon, dot, comma, arrow, semicolon}
+use Rattle.ipg_read_syntax.specs.Classes.{right_paren, right_bracket, right_brace, to_word, do_word}
+use Rattle.ipg_read_syntax.specs.Classes.{else_word, stray, slash, word_class}
 use Rattle.ipg_read_syntax.specs.Classes.{single_class, pair_class, kind_class, class_of, classes}
 use Rattle.ipg_read_syntax.specs.Written.{Toks, ExprTree, num, eoi, own, part, item, group, neg, isnt, two, choose, PlaceTree, anywhere, long, ends}
 use Rattle.ipg_read_syntax.specs.Written.{SlotTree, CaseTree, TermTree, slot_term, set_term, test_term, repeat_term, many_term, pick_term, LocalTree}
@@ -22,6 +21,7 @@ use Rattle.ipg_read_syntax.specs.Written.{AltTree, RuleTree, field_tok, what_tok
 use Rattle.ipg_read_syntax.specs.Written.{spell_terms, spell_local_alts, spell_local, spell_locals, spell_where, spell_alt, spell_alts, spell_rule, spell}
 use Rattle.ipg_read_canonical_laws.specs.Laws.{kinds, KeepsTokens}
 use Rattle.ipg_read_canonical_laws.proofs.Spelt.{kind_of, kinds_of, spell_kinds}
+use Rattle.ipg_read_canonical_laws.proofs.Classing.{first_or, others, first_of, words, singles, pairs}
 
 same_bytes : (a b : List ℕ) → is_same a b ≡ true → b ≡ a
 same_bytes [] [] same = refl
@@ -36,274 +36,29 @@ abbrev BackTo : TokenKind → Tok → Type 0
 BackTo k stray = Unit {0}
 BackTo k t = kind_of t ≡ k
 
-chosen : (k : TokenKind) (b : Bool) (x y : Tok) → (b ≡ true → BackTo k x) → BackTo k y → BackTo k (cond b x y)
-chosen k true x y met unmet = met refl
-chosen k false x y met unmet = unmet
+by_kind : (k : TokenKind) (t : Tok) → kind_of t ≡ k → BackTo k t
+by_kind k stray is = tt
+by_kind k t is = is
+
+-- where only `x` passes, and each token is of the kind of what stands beside it, it is of the kind of `x`
+first_back : {A : Type 0} (kind : A → TokenKind) (test : A → Bool) (x : A) → ((y : A) → test y ≡ true → y ≡ x) → (ps : List (A × Tok))
+    → map (λ p. kind_of p.1) ps ≡ map (λ p. kind p.0) ps
+    → BackTo (kind x) (first_of test ps)
+first_back kind test x only [] same = tt
+first_back kind test x only (p ∷ ps) same = go (test p.0) refl (first_back kind test x only ps (ap others same))
+  where
+    go : (b : Bool) → test p.0 ≡ b → BackTo (kind x) (first_of test ps) → BackTo (kind x) (cond b p.1 (first_of test ps))
+    go true is rest = by_kind (kind x) p.1 (ap (λ ks. first_or ks (kind p.0)) same ∙ ap kind (only p.0 is))
+    go false is rest = rest
 
 word_back : (w : List ℕ) (at : Span) → BackTo (Word w) (word_class w at)
-word_back w at = chosen (Word w) (is_same w (codes "for")) for_word
-    (cond (is_same w (codes "to")) to_word
-    (cond (is_same w (codes "do")) do_word
-    (cond (is_same w (codes "switch")) (switch_word at)
-    (cond (is_same w (codes "case")) case_word
-    (cond (is_same w (codes "else")) else_word
-    (cond (is_same w (codes "where")) where_word
-    (cond (is_same w (codes "start")) start_word
-    (cond (is_same w (codes "end")) end_word (cond (is_same w (codes "EOI")) eoi_word (cond (is_same w (codes "many")) (many_word at) stray))))))))))
-    (λ e. ap Word (same_bytes w (codes "for") e))
-    (chosen (Word w) (is_same w (codes "to")) to_word
-    (cond (is_same w (codes "do")) do_word
-    (cond (is_same w (codes "switch")) (switch_word at)
-    (cond (is_same w (codes "case")) case_word
-    (cond (is_same w (codes "else")) else_word
-    (cond (is_same w (codes "where")) where_word
-    (cond (is_same w (codes "start")) start_word
-    (cond (is_same w (codes "end")) end_word (cond (is_same w (codes "EOI")) eoi_word (cond (is_same w (codes "many")) (many_word at) stray)))))))))
-    (λ e. ap Word (same_bytes w (codes "to") e))
-    (chosen (Word w) (is_same w (codes "do")) do_word
-    (cond (is_same w (codes "switch")) (switch_word at)
-    (cond (is_same w (codes "case")) case_word
-    (cond (is_same w (codes "else")) else_word
-    (cond (is_same w (codes "where")) where_word
-    (cond (is_same w (codes "start")) start_word
-    (cond (is_same w (codes "end")) end_word (cond (is_same w (codes "EOI")) eoi_word (cond (is_same w (codes "many")) (many_word at) stray))))))))
-    (λ e. ap Word (same_bytes w (codes "do") e))
-    (chosen (Word w) (is_same w (codes "switch")) (switch_word at)
-    (cond (is_same w (codes "case")) case_word
-    (cond (is_same w (codes "else")) else_word
-    (cond (is_same w (codes "where")) where_word
-    (cond (is_same w (codes "start")) start_word
-    (cond (is_same w (codes "end")) end_word (cond (is_same w (codes "EOI")) eoi_word (cond (is_same w (codes "many")) (many_word at) stray)))))))
-    (λ e. ap Word (same_bytes w (codes "switch") e))
-    (chosen (Word w) (is_same w (codes "case")) case_word
-    (cond (is_same w (codes "else")) else_word
-    (cond (is_same w (codes "where")) where_word
-    (cond (is_same w (codes "start")) start_word
-    (cond (is_same w (codes "end")) end_word (cond (is_same w (codes "EOI")) eoi_word (cond (is_same w (codes "many")) (many_word at) stray))))))
-    (λ e. ap Word (same_bytes w (codes "case") e))
-    (chosen (Word w) (is_same w (codes "else")) else_word
-    (cond (is_same w (codes "where")) where_word
-    (cond (is_same w (codes "start")) start_word
-    (cond (is_same w (codes "end")) end_word (cond (is_same w (codes "EOI")) eoi_word (cond (is_same w (codes "many")) (many_word at) stray)))))
-    (λ e. ap Word (same_bytes w (codes "else") e))
-    (chosen (Word w) (is_same w (codes "where")) where_word
-    (cond (is_same w (codes "start")) start_word
-    (cond (is_same w (codes "end")) end_word (cond (is_same w (codes "EOI")) eoi_word (cond (is_same w (codes "many")) (many_word at) stray))))
-    (λ e. ap Word (same_bytes w (codes "where") e))
-    (chosen (Word w) (is_same w (codes "start")) start_word
-    (cond (is_same w (codes "end")) end_word (cond (is_same w (codes "EOI")) eoi_word (cond (is_same w (codes "many")) (many_word at) stray)))
-    (λ e. ap Word (same_bytes w (codes "start") e))
-    (chosen (Word w) (is_same w (codes "end")) end_word
-    (cond (is_same w (codes "EOI")) eoi_word (cond (is_same w (codes "many")) (many_word at) stray)) (λ e. ap Word (same_bytes w (codes "end") e))
-    (chosen (Word w) (is_same w (codes "EOI")) eoi_word (cond (is_same w (codes "many")) (many_word at) stray)
-    (λ e. ap Word (same_bytes w (codes "EOI") e))
-    (chosen (Word w) (is_same w (codes "many")) (many_word at) stray (λ e. ap Word (same_bytes w (codes "many") e)) tt))))))))))
+word_back w at = first_back Word (is_same w) w (same_bytes w) (words at) refl
 
 single_back : (b : ℕ) (at : Span) → BackTo (Symbol (b ∷ [])) (single_class b at)
-single_back b at = chosen (Symbol (b ∷ [])) (b == 37) (sign (op Mod))
-    (cond (b == 38) (sign (op BitAnd))
-    (cond (b == 40) left_paren (cond (b == 41) right_paren
-    (cond (b == 42) (sign (op Mul))
-    (cond (b == 43) (sign (op Add))
-    (cond (b == 44) comma (cond (b == 45) (sign (op Sub))
-    (cond (b == 46) dot (cond (b == 47) (sign (op Div))
-    (cond (b == 58) colon (cond (b == 59) semicolon
-    (cond (b == 60) (sign (op Lt)) (cond (b == 61) equals
-    (cond (b == 62) (sign (op Gt)) (cond (b == 63) (question at)
-    (cond (b == 33) bang (cond (b == 91) left_bracket
-    (cond (b == 93) right_bracket (cond (b == 94) (sign (op BitXor))
-    (cond (b == 123) left_brace (cond (b == 124) (sign (op BitOr)) (cond (b == 125) right_brace stray))))))))))))))))))))))
-    (λ e. ap (λ x. Symbol (x ∷ [])) (sym (eqb-true b 37 e)))
-    (chosen (Symbol (b ∷ [])) (b == 38) (sign (op BitAnd))
-    (cond (b == 40) left_paren (cond (b == 41) right_paren
-    (cond (b == 42) (sign (op Mul))
-    (cond (b == 43) (sign (op Add))
-    (cond (b == 44) comma (cond (b == 45) (sign (op Sub))
-    (cond (b == 46) dot (cond (b == 47) (sign (op Div))
-    (cond (b == 58) colon (cond (b == 59) semicolon
-    (cond (b == 60) (sign (op Lt)) (cond (b == 61) equals
-    (cond (b == 62) (sign (op Gt)) (cond (b == 63) (question at)
-    (cond (b == 33) bang (cond (b == 91) left_bracket
-    (cond (b == 93) right_bracket (cond (b == 94) (sign (op BitXor))
-    (cond (b == 123) left_brace (cond (b == 124) (sign (op BitOr)) (cond (b == 125) right_brace stray)))))))))))))))))))))
-    (λ e. ap (λ x. Symbol (x ∷ [])) (sym (eqb-true b 38 e)))
-    (chosen (Symbol (b ∷ [])) (b == 40) left_paren
-    (cond (b == 41) right_paren (cond (b == 42) (sign (op Mul))
-    (cond (b == 43) (sign (op Add))
-    (cond (b == 44) comma (cond (b == 45) (sign (op Sub))
-    (cond (b == 46) dot (cond (b == 47) (sign (op Div))
-    (cond (b == 58) colon (cond (b == 59) semicolon
-    (cond (b == 60) (sign (op Lt)) (cond (b == 61) equals
-    (cond (b == 62) (sign (op Gt)) (cond (b == 63) (question at)
-    (cond (b == 33) bang (cond (b == 91) left_bracket
-    (cond (b == 93) right_bracket (cond (b == 94) (sign (op BitXor))
-    (cond (b == 123) left_brace (cond (b == 124) (sign (op BitOr)) (cond (b == 125) right_brace stray))))))))))))))))))))
-    (λ e. ap (λ x. Symbol (x ∷ [])) (sym (eqb-true b 40 e)))
-    (chosen (Symbol (b ∷ [])) (b == 41) right_paren
-    (cond (b == 42) (sign (op Mul))
-    (cond (b == 43) (sign (op Add))
-    (cond (b == 44) comma (cond (b == 45) (sign (op Sub))
-    (cond (b == 46) dot (cond (b == 47) (sign (op Div))
-    (cond (b == 58) colon (cond (b == 59) semicolon
-    (cond (b == 60) (sign (op Lt)) (cond (b == 61) equals
-    (cond (b == 62) (sign (op Gt)) (cond (b == 63) (question at)
-    (cond (b == 33) bang (cond (b == 91) left_bracket
-    (cond (b == 93) right_bracket (cond (b == 94) (sign (op BitXor))
-    (cond (b == 123) left_brace (cond (b == 124) (sign (op BitOr)) (cond (b == 125) right_brace stray)))))))))))))))))))
-    (λ e. ap (λ x. Symbol (x ∷ [])) (sym (eqb-true b 41 e)))
-    (chosen (Symbol (b ∷ [])) (b == 42) (sign (op Mul))
-    (cond (b == 43) (sign (op Add))
-    (cond (b == 44) comma (cond (b == 45) (sign (op Sub))
-    (cond (b == 46) dot (cond (b == 47) (sign (op Div))
-    (cond (b == 58) colon (cond (b == 59) semicolon
-    (cond (b == 60) (sign (op Lt)) (cond (b == 61) equals
-    (cond (b == 62) (sign (op Gt)) (cond (b == 63) (question at)
-    (cond (b == 33) bang (cond (b == 91) left_bracket
-    (cond (b == 93) right_bracket (cond (b == 94) (sign (op BitXor))
-    (cond (b == 123) left_brace (cond (b == 124) (sign (op BitOr)) (cond (b == 125) right_brace stray))))))))))))))))))
-    (λ e. ap (λ x. Symbol (x ∷ [])) (sym (eqb-true b 42 e)))
-    (chosen (Symbol (b ∷ [])) (b == 43) (sign (op Add))
-    (cond (b == 44) comma (cond (b == 45) (sign (op Sub))
-    (cond (b == 46) dot (cond (b == 47) (sign (op Div))
-    (cond (b == 58) colon (cond (b == 59) semicolon
-    (cond (b == 60) (sign (op Lt)) (cond (b == 61) equals
-    (cond (b == 62) (sign (op Gt)) (cond (b == 63) (question at)
-    (cond (b == 33) bang (cond (b == 91) left_bracket
-    (cond (b == 93) right_bracket (cond (b == 94) (sign (op BitXor))
-    (cond (b == 123) left_brace (cond (b == 124) (sign (op BitOr)) (cond (b == 125) right_brace stray)))))))))))))))))
-    (λ e. ap (λ x. Symbol (x ∷ [])) (sym (eqb-true b 43 e)))
-    (chosen (Symbol (b ∷ [])) (b == 44) comma
-    (cond (b == 45) (sign (op Sub))
-    (cond (b == 46) dot (cond (b == 47) (sign (op Div))
-    (cond (b == 58) colon (cond (b == 59) semicolon
-    (cond (b == 60) (sign (op Lt)) (cond (b == 61) equals
-    (cond (b == 62) (sign (op Gt)) (cond (b == 63) (question at)
-    (cond (b == 33) bang (cond (b == 91) left_bracket
-    (cond (b == 93) right_bracket (cond (b == 94) (sign (op BitXor))
-    (cond (b == 123) left_brace (cond (b == 124) (sign (op BitOr)) (cond (b == 125) right_brace stray))))))))))))))))
-    (λ e. ap (λ x. Symbol (x ∷ [])) (sym (eqb-true b 44 e)))
-    (chosen (Symbol (b ∷ [])) (b == 45) (sign (op Sub))
-    (cond (b == 46) dot (cond (b == 47) (sign (op Div))
-    (cond (b == 58) colon (cond (b == 59) semicolon
-    (cond (b == 60) (sign (op Lt)) (cond (b == 61) equals
-    (cond (b == 62) (sign (op Gt)) (cond (b == 63) (question at)
-    (cond (b == 33) bang (cond (b == 91) left_bracket
-    (cond (b == 93) right_bracket (cond (b == 94) (sign (op BitXor))
-    (cond (b == 123) left_brace (cond (b == 124) (sign (op BitOr)) (cond (b == 125) right_brace stray)))))))))))))))
-    (λ e. ap (λ x. Symbol (x ∷ [])) (sym (eqb-true b 45 e)))
-    (chosen (Symbol (b ∷ [])) (b == 46) dot
-    (cond (b == 47) (sign (op Div))
-    (cond (b == 58) colon (cond (b == 59) semicolon
-    (cond (b == 60) (sign (op Lt)) (cond (b == 61) equals
-    (cond (b == 62) (sign (op Gt)) (cond (b == 63) (question at)
-    (cond (b == 33) bang (cond (b == 91) left_bracket
-    (cond (b == 93) right_bracket (cond (b == 94) (sign (op BitXor))
-    (cond (b == 123) left_brace (cond (b == 124) (sign (op BitOr)) (cond (b == 125) right_brace stray))))))))))))))
-    (λ e. ap (λ x. Symbol (x ∷ [])) (sym (eqb-true b 46 e)))
-    (chosen (Symbol (b ∷ [])) (b == 47) (sign (op Div))
-    (cond (b == 58) colon (cond (b == 59) semicolon
-    (cond (b == 60) (sign (op Lt)) (cond (b == 61) equals
-    (cond (b == 62) (sign (op Gt)) (cond (b == 63) (question at)
-    (cond (b == 33) bang (cond (b == 91) left_bracket
-    (cond (b == 93) right_bracket (cond (b == 94) (sign (op BitXor))
-    (cond (b == 123) left_brace (cond (b == 124) (sign (op BitOr)) (cond (b == 125) right_brace stray)))))))))))))
-    (λ e. ap (λ x. Symbol (x ∷ [])) (sym (eqb-true b 47 e)))
-    (chosen (Symbol (b ∷ [])) (b == 58) colon
-    (cond (b == 59) semicolon (cond (b == 60) (sign (op Lt))
-    (cond (b == 61) equals (cond (b == 62) (sign (op Gt))
-    (cond (b == 63) (question at) (cond (b == 33) bang
-    (cond (b == 91) left_bracket (cond (b == 93) right_bracket
-    (cond (b == 94) (sign (op BitXor)) (cond (b == 123) left_brace (cond (b == 124) (sign (op BitOr)) (cond (b == 125) right_brace stray))))))))))))
-    (λ e. ap (λ x. Symbol (x ∷ [])) (sym (eqb-true b 58 e)))
-    (chosen (Symbol (b ∷ [])) (b == 59) semicolon
-    (cond (b == 60) (sign (op Lt)) (cond (b == 61) equals
-    (cond (b == 62) (sign (op Gt)) (cond (b == 63) (question at)
-    (cond (b == 33) bang (cond (b == 91) left_bracket
-    (cond (b == 93) right_bracket (cond (b == 94) (sign (op BitXor))
-    (cond (b == 123) left_brace (cond (b == 124) (sign (op BitOr)) (cond (b == 125) right_brace stray)))))))))))
-    (λ e. ap (λ x. Symbol (x ∷ [])) (sym (eqb-true b 59 e)))
-    (chosen (Symbol (b ∷ [])) (b == 60) (sign (op Lt))
-    (cond (b == 61) equals (cond (b == 62) (sign (op Gt))
-    (cond (b == 63) (question at) (cond (b == 33) bang
-    (cond (b == 91) left_bracket (cond (b == 93) right_bracket
-    (cond (b == 94) (sign (op BitXor)) (cond (b == 123) left_brace (cond (b == 124) (sign (op BitOr)) (cond (b == 125) right_brace stray))))))))))
-    (λ e. ap (λ x. Symbol (x ∷ [])) (sym (eqb-true b 60 e)))
-    (chosen (Symbol (b ∷ [])) (b == 61) equals
-    (cond (b == 62) (sign (op Gt)) (cond (b == 63) (question at)
-    (cond (b == 33) bang (cond (b == 91) left_bracket
-    (cond (b == 93) right_bracket (cond (b == 94) (sign (op BitXor))
-    (cond (b == 123) left_brace (cond (b == 124) (sign (op BitOr)) (cond (b == 125) right_brace stray)))))))))
-    (λ e. ap (λ x. Symbol (x ∷ [])) (sym (eqb-true b 61 e)))
-    (chosen (Symbol (b ∷ [])) (b == 62) (sign (op Gt))
-    (cond (b == 63) (question at) (cond (b == 33) bang
-    (cond (b == 91) left_bracket (cond (b == 93) right_bracket
-    (cond (b == 94) (sign (op BitXor)) (cond (b == 123) left_brace (cond (b == 124) (sign (op BitOr)) (cond (b == 125) right_brace stray))))))))
-    (λ e. ap (λ x. Symbol (x ∷ [])) (sym (eqb-true b 62 e)))
-    (chosen (Symbol (b ∷ [])) (b == 63) (question at)
-    (cond (b == 33) bang (cond (b == 91) left_bracket
-    (cond (b == 93) right_bracket (cond (b == 94) (sign (op BitXor))
-    (cond (b == 123) left_brace (cond (b == 124) (sign (op BitOr)) (cond (b == 125) right_brace stray)))))))
-    (λ e. ap (λ x. Symbol (x ∷ [])) (sym (eqb-true b 63 e)))
-    (chosen (Symbol (b ∷ [])) (b == 33) bang
-    (cond (b == 91) left_bracket (cond (b == 93) right_bracket
-    (cond (b == 94) (sign (op BitXor)) (cond (b == 123) left_brace (cond (b == 124) (sign (op BitOr)) (cond (b == 125) right_brace stray))))))
-    (λ e. ap (λ x. Symbol (x ∷ [])) (sym (eqb-true b 33 e)))
-    (chosen (Symbol (b ∷ [])) (b == 91) left_bracket
-    (cond (b == 93) right_bracket (cond (b == 94) (sign (op BitXor))
-    (cond (b == 123) left_brace (cond (b == 124) (sign (op BitOr)) (cond (b == 125) right_brace stray)))))
-    (λ e. ap (λ x. Symbol (x ∷ [])) (sym (eqb-true b 91 e)))
-    (chosen (Symbol (b ∷ [])) (b == 93) right_bracket
-    (cond (b == 94) (sign (op BitXor)) (cond (b == 123) left_brace (cond (b == 124) (sign (op BitOr)) (cond (b == 125) right_brace stray))))
-    (λ e. ap (λ x. Symbol (x ∷ [])) (sym (eqb-true b 93 e)))
-    (chosen (Symbol (b ∷ [])) (b == 94) (sign (op BitXor))
-    (cond (b == 123) left_brace (cond (b == 124) (sign (op BitOr)) (cond (b == 125) right_brace stray)))
-    (λ e. ap (λ x. Symbol (x ∷ [])) (sym (eqb-true b 94 e)))
-    (chosen (Symbol (b ∷ [])) (b == 123) left_brace (cond (b == 124) (sign (op BitOr)) (cond (b == 125) right_brace stray))
-    (λ e. ap (λ x. Symbol (x ∷ [])) (sym (eqb-true b 123 e)))
-    (chosen (Symbol (b ∷ [])) (b == 124) (sign (op BitOr)) (cond (b == 125) right_brace stray)
-    (λ e. ap (λ x. Symbol (x ∷ [])) (sym (eqb-true b 124 e)))
-    (chosen (Symbol (b ∷ [])) (b == 125) right_brace stray (λ e. ap (λ x. Symbol (x ∷ [])) (sym (eqb-true b 125 e))) tt))))))))))))))))))))))
+single_back b at = first_back (λ c. Symbol (c ∷ [])) (λ c. b == c) b (λ c is. sym (eqb-true b c is)) (singles at) refl
 
 pair_back : (p : List ℕ) → BackTo (Symbol p) (pair_class p)
-pair_back p = chosen (Symbol p) (is_same p (codes "->")) arrow
-    (cond (is_same p (codes "<<")) (sign (op Shl))
-    (cond (is_same p (codes ">>")) (sign (op Shr))
-    (cond (is_same p (codes "==")) (sign (op Eq))
-    (cond (is_same p (codes "!=")) (sign (op Ne))
-    (cond (is_same p (codes "<=")) (sign (op Le))
-    (cond (is_same p (codes ">=")) (sign (op Ge))
-    (cond (is_same p (codes "&&")) (sign both) (cond (is_same p (codes "||")) (sign either) stray))))))))
-    (λ e. ap Symbol (same_bytes p (codes "->") e))
-    (chosen (Symbol p) (is_same p (codes "<<")) (sign (op Shl))
-    (cond (is_same p (codes ">>")) (sign (op Shr))
-    (cond (is_same p (codes "==")) (sign (op Eq))
-    (cond (is_same p (codes "!=")) (sign (op Ne))
-    (cond (is_same p (codes "<=")) (sign (op Le))
-    (cond (is_same p (codes ">=")) (sign (op Ge)) (cond (is_same p (codes "&&")) (sign both) (cond (is_same p (codes "||")) (sign either) stray)))))))
-    (λ e. ap Symbol (same_bytes p (codes "<<") e))
-    (chosen (Symbol p) (is_same p (codes ">>")) (sign (op Shr))
-    (cond (is_same p (codes "==")) (sign (op Eq))
-    (cond (is_same p (codes "!=")) (sign (op Ne))
-    (cond (is_same p (codes "<=")) (sign (op Le))
-    (cond (is_same p (codes ">=")) (sign (op Ge)) (cond (is_same p (codes "&&")) (sign both) (cond (is_same p (codes "||")) (sign either) stray))))))
-    (λ e. ap Symbol (same_bytes p (codes ">>") e))
-    (chosen (Symbol p) (is_same p (codes "==")) (sign (op Eq))
-    (cond (is_same p (codes "!=")) (sign (op Ne))
-    (cond (is_same p (codes "<=")) (sign (op Le))
-    (cond (is_same p (codes ">=")) (sign (op Ge)) (cond (is_same p (codes "&&")) (sign both) (cond (is_same p (codes "||")) (sign either) stray)))))
-    (λ e. ap Symbol (same_bytes p (codes "==") e))
-    (chosen (Symbol p) (is_same p (codes "!=")) (sign (op Ne))
-    (cond (is_same p (codes "<=")) (sign (op Le))
-    (cond (is_same p (codes ">=")) (sign (op Ge)) (cond (is_same p (codes "&&")) (sign both) (cond (is_same p (codes "||")) (sign either) stray))))
-    (λ e. ap Symbol (same_bytes p (codes "!=") e))
-    (chosen (Symbol p) (is_same p (codes "<=")) (sign (op Le))
-    (cond (is_same p (codes ">=")) (sign (op Ge)) (cond (is_same p (codes "&&")) (sign both) (cond (is_same p (codes "||")) (sign either) stray)))
-    (λ e. ap Symbol (same_bytes p (codes "<=") e))
-    (chosen (Symbol p) (is_same p (codes ">=")) (sign (op Ge))
-    (cond (is_same p (codes "&&")) (sign both) (cond (is_same p (codes "||")) (sign either) stray)) (λ e. ap Symbol (same_bytes p (codes ">=") e))
-    (chosen (Symbol p) (is_same p (codes "&&")) (sign both) (cond (is_same p (codes "||")) (sign either) stray)
-    (λ e. ap Symbol (same_bytes p (codes "&&") e))
-    (chosen (Symbol p) (is_same p (codes "||")) (sign either) stray (λ e. ap Symbol (same_bytes p (codes "||") e)) tt))))))))
+pair_back p = first_back Symbol (is_same p) p (same_bytes p) pairs refl
 
 kind_back : (k : TokenKind) (at : Span) → BackTo k (kind_class k at)
 kind_back (Name bs) at = refl

@@ -1,6 +1,6 @@
 mod Images
-mod Bares
 mod Spelt
+mod Classing
 mod Kinded
 mod Forms
 mod Backs

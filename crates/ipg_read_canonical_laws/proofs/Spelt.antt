@@ -8,10 +8,6 @@ use Rattle.ipg_ast.specs.declared.grammar.What.TheVariants.{Text as TextWhat, Ca
 use Rattle.ipg_ast.specs.declared.grammar.Field.{Field}
 use Rattle.ipg_ast.specs.declared.grammar.Field.TheVariants.{Id as Attribute, Start, End}
 use Rattle.ipg_ast.specs.declared.grammar.Expr.{Expr}
-use Rattle.ipg_ast.specs.declared.grammar.Expr.TheOpen.{Expr-F}
-use Rattle.ipg_ast.specs.declared.grammar.Expr.TheFolds.{fold-roll-Expr}
-use Rattle.ipg_ast.specs.declared.grammar.Expr.TheVariants.{rolls-Num, rolls-Eoi, rolls-Id, rolls-Part, rolls-Item, rolls-Group, rolls-Neg, rolls-Not}
-use Rattle.ipg_ast.specs.declared.grammar.Expr.TheVariants.{rolls-Two, rolls-Both, rolls-Either, rolls-Cond}
 use Rattle.ipg_ast.specs.declared.grammar.Alt.{out-Alt, out-roll-Alt}
 use Rattle.ipg_ast.specs.declared.grammar.Rule.{Rule, out-roll-Rule}
 use Rattle.ipg_ast.specs.declared.grammar.Term.{Term}
@@ -27,6 +23,7 @@ use Rattle.ipg_read_syntax.specs.Written.{AltTree, RuleTree, field_tok, what_tok
 use Rattle.ipg_read_syntax.specs.Written.{spell_terms, spell_local_alts, spell_local, spell_locals, spell_where, spell_alt, spell_alts, spell_rule, spell}
 use Rattle.ipg_read_syntax.specs.Grammars.{infix_expr, made_expr, made_place, made_slot, made_case, made_term, alt_of}
 use Rattle.ipg_read_syntax.specs.Grammars.{made_local_alt, made_local, made_alt, made_rule, grammar_of}
+use Rattle.ipg_ast.specs.Folds.{at_both, at_cond, at_either, at_eoi, at_group, at_id, at_item, at_neg, at_not, at_num, at_part, at_two}
 
 abbrev pub infix_sign : Infix → List ℕ
 infix_sign either = codes "||"
@@ -83,28 +80,28 @@ field_kind Start = refl
 field_kind End = refl
 
 expr_kinds : (e : ExprTree) → kinds_of (spell_expr e) ≡ expr_tokens (made_expr e)
-expr_kinds (num z) = sym (ap expr_tokens (sym (rolls-Num z)) ∙ fold-roll-Expr Tokens expr_step (Expr-F.Num z))
-expr_kinds eoi = sym (ap expr_tokens (sym rolls-Eoi) ∙ fold-roll-Expr Tokens expr_step Expr-F.Eoi)
-expr_kinds (own i) = sym (ap expr_tokens (sym (rolls-Id i)) ∙ fold-roll-Expr Tokens expr_step (Expr-F.Id i))
+expr_kinds (num z) = sym (at_num expr_step z)
+expr_kinds eoi = sym (at_eoi expr_step)
+expr_kinds (own i) = sym (at_id expr_step i)
 expr_kinds (part i f) =
     ap (λ ts. Name i.name ∷ Symbol (codes ".") ∷ ts) (field_kind f)
-    ∙ sym (ap expr_tokens (sym (rolls-Part i f)) ∙ fold-roll-Expr Tokens expr_step (Expr-F.Part i f))
+    ∙ sym (at_part expr_step i f)
 expr_kinds (item i e f) =
     let x : Expr = made_expr e in
     ap (λ ts. Name i.name ∷ Symbol (codes "(") ∷ ts)
     (in_a_row (spell_expr e) (right_paren ∷ dot ∷ field_tok f ∷ []) (expr_tokens x) (Symbol (codes ")") ∷ Symbol (codes ".") ∷ field_tokens f) (expr_kinds e)
     (ap (λ ts. Symbol (codes ")") ∷ Symbol (codes ".") ∷ ts) (field_kind f)))
-    ∙ sym (ap expr_tokens (sym (rolls-Item i x f)) ∙ fold-roll-Expr Tokens expr_step (Expr-F.Item i x f))
+    ∙ sym (at_item expr_step i x f)
 expr_kinds (group e) =
     let x : Expr = made_expr e in
     ap (λ ts. Symbol (codes "(") ∷ ts) (in_a_row (spell_expr e) (right_paren ∷ []) (expr_tokens x) (Symbol (codes ")") ∷ []) (expr_kinds e) refl)
-    ∙ sym (ap expr_tokens (sym (rolls-Group x)) ∙ fold-roll-Expr Tokens expr_step (Expr-F.Group x))
+    ∙ sym (at_group expr_step x)
 expr_kinds (neg e) =
     let x : Expr = made_expr e in
-    ap (λ ts. Symbol (codes "-") ∷ ts) (expr_kinds e) ∙ sym (ap expr_tokens (sym (rolls-Neg x)) ∙ fold-roll-Expr Tokens expr_step (Expr-F.Neg x))
+    ap (λ ts. Symbol (codes "-") ∷ ts) (expr_kinds e) ∙ sym (at_neg expr_step x)
 expr_kinds (isnt e) =
     let x : Expr = made_expr e in
-    ap (λ ts. Symbol (codes "!") ∷ ts) (expr_kinds e) ∙ sym (ap expr_tokens (sym (rolls-Not x)) ∙ fold-roll-Expr Tokens expr_step (Expr-F.Not x))
+    ap (λ ts. Symbol (codes "!") ∷ ts) (expr_kinds e) ∙ sym (at_not expr_step x)
 expr_kinds (two i a b) =
     let x : Expr = made_expr a in
     let y : Expr = made_expr b in
@@ -113,9 +110,9 @@ expr_kinds (two i a b) =
     ∙ sym (infix_tokens i x y)
   where
     infix_tokens : (i : Infix) (x y : Expr) → expr_tokens (infix_expr i x y) ≡ expr_tokens x ++ (Symbol (infix_sign i) ∷ expr_tokens y)
-    infix_tokens either x y = ap expr_tokens (sym (rolls-Either x y)) ∙ fold-roll-Expr Tokens expr_step (Expr-F.Either x y)
-    infix_tokens both x y = ap expr_tokens (sym (rolls-Both x y)) ∙ fold-roll-Expr Tokens expr_step (Expr-F.Both x y)
-    infix_tokens (op o) x y = ap expr_tokens (sym (rolls-Two o x y)) ∙ fold-roll-Expr Tokens expr_step (Expr-F.Two o x y)
+    infix_tokens either x y = at_either expr_step x y
+    infix_tokens both x y = at_both expr_step x y
+    infix_tokens (op o) x y = at_two expr_step o x y
 expr_kinds (choose c at a b) =
     let w : Expr = made_expr c in
     let x : Expr = made_expr a in
@@ -124,7 +121,7 @@ expr_kinds (choose c at a b) =
     (Symbol (codes "?") ∷ (expr_tokens x ++ (Symbol (codes ":") ∷ expr_tokens y))) (expr_kinds c)
     (ap (λ ts. Symbol (codes "?") ∷ ts) (in_a_row (spell_expr a) (colon ∷ spell_expr b) (expr_tokens x) (Symbol (codes ":") ∷ expr_tokens y) (expr_kinds a)
     (ap (λ ts. Symbol (codes ":") ∷ ts) (expr_kinds b))))
-    ∙ sym (ap expr_tokens (sym (rolls-Cond w x y)) ∙ fold-roll-Expr Tokens expr_step (Expr-F.Cond w x y))
+    ∙ sym (at_cond expr_step w x y)
 
 place_kinds : (p : PlaceTree) → kinds_of (spell_place p) ≡ place_tokens (made_place p)
 place_kinds anywhere = refl

@@ -8,16 +8,10 @@ use Rattle.ipg_read_tokens.specs.Lexical.{tokens_of}
 use Rattle.ipg_read_tokens.specs.Shaped.{IsShaped, canonical_text}
 use Rattle.ipg_read_tokens.specs.declared.token.Token.{Token}
 use Rattle.ipg_read_syntax.specs.Reading.{Reads, ReadsWithin, read_of}
-use Rattle.ipg_read_canonical_laws.specs.Bare.{bare}
+use Rattle.ipg_read_syntax.specs.Laws.{ReadsBack}
 
 abbrev pub kinds : List Token → List TokenKind
 kinds ts = map (λ t. t.kind) ts
-
--- the answer is the grammar but for the places of its tokens
-pub record ReadsBack (text : List ℕ) (g : Grammar) : Type 0 where
-  pub found : Grammar
-  pub answer : read_of text ≡ Ok found
-  pub same : bare found ≡ bare g
 
 -- a text with the tokens of a well formed grammar reads as that grammar
 abbrev pub ReadsTokensBack : Type 0

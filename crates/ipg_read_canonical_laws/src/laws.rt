@@ -2,12 +2,15 @@
 
 ghost use Rattle.ipg_read_canonical_laws.specs.Laws.{ReadsTokensBack, KeepsTokens, ReadsFormed, ReadsShaped, RoundTrip, CanonicalStays};
 
+use ipg_read_syntax::laws::{reads_but_for_places, reads_exactly};
 use ipg_read_token_laws::gives_tokens_back;
 
 /// A text with the tokens of a well formed grammar reads as that grammar, but for their places.
 pub fn reads_tokens_back()
     ensures { ReadsTokensBack }
-{}
+{
+    reads_but_for_places();
+}
 
 /// The tokens of a text are those of the grammar that it reads as.
 pub fn keeps_tokens()
@@ -29,6 +32,7 @@ pub fn round_trip()
     ensures { RoundTrip }
 {
     gives_tokens_back();
+    reads_tokens_back();
 }
 
 /// The canonical text of what is read, where it is short enough, is its own canonical text.
@@ -36,4 +40,8 @@ pub fn canonical_stays()
     ensures { CanonicalStays }
 {
     gives_tokens_back();
+    reads_exactly();
+    keeps_tokens();
+    reads_shaped();
+    round_trip();
 }

@@ -27,26 +27,6 @@ level_low (op Le) = lit≤ tt
 level_low (op Gt) = lit≤ tt
 level_low (op Ge) = lit≤ tt
 
-pub level_high : (i : Infix) → level i < prefix_level
-level_high either = lit≤ tt
-level_high both = lit≤ tt
-level_high (op Add) = lit≤ tt
-level_high (op Sub) = lit≤ tt
-level_high (op Mul) = lit≤ tt
-level_high (op Div) = lit≤ tt
-level_high (op Mod) = lit≤ tt
-level_high (op Shl) = lit≤ tt
-level_high (op Shr) = lit≤ tt
-level_high (op BitAnd) = lit≤ tt
-level_high (op BitOr) = lit≤ tt
-level_high (op BitXor) = lit≤ tt
-level_high (op Eq) = lit≤ tt
-level_high (op Ne) = lit≤ tt
-level_high (op Lt) = lit≤ tt
-level_high (op Le) = lit≤ tt
-level_high (op Gt) = lit≤ tt
-level_high (op Ge) = lit≤ tt
-
 -- the level at which the operand above the frames has to stand
 abbrev pub need : {A : Acts} → List (Frame A) → ℕ
 need [] = 0

@@ -8,13 +8,14 @@ use Rattle.ipg_ast.specs.declared.grammar.Field.TheVariants.{Id as Attribute, St
 use Rattle.ipg_num.specs.declared.op.Op2.TheVariants.{Sub}
 use Rattle.ipg_read_syntax.specs.Classes.{op, level, Tok, name, number, sign, bang, question, colon, dot, left_paren, right_paren, start_word}
 use Rattle.ipg_read_syntax.specs.Classes.{end_word, eoi_word}
+use Rattle.ipg_read_syntax.specs.Levels.{level_high}
 use Rattle.ipg_read_syntax.specs.Written
 use Rattle.ipg_read_syntax.specs.Written.{Toks, ExprTree, field_tok, spell_expr, Stands, prefix_level}
 use Rattle.ipg_read_syntax.specs.Machine
 use Rattle.ipg_read_syntax.specs.Machine.{Frame, neg, isnt, left, group, index, then_of, else_of, Closing, close}
 use Rattle.ipg_read_syntax.specs.Machine.{Inner, want, have, named, dotted, indexed, index_dotted}
 use Rattle.ipg_read_syntax.specs.Making.{trees}
-use Rattle.ipg_read_syntax.proofs.Frames.{need, level_low, level_high}
+use Rattle.ipg_read_syntax.proofs.Frames.{need, level_low}
 use Rattle.ipg_read_syntax.proofs.Taken.{frames_before, KeptFrames, Next, InnerNext}
 
 -- where a tighter level is met, a looser one is

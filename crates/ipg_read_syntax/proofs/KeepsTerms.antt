@@ -6,6 +6,7 @@ use Rattle.ipg_ast.specs.declared.grammar.What.{What}
 use Rattle.ipg_read_syntax.specs.Classes.{level, Tok, name, text, sign, question, colon, dot, comma, equals, left_paren, right_paren, left_bracket}
 use Rattle.ipg_read_syntax.specs.Classes.{right_bracket}
 use Rattle.ipg_read_syntax.specs.Classes.{left_brace, right_brace, for_word, to_word, do_word, switch_word, case_word, else_word, many_word}
+use Rattle.ipg_read_syntax.specs.Levels.{level_high}
 use Rattle.ipg_read_syntax.specs.Written
 use Rattle.ipg_read_syntax.specs.Written.{Toks, ExprTree, SlotTree, CaseTree, TermTree, what_tok, spell_expr, spell_slot, spell_case, spell_cases}
 use Rattle.ipg_read_syntax.specs.Written.{spell_term, Stands, prefix_level, SlotFits, CaseFits, TermFits, Each, SomeEach}
@@ -13,7 +14,6 @@ use Rattle.ipg_read_syntax.specs.Machine
 use Rattle.ipg_read_syntax.specs.Machine.{Frame, group, index, then_of, close, Closing, Inner, want, have, Base, SlotUse, alone, chosen, other, Part}
 use Rattle.ipg_read_syntax.specs.Machine.{Turn, still}
 use Rattle.ipg_read_syntax.specs.Making.{trees, last}
-use Rattle.ipg_read_syntax.proofs.Frames.{level_high}
 use Rattle.ipg_read_syntax.proofs.Taken.{frames_before, inner_before, use_before, base_before, part_before, KeptFrames}
 use Rattle.ipg_read_syntax.proofs.Taken.{KeptInner, KeptUse, KeptBase, KeptPart, Next, InnerNext, PartNext, TurnNext}
 use Rattle.ipg_read_syntax.proofs.KeepsExprs.{Closed, closes, need_high, need_none, want_keeps, part_keeps, item_keeps, dot_keeps}

@@ -1,23 +1,25 @@
 mod Rows
-pub mod Frames
+mod Frames
 mod TakesExprs
-pub mod Logs
+mod Logs
 mod TakesTerms
-pub mod TakesRules
-pub mod Maps
-pub mod Plain
+mod TakesRules
+mod Maps
+mod Plain
 mod Taken
 mod KeepsExprs
 mod Lasts
 mod KeepsTerms
 mod KeepsRules
-pub mod Runs
+mod Runs
 mod Closers
-pub mod Selfs
-pub mod Makes
-pub mod Counts
+mod Selfs
+mod Makes
+mod Counts
 mod Lexed
-pub mod Outcomes
-pub mod Readings
+mod Outcomes
+mod Readings
 mod Rising
 mod Places
+mod Bares
+mod Alike

@@ -2,7 +2,8 @@
 use Rattle.std.proofs.Common.{◌≡◌, ℕ, List, Option, Some, None, Result, Ok, Err, refl, ap, ◌∙◌, sym}
 use Rattle.ipg_read_syntax.specs.Classes.{Tok}
 use Rattle.ipg_read_syntax.specs.Machine.{Acts, Read, verdict, start_state}
-use Rattle.ipg_read_syntax.proofs.Maps.{Maps, plains, on_read, whole_map}
+use Rattle.ipg_read_syntax.specs.Bare.{bare_toks}
+use Rattle.ipg_read_syntax.proofs.Maps.{Maps, on_read, whole_map}
 
 -- the actions that make nothing
 abbrev pub nothing : Acts
@@ -120,7 +121,7 @@ fault_mapped : (A : Acts) (v : Result (Read A) ℕ) → fault v ≡ fault (on_re
 fault_mapped A (Ok r) = refl
 fault_mapped A (Err n) = refl
 
-pub fault_plain : (A : Acts) (ts : List Tok) → fault (verdict A 0 (start_state A) ts) ≡ fault (verdict nothing 0 (start_state nothing) (plains ts))
+pub fault_plain : (A : Acts) (ts : List Tok) → fault (verdict A 0 (start_state A) ts) ≡ fault (verdict nothing 0 (start_state nothing) (bare_toks ts))
 fault_plain A ts = fault_mapped A (verdict A 0 (start_state A) ts) ∙ ap fault (whole_map A nothing (to_nothing A) ts)
 
 -- all actions find the same fault
@@ -128,5 +129,6 @@ pub same_fault : (A B : Acts) (ts : List Tok) → fault (verdict A 0 (start_stat
 same_fault A B ts = fault_plain A ts ∙ sym (fault_plain B ts)
 
 -- and find it in the same tokens at other places
-pub same_fault_plain : (A : Acts) (ts us : List Tok) → plains ts ≡ plains us → fault (verdict A 0 (start_state A) ts) ≡ fault (verdict A 0 (start_state A) us)
+pub same_fault_plain : (A : Acts) (ts us : List Tok) → bare_toks ts ≡ bare_toks us
+    → fault (verdict A 0 (start_state A) ts) ≡ fault (verdict A 0 (start_state A) us)
 same_fault_plain A ts us same = fault_plain A ts ∙ ap (λ toks. fault (verdict nothing 0 (start_state nothing) toks)) same ∙ sym (fault_plain A us)

@@ -1,5 +1,5 @@
 -- Rows of the language's description, computed.
-use Rattle.std.proofs.Common.{◌≡◌, ℕ, List, [], ◌∷◌, Result, Ok, Err, Bool, true, false, pos, refl, codes}
+use Rattle.std.proofs.Common.{◌≡◌, ℕ, List, [], ◌∷◌, ◌++◌, Result, Ok, Err, Bool, true, false, pos, refl, codes}
 use Rattle.ipg_num.specs.declared.op.Op2.TheVariants.{Sub, Mul, BitOr, Eq}
 use Rattle.ipg_read_tokens.specs.declared.fault.ReadFault.TheVariants.{Syntax}
 use Rattle.ipg_read_tokens.specs.declared.fault.ReadFault.{ReadFault}
@@ -61,7 +61,10 @@ empty_slot : is_read (read_of (codes "S -> \"\"[0,0] ;")) ≡ true
 empty_slot = refl
 
 -- each form of a term, local rules, and more than one rule
-all_forms : is_read (read_of (codes "S -> A[1] {x = A(A.n + 1).end} ?(!x && -1 < 2) for i = 0 to 3 do A[i, i + 1] switch { case (x) A case (1) \"b\"[2] else A[0, EOI] } where { A -> \"a\" / B ; B -> \"b\" ; } / \"c\" ; T -> S ;")) ≡ true
+all_forms : is_read (read_of (
+    codes "S -> A[1] {x = A(A.n + 1).end} ?(!x && -1 < 2) for i = 0 to 3 do A[i, i + 1] "
+    ++ codes "switch { case (x) A case (1) \"b\"[2] else A[0, EOI] } where { A -> \"a\" / B ; B -> \"b\" ; } / \"c\" ; T -> S ;"
+    )) ≡ true
 all_forms = refl
 
 no_where_in_a_local_rule : read_of (codes "S -> A where { A -> B where { B -> C ; } ; } ;") ≡ Err (Syntax 22)

@@ -4,12 +4,13 @@ use Rattle.ipg_ast.specs.declared.grammar.Ident.{Ident}
 use Rattle.ipg_ast.specs.declared.grammar.Field.{Field}
 use Rattle.ipg_ast.specs.declared.grammar.Field.TheVariants.{Id as Attribute, Start, End}
 use Rattle.ipg_read_syntax.specs.Classes.{level, Tok, name, sign, question, colon, dot, right_paren}
+use Rattle.ipg_read_syntax.specs.Levels.{level_high}
 use Rattle.ipg_read_syntax.specs.Written.{Toks, ExprTree, num, eoi, own, part, item, group, neg, isnt, two, choose, field_tok, spell_expr, Stands, prefix_level}
 use Rattle.ipg_read_syntax.specs.Limits.{past}
 use Rattle.ipg_read_syntax.specs.Machine
 use Rattle.ipg_read_syntax.specs.Machine.{Acts, Frame, Inner, want, have, Base, Site, State, in_term, expr, turned, onward, close, verdict}
 use Rattle.ipg_read_syntax.specs.Making.{expr_by}
-use Rattle.ipg_read_syntax.proofs.Frames.{need, close_none, close_left, close_else, level_low, level_high, Ends, tightness, name_ends, same_close}
+use Rattle.ipg_read_syntax.proofs.Frames.{need, close_none, close_left, close_else, level_low, Ends, tightness, name_ends, same_close}
 
 pub past_append : (at : ℕ) (xs ys : Toks) → past at (xs ++ ys) ≡ past (past at xs) ys
 past_append at [] ys = refl

@@ -1,5 +1,5 @@
 -- What the answer for a text is, in the words of the grammar of grammars.
-use Rattle.std.specs.Prelude.{◌≡◌, ◌⊎◌, ℕ, ◌^◌, ◌≤◌, ◌<◌, true, List, [], ◌∷◌, ◌++◌, length, Some, Ok, Err, ◌↔◌}
+use Rattle.std.specs.Prelude.{◌≡◌, ◌⊎◌, ℕ, ◌^◌, ◌≤◌, ◌<◌, true, List, [], ◌∷◌, ◌++◌, length, Some, None, Ok, Err, ◌↔◌}
 use Rattle.std.specs.List.{AllByRecursion}
 use Rattle.ipg_ast.specs.declared.grammar.Grammar.{Grammar}
 use Rattle.ipg_read_tokens.specs.Lexical.{tokens_of}
@@ -8,7 +8,9 @@ use Rattle.ipg_read_tokens.specs.declared.fault.ReadFault.{ReadFault}
 use Rattle.ipg_read_tokens.specs.declared.fault.ReadFault.TheVariants.{TooLong, Lex, Number, Syntax, Limit, Memory}
 use Rattle.ipg_read_tokens.specs.declared.fault.Which.{Which}
 use Rattle.ipg_read_syntax.specs.Classes.{classes}
+use Rattle.ipg_read_syntax.specs.Bare.{bare, bare_toks}
 use Rattle.ipg_read_syntax.specs.Written.{RuleTree, Fits, spell}
+use Rattle.ipg_read_syntax.specs.Grammars.{grammar_of}
 use Rattle.ipg_read_syntax.specs.Limits.{Over, is_over, sizes, first_over}
 use Rattle.ipg_read_syntax.specs.Reading.{ReadsTree, Reads, ReadsWithin, place_of, read_of}
 
@@ -105,3 +107,16 @@ TokensFirst = (text : List ℕ) (fault : ReadFault) → (tokens_of text ≡ Err 
 abbrev pub LimitIsLeast : Type 0
 LimitIsLeast = (text : List ℕ) (tree : List RuleTree) (r : ReadsTree text tree) (over : Over) → first_over (sizes tree) ≡ Some over
     → (over.at < length r.tokens) × AllByRecursion (λ z. is_over z ≡ true → place_of text r.tokens over.at ≤ place_of text r.tokens z.at) (sizes tree)
+
+-- ---- places
+
+-- the answer is the grammar but for the places of its tokens
+pub record ReadsBack (text : List ℕ) (g : Grammar) : Type 0 where
+  pub found : Grammar
+  pub answer : read_of text ≡ Ok found
+  pub same : bare found ≡ bare g
+
+-- a text whose tokens, but for their places, are those of a grammar within the limits reads as that grammar
+abbrev pub ReadsButForPlaces : Type 0
+ReadsButForPlaces = (text : List ℕ) (ts : List Token) (tree : List RuleTree) → tokens_of text ≡ Ok ts → bare_toks (classes ts) ≡ bare_toks (spell tree)
+    → Fits tree → first_over (sizes tree) ≡ None → ReadsBack text (grammar_of tree)

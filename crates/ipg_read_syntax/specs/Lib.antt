@@ -3,6 +3,9 @@ pub mod Classes
 pub mod Written
 pub mod Grammars
 pub mod Limits
+pub mod Bare
+-- a fact with its proof: operators between operands bind less tightly than prefixes
+pub mod Levels
 -- the machine that reads tokens, whatever it makes, and what it counts and makes
 pub mod Machine
 pub mod Counting

@@ -1,6 +1,7 @@
 //! Laws of reading, each the contract of a function that does nothing.
 
 ghost use Rattle.ipg_read_syntax.specs.Laws.{OneGrammar, ReadsExactly, RefusedExactly, AlwaysOneAnswer, SyntaxPlace, LimitPlace, TokensFirst, LimitIsLeast};
+ghost use Rattle.ipg_read_syntax.specs.Laws.{ReadsButForPlaces};
 
 /// A text reads as one grammar at most.
 pub fn one_grammar()
@@ -40,4 +41,9 @@ pub fn tokens_first()
 /// No limit is passed at a lesser place than the one that is told.
 pub fn limit_is_least()
     ensures { LimitIsLeast }
+{}
+
+/// A text with the tokens of a grammar within the limits, but for their places, reads as that grammar, but for places.
+pub fn reads_but_for_places()
+    ensures { ReadsButForPlaces }
 {}

@@ -28,9 +28,9 @@ use Rattle.ipg_names.specs.declared.named.NamedTerm.{NamedTerm}
 use Rattle.ipg_names.specs.declared.named.NamedTerm.TheVariants as named
 use Rattle.ipg_names.specs.declared.named.NamedAlt.{NamedAlt}
 use Rattle.ipg_names.specs.declared.named.NamedRule.{NamedRule}
-use Rattle.ipg_names.specs.Scope.{Scope, attr_number, is_var, inside}
-use Rattle.ipg_names.specs.Roster.{Entry, alts_of, local, locals_from, family_of, roster_from, roster_of}
-use Rattle.ipg_names.specs.Names.{attr_names}
+use Rattle.ipg_names_scope.specs.Scope.{Scope, attr_number, is_var, inside}
+use Rattle.ipg_names_scope.specs.Roster.{ListedRule, alts_of, local, locals_from, family_of, roster_from, roster_of}
+use Rattle.ipg_names_scope.specs.Names.{attr_names}
 use Rattle.ipg_names.specs.Resolved.{symbol, field_in, name_in, seen_at, item_at, resolved_step, expr_in, place_in, slot_in, case_in, term_in, terms_from}
 use Rattle.ipg_names.specs.Resolved.{alt_scopes, alts_from, rules_from, names_of}
 use Rattle.ipg_store_body.specs.Fits.{NestsWithin}
@@ -185,10 +185,10 @@ as_many scopes u (t ∷ ts) = ap suc (as_many scopes (u + 1) ts)
 abbrev HasFormedTerms : Alt → Type 0
 HasFormedTerms alt = IsFormedTerms (out-Alt alt).terms
 
-abbrev IsFormedEntry : Entry → Type 0
+abbrev IsFormedEntry : ListedRule → Type 0
 IsFormedEntry entry = AllByRecursion HasFormedTerms (alts_of entry)
 
-alts_nest : (roster : List Entry) (names : List (List ℕ)) (entry : Entry) (r a : ℕ) (alts : List Alt) → AllByRecursion HasFormedTerms alts
+alts_nest : (roster : List ListedRule) (names : List (List ℕ)) (entry : ListedRule) (r a : ℕ) (alts : List Alt) → AllByRecursion HasFormedTerms alts
     → AllByRecursion AltNests (alts_from roster names entry r a alts)
 alts_nest roster names entry r a [] h = tt
 alts_nest roster names entry r a (alt ∷ alts) h =
@@ -200,7 +200,7 @@ alts_nest roster names entry r a (alt ∷ alts) h =
       alts_nest roster names entry r (a + 1) alts h.1,
     )
 
-rules_nest : (roster : List Entry) (names : List (List ℕ)) (r : ℕ) (entries : List Entry) → AllByRecursion IsFormedEntry entries
+rules_nest : (roster : List ListedRule) (names : List (List ℕ)) (r : ℕ) (entries : List ListedRule) → AllByRecursion IsFormedEntry entries
     → AllByRecursion RuleNests (rules_from roster names r entries)
 rules_nest roster names r [] h = tt
 rules_nest roster names r (entry ∷ entries) h = (alts_nest roster names entry r 0 (alts_of entry) h.0, rules_nest roster names (r + 1) entries h.1)

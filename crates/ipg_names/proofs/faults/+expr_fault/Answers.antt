@@ -3,9 +3,9 @@ use Rattle.ipg_ast.specs.declared.grammar.Expr.TheVariants.{Item, Two, Both, Eit
 use Rattle.ipg_ast.specs.declared.grammar.Expr.TheViews.{the_lemmas}
 use Rattle.ipg_names.specs.Fault.{first_of}
 use Rattle.ipg_names.specs.Faults.{expr_faults, faults_step, reference_fault}
-use Rattle.ipg_names.specs.Scope.{Scope}
-use Rattle.ipg_names.specs.Site.{spot_scope}
-use Rattle.ipg_names.proofs.Folds.{at_item, at_two, at_both, at_either, at_cond}
+use Rattle.ipg_names_scope.specs.Scope.{Scope}
+use Rattle.ipg_names_scope.specs.Site.{spot_scope}
+use Rattle.ipg_ast.specs.Folds.{at_item, at_two, at_both, at_either, at_cond}
 use Rattle.ipg_names.proofs.Firsts.{First, join}
 use Rattle.ipg_names.proofs.faults.+expr_fault.Goals as goal
 

@@ -1,5 +1,5 @@
 use Rattle.ipg_names.specs.Faults.{case_faults}
-use Rattle.ipg_names.specs.Site.{spot_scope}
+use Rattle.ipg_names_scope.specs.Site.{spot_scope}
 use Rattle.ipg_names.proofs.Firsts.{First, turn, done}
 use Rattle.ipg_names.proofs.faults.cases_fault.Goals as goal
 

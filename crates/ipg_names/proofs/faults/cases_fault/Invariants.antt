@@ -1,7 +1,7 @@
 use Rattle.std.proofs.Common.{◌≡◌, drop, flat_map}
 use Rattle.ipg_names.specs.Fault.{earlier, first_of}
 use Rattle.ipg_names.specs.Faults.{case_faults}
-use Rattle.ipg_names.specs.Site.{spot_scope}
+use Rattle.ipg_names_scope.specs.Site.{spot_scope}
 use Rattle.ipg_names.proofs.faults.cases_fault.Given as goal
 
 abbrev pub invariant-loop-case : goal.invariant-loop-case

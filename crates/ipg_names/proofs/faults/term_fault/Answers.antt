@@ -1,8 +1,8 @@
 use Rattle.std.proofs.Common.{ap, ◌∙◌, sym}
 use Rattle.ipg_names.specs.Fault.{first_of}
 use Rattle.ipg_names.specs.Faults.{term_faults, ends_faults, rule_fault, var_fault}
-use Rattle.ipg_names.specs.Scope.{Scope, inside}
-use Rattle.ipg_names.specs.Site.{spot_scope}
+use Rattle.ipg_names_scope.specs.Scope.{Scope, inside}
+use Rattle.ipg_names_scope.specs.Site.{spot_scope}
 use Rattle.ipg_names.proofs.Firsts.{First, join}
 use Rattle.ipg_names.proofs.faults.term_fault.Goals as goal
 

@@ -1,6 +1,6 @@
 use Rattle.std.proofs.Common.{◌≡◌, ◌++◌, map, drop}
 use Rattle.ipg_names.specs.Resolved.{case_in}
-use Rattle.ipg_names.specs.Site.{spot_scope}
+use Rattle.ipg_names_scope.specs.Site.{spot_scope}
 use Rattle.ipg_names.proofs.resolved.named_cases.Given as goal
 
 abbrev pub invariant-loop-case : goal.invariant-loop-case

@@ -3,7 +3,7 @@ use Rattle.ipg_names.specs.declared.named.NamedAlt.{NamedAlt}
 use Rattle.ipg_names.specs.Fault.{first_of}
 use Rattle.ipg_names.specs.Resolved.{terms_from}
 use Rattle.ipg_names.specs.Faults.{terms_faults}
-use Rattle.ipg_names.specs.Site.{scopes_at}
+use Rattle.ipg_names_scope.specs.Site.{scopes_at}
 use Rattle.ipg_names.proofs.rules.judged_alt.Goals as goal
 
 pub returns-clause-made : goal.returns-clause-made

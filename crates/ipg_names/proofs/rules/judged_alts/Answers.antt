@@ -1,18 +1,12 @@
-use Rattle.std.proofs.Common.{ap, ◌∙◌, refl, is_some}
-use Rattle.ipg_names.specs.declared.marks.Family.TheVariants.{Sets}
-use Rattle.ipg_names.specs.Terms.{has}
+use Rattle.std.proofs.Common.{ap, ◌∙◌, refl}
 use Rattle.ipg_names.specs.Fault.{first_of}
 use Rattle.ipg_names.specs.Faults.{alt_faults, alts_faults}
 use Rattle.ipg_names.specs.Resolved.{alt_in, alts_from}
-use Rattle.ipg_names.specs.View.{entry_view, entries_view}
-use Rattle.ipg_names.specs.Lookup.{shown}
-use Rattle.ipg_names.proofs.Spots.{spots_any}
+use Rattle.ipg_names_scope.specs.View.{entry_view, entries_view}
+use Rattle.ipg_names_scope.specs.Lookup.{shown}
 use Rattle.ipg_names.proofs.Firsts.{First}
 use Rattle.ipg_names.proofs.Turns.{made_turn, fault_turn, fault_done}
 use Rattle.ipg_names.proofs.rules.judged_alts.Goals as goal
-
-pub judged_alt-requires-clause-outer : goal.judged_alt-requires-clause-outer
-judged_alt-requires-clause-outer c = λ x. ap is_some (c.in_ok-outer.ensures x) ∙ spots_any (has Sets x) c.args.entry.now.outer.now 0
 
 pub loop-a-preserved : goal.loop-a-preserved
 loop-a-preserved c =

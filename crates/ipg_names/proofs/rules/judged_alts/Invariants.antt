@@ -2,8 +2,8 @@ use Rattle.std.proofs.Common.{◌≡◌, ◌++◌, drop}
 use Rattle.ipg_names.specs.Fault.{earlier, first_of}
 use Rattle.ipg_names.specs.Resolved.{alts_from}
 use Rattle.ipg_names.specs.Faults.{alts_faults}
-use Rattle.ipg_names.specs.View.{entry_view, entries_view}
-use Rattle.ipg_names.specs.Lookup.{shown}
+use Rattle.ipg_names_scope.specs.View.{entry_view, entries_view}
+use Rattle.ipg_names_scope.specs.Lookup.{shown}
 use Rattle.ipg_names.proofs.rules.judged_alts.Given as goal
 
 abbrev pub invariant-loop-a : goal.invariant-loop-a

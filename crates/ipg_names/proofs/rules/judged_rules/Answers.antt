@@ -1,10 +1,10 @@
 use Rattle.std.proofs.Common.{refl}
-use Rattle.ipg_names.specs.declared.roster.Entry as code
-use Rattle.ipg_names.specs.Roster.{alts_of}
+use Rattle.ipg_names_scope.specs.declared.roster.ListedRule as code
+use Rattle.ipg_names_scope.specs.Roster.{alts_of}
 use Rattle.ipg_names.specs.Faults.{alts_faults, rules_faults}
 use Rattle.ipg_names.specs.Resolved.{rule_in, rules_from}
-use Rattle.ipg_names.specs.View.{entry_view, entries_view, IsFit}
-use Rattle.ipg_names.specs.Lookup.{shown}
+use Rattle.ipg_names_scope.specs.View.{entry_view, entries_view, IsFit}
+use Rattle.ipg_names_scope.specs.Lookup.{shown}
 use Rattle.ipg_names.proofs.Lists.{all_map_at}
 use Rattle.ipg_names.proofs.Firsts.{First}
 use Rattle.ipg_names.proofs.Turns.{made_turn, fault_turn}
@@ -22,10 +22,10 @@ loop-r-preserved c =
     let first : First c.in_ok-judged.judged.fault (alts_faults roster names entry r 0 (alts_of entry)) = record { is = c.in_ok-judged.ensures.fault } in
     record {
       made = rw (c.in_ok-push.ensures.items, c.in_ok-judged.ensures.made)
-          (made_turn (λ n es. rules_from roster names n (entries_view es)) (λ n (e : code.Entry). rule_in roster names n (entry_view e)) (λ n x xs. refl)
+          (made_turn (λ n es. rules_from roster names n (entries_view es)) (λ n (e : code.ListedRule). rule_in roster names n (entry_view e)) (λ n x xs. refl)
           (λ n. refl)
           _ _ _ _ _ _ c.index-roster-r.is c.loop-r-test.true refl c.loop-r.invariant.made);
-      fault = fault_turn (λ n es. rules_faults roster names n (entries_view es)) (λ n (e : code.Entry). alts_faults roster names (entry_view e) n 0
+      fault = fault_turn (λ n es. rules_faults roster names n (entries_view es)) (λ n (e : code.ListedRule). alts_faults roster names (entry_view e) n 0
           (alts_of (entry_view e)))
           (λ n x xs. refl) (λ n. refl) _ _ _ _ _ _ c.index-roster-r.is c.loop-r-test.true first c.earlier-fault.ensures c.loop-r.invariant.fault;
     }

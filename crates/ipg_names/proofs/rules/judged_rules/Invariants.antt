@@ -2,8 +2,8 @@ use Rattle.std.proofs.Common.{◌≡◌, ◌++◌, drop}
 use Rattle.ipg_names.specs.Fault.{earlier, first_of}
 use Rattle.ipg_names.specs.Resolved.{rules_from}
 use Rattle.ipg_names.specs.Faults.{rules_faults}
-use Rattle.ipg_names.specs.View.{entries_view}
-use Rattle.ipg_names.specs.Lookup.{shown}
+use Rattle.ipg_names_scope.specs.View.{entries_view}
+use Rattle.ipg_names_scope.specs.Lookup.{shown}
 use Rattle.ipg_names.proofs.rules.judged_rules.Given as goal
 
 abbrev pub invariant-loop-r : goal.invariant-loop-r

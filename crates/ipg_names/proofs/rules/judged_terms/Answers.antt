@@ -1,11 +1,8 @@
 use Rattle.std.proofs.Common.{ap, ◌∙◌, refl}
-use Rattle.ipg_names.specs.declared.marks.Family.TheVariants.{Calls, Items, Sets}
 use Rattle.ipg_names.specs.Fault.{first_of}
 use Rattle.ipg_names.specs.Resolved.{term_in, terms_from}
 use Rattle.ipg_names.specs.Faults.{term_faults, terms_faults}
-use Rattle.ipg_names.specs.Site.{scopes_at}
-use Rattle.ipg_names.proofs.Spots.{pass_turn}
-use Rattle.ipg_names.proofs.Scopes.{scope_here}
+use Rattle.ipg_names_scope.specs.Site.{scopes_at}
 use Rattle.ipg_names.proofs.Firsts.{First}
 use Rattle.ipg_names.proofs.Turns.{made_turn, made_done, fault_turn, fault_done}
 use Rattle.ipg_names.proofs.rules.judged_terms.Goals as goal
@@ -20,20 +17,13 @@ loop-u-preserved c =
     let term = c.index-terms-u.result in
     let scopes = scopes_at c.args.tables.now c.args.entry.now c.args.at terms in
     let marks = c.loop-u.invariant.marks in
-    let here = scope_here c.args.tables.now c.args.entry.now c.args.at terms _ refl c.home_of.ensures c.requires.tables marks c.requires.outer in
+    let here = c.tables_tell.ensures c.args.tables.now c.args.entry.now c.args.at terms _ refl c.home_of.ensures c.requires.tables marks c.requires.outer in
     let first : First c.in_ok-judged.judged.fault (term_faults (scopes u) term) = record {
       is = c.in_ok-judged.ensures.fault
           ∙ ap (λ s. first_of (term_faults s term)) here;
     } in
-    let old = c.loop-u.marks in
-    let new = c.pass.new.marks in
-    let passed = c.in_ok-pass.ensures in
     record {
-      marks = record {
-        calls = pass_turn Calls old.calls new.calls terms u term c.index-terms-u.is c.loop-u-test.true passed.calls marks.calls;
-        items = pass_turn Items old.items new.items terms u term c.index-terms-u.is c.loop-u-test.true passed.items marks.items;
-        sets = pass_turn Sets old.sets new.sets terms u term c.index-terms-u.is c.loop-u-test.true passed.sets marks.sets;
-      };
+      marks = c.in_ok-pass.ensures;
       made = rw (c.in_ok-push.ensures.items, c.in_ok-judged.ensures.made, here)
           (made_turn (terms_from scopes) (λ n x. term_in (scopes n) x) (λ n x xs. refl)
           (λ n. refl) _ _ _ _ _ _ c.index-terms-u.is c.loop-u-test.true refl c.loop-u.invariant.made);

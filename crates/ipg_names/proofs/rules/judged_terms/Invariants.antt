@@ -2,7 +2,7 @@ use Rattle.std.proofs.Common.{◌≡◌, ◌++◌, drop}
 use Rattle.ipg_names.specs.Fault.{earlier, first_of}
 use Rattle.ipg_names.specs.Resolved.{terms_from}
 use Rattle.ipg_names.specs.Faults.{terms_faults}
-use Rattle.ipg_names.specs.Site.{AreMarks, scopes_at}
+use Rattle.ipg_names_scope.specs.Site.{AreMarks, scopes_at}
 use Rattle.ipg_names.proofs.rules.judged_terms.Given as goal
 
 abbrev pub invariant-loop-u : goal.invariant-loop-u

@@ -1,7 +1,0 @@
-use Rattle.std.proofs.Common.{◌≡◌, drop, flat_map}
-use Rattle.ipg_names.specs.Names.{once, alt_names}
-use Rattle.ipg_names.specs.Lookup.{shown}
-use Rattle.ipg_names.proofs.names.add_rule.Given as goal
-
-abbrev pub invariant-loop-alt : goal.invariant-loop-alt
-invariant-loop-alt l = once (shown l.names) (flat_map alt_names (drop l.alt-index l.alt-items)) ≡ once (shown l.initial.names) (flat_map alt_names l.alt-items)

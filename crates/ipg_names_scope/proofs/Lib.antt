@@ -1,0 +1,9 @@
+pub mod Bytes
+pub mod Lists
+pub mod Once
+pub mod Rosters
+pub mod Spots
+pub mod HeadTable
+pub mod FieldTable
+pub mod Narrowed
+pub mod Scopes
