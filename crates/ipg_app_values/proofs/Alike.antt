@@ -8,8 +8,8 @@ use Rattle.ipg_lin.specs.declared.formula.Formula.{Formula}
 use Rattle.ipg_lin.specs.declared.formula.Boxed.{Boxed}
 use Rattle.ipg_facts.specs.Keep.{keep, variables}
 use Rattle.ipg_facts_edges.specs.Edges.{edges_of}
-use Rattle.ipg_solve_sure.specs.Laws.{TellsOnce}
-use Rattle.ipg_solve_sure.specs.Sure.{Tells}
+use Rattle.ipg_solve_values.specs.Laws.{TellsOnce}
+use Rattle.ipg_solve_values.specs.Sure.{Tells}
 use Rattle.ipg_app_explain.specs.Named.{rule_name}
 use Rattle.ipg_app_values.specs.Laws.{NotedOnce, NotedSomehow}
 use Rattle.ipg_app_values.specs.Names.{CallSite, name_of}

@@ -10,8 +10,8 @@ use Rattle.ipg_lin.specs.declared.formula.Boxed.{Boxed}
 use Rattle.ipg_facts_variables.specs.declared.variable.Variable.{Variable}
 use Rattle.ipg_facts.specs.Keep.{keep, variables}
 use Rattle.ipg_facts_edges.specs.Edges.{edges_of}
-use Rattle.ipg_solve_sure.specs.Narrowed.{narrowed}
-use Rattle.ipg_solve_sure.specs.Sure.{Tells}
+use Rattle.ipg_solve_values.specs.Narrowed.{narrowed}
+use Rattle.ipg_solve_values.specs.Sure.{Tells}
 use Rattle.ipg_app_explain.specs.Named.{rule_name}
 use Rattle.ipg_app_values.specs.Names.{CallSite, name_of}
 use Rattle.ipg_app_values.specs.Turn.{InTurn}

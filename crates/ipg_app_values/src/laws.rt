@@ -2,7 +2,7 @@
 
 ghost use Rattle.ipg_app_values.specs.Laws.{NotedOnce, NotedSomehow};
 
-use ipg_solve_sure::laws::tells_once;
+use ipg_solve_values::laws::tells_once;
 
 /// Of a cycle one thing is noted.
 pub fn noted_once()

@@ -5,7 +5,7 @@ ghost use Rattle.std.specs.List.{slice_get};
 ghost use Rattle.ipg_facts.specs.Keep.{keep};
 ghost use Rattle.ipg_graph.specs.declared.edge.Edge as graph;
 ghost use Rattle.ipg_lin.specs.Formula.{width};
-ghost use Rattle.ipg_solve_sure.specs.Sure.{Tells};
+ghost use Rattle.ipg_solve_values.specs.Sure.{Tells};
 ghost use Rattle.ipg_app_values.specs.Notes as spec;
 ghost use Rattle.ipg_app_values.specs.Notes.{IsValue};
 ghost use Rattle.ipg_app_values.specs.Seen.{AreOf, AreSound, IsFound, site_of};
@@ -17,7 +17,7 @@ use ipg_lin::{Boxed, Formula};
 use ipg_num::List;
 use ipg_proof::{CallGraph, keep_of};
 use ipg_solve::{Decision, decide};
-use ipg_solve_sure::{narrowed, sure};
+use ipg_solve_values::{narrowed, sure};
 use itoa::Buffer;
 use std::alloc::{AllocError, Global};
 

@@ -8,9 +8,11 @@ use Rattle.std.proofs.lemmas.Bool.Decides.{Decides-int_eq}
 use Rattle.ipg_lin.specs.Form.{Form}
 use Rattle.ipg_cert.specs.Facts.{Fact}
 use Rattle.ipg_cert.specs.Checks.{coefficient, weighted_sum, is_absurd, combines}
+use Rattle.ipg_cert.specs.Laws.{CancelledIsAbsurd}
 use Rattle.ipg_cert.specs.Totals.{total_at}
 use Rattle.ipg_cert.specs.Seen.{AreZero, Sums}
-use Rattle.ipg_cert.proofs.Sums.{both_true, zero_or_absent}
+use Rattle.std.proofs.lemmas.Bool.{and_parts}
+use Rattle.ipg_cert.proofs.Sums.{zero_or_absent}
 
 -- every total is 0, as the code tests it
 abbrev pub none_left : List ℤ → Bool
@@ -26,16 +28,19 @@ same_bool false false f g = refl
 
 zero_totals : (totals : List ℤ) → none_left totals ≡ true → AreZero totals
 zero_totals [] h x = refl
-zero_totals (z ∷ totals) h zero = (Decides-int_eq z (pos 0)).0 (both_true (int_eq z (pos 0)) (none_left totals) h).0
-zero_totals (z ∷ totals) h (suc x) = zero_totals totals (both_true (int_eq z (pos 0)) (none_left totals) h).1 x
+zero_totals (z ∷ totals) h zero = (Decides-int_eq z (pos 0)).0 (and_parts (int_eq z (pos 0)) (none_left totals) h).0
+zero_totals (z ∷ totals) h (suc x) = zero_totals totals (and_parts (int_eq z (pos 0)) (none_left totals) h).1 x
 
 left_zero : (totals : List ℤ) → AreZero totals → none_left totals ≡ true
 left_zero [] h = refl
 left_zero (z ∷ totals) h = ap (λ b. b && none_left totals) ((Decides-int_eq z (pos 0)).1 (h 0)) ∙ left_zero totals (λ x. h (suc x))
 
-pub in_zero : (all ts : List (ℕ × ℤ)) → ((x : ℕ) → coefficient x all ≡ pos 0) → none_in all ts ≡ true
+in_zero : (all ts : List (ℕ × ℤ)) → ((x : ℕ) → coefficient x all ≡ pos 0) → none_in all ts ≡ true
 in_zero all [] h = refl
 in_zero all (t ∷ ts) h = ap (λ b. b && none_in all ts) ((Decides-int_eq (coefficient t.0 all) (pos 0)).1 (h t.0)) ∙ in_zero all ts h
+
+pub cancelled_is_absurd : CancelledIsAbsurd
+cancelled_is_absurd form none above = ap (λ b. b && int_lt (pos 0) form.constant) (in_zero form.terms form.terms none) ∙ above
 
 same_zero : (totals : List ℤ) (ts : List (ℕ × ℤ)) → ((x : ℕ) → total_at totals x ≡ coefficient x ts) → none_left totals ≡ none_in ts ts
 same_zero totals ts stands = same_bool (none_left totals) (none_in ts ts)

@@ -8,7 +8,7 @@ use Rattle.ipg_cert.specs.Facts.{Fact, AtMost, Choice, facts_of}
 use Rattle.ipg_cert.specs.Checks.{cases_of, is_choice, members_in, refutes}
 use Rattle.ipg_cert.specs.Seen.{all_seen}
 use Rattle.ipg_cert.specs.Goals.{facts_at, added_facts, open_goals, IsStack, AreOpen, IsCase, AreCases, OpensEach, choice_in, Enters, Nexts}
-use Rattle.ipg_cert.specs.declared.known.Known.{Known}
+use Rattle.ipg_cert.specs.declared.fact_ref.FactRef.{FactRef}
 use Rattle.ipg_cert.specs.declared.goal.Goal.{Goal}
 use Rattle.ipg_cert.specs.declared.refutation.Step.{Step}
 
@@ -25,7 +25,7 @@ open_more kept members i first old new goal d within opened is e = (
   subst (λ ms. AreCases kept ms (goal ∷ opened.0)) (sym (drop_more members i d within)) (is, opened.2),
 )
 
-cases_facts : (facts : List Known) (members : List Formula) (cases : List Goal) → AreCases (length facts) members cases
+cases_facts : (facts : List FactRef) (members : List Formula) (cases : List Goal) → AreCases (length facts) members cases
     → map (facts_at facts) cases ≡ cases_of (all_seen facts) members
 cases_facts facts [] [] h = refl
 cases_facts facts [] (goal ∷ cases) h = absurd h
@@ -49,7 +49,7 @@ chosen parts (Some (AtMost form)) members e n = absurd (cc)
 chosen parts (Some (Choice ms)) members e n = let same : ms ≡ members = cc in (eq-eqb (length ms) parts (ap length same ∙ n), same)
 
 -- the cases of an Any are its goals
-pub either_steps : (vars fact parts : ℕ) (facts : List Known) (old new : List Goal) (o : Option Fact) (members : List Formula) (steps : List Step)
+pub either_steps : (vars fact parts : ℕ) (facts : List FactRef) (old new : List Goal) (o : Option Fact) (members : List Formula) (steps : List Step)
     → Some members ≡ choice_in o → length members ≡ parts → OpensEach (length facts) members old new
     → (is_choice parts o && refutes vars steps (cases_of (all_seen facts) (members_in o) ++ open_goals facts old)) ≡ refutes vars steps (open_goals facts new)
 either_steps vars fact parts facts old new o members steps e n opened =
@@ -62,7 +62,7 @@ pub either_stack : (most : ℕ) (members : List Formula) (old new : List Goal) �
 either_stack most members old new opened stack = subst (IsStack most) (sym opened.1) (cases_stack most members opened.0 (reverse old) opened.2 stack)
 
 -- the goals below keep their facts where the front of the facts stays
-below_kept : (k most : ℕ) (facts more : List Known) (goals : List Goal) → k ≤ most → most ≤ length facts → IsStack k goals
+below_kept : (k most : ℕ) (facts more : List FactRef) (goals : List Goal) → k ≤ most → most ≤ length facts → IsStack k goals
     → map (facts_at (take most facts ++ more)) goals ≡ map (facts_at facts) goals
 below_kept k most facts more [] below within stack = refl
 below_kept k most facts more (goal ∷ goals) below within stack =
@@ -77,7 +77,7 @@ stack_wider k most [] le stack = tt
 stack_wider k most (goal ∷ goals) le stack = (omega (arith, stack.0), stack.1)
 
 -- the goal on top is taken off, and its facts are at hand
-pub entered : (old new : List Known) (goals rest : List Goal) (goal : Goal) → goals ≡ rest ++ goal ∷ [] → AreOpen (length old) goals → Enters old new goal
+pub entered : (old new : List FactRef) (goals rest : List Goal) (goal : Goal) → goals ≡ rest ++ goal ∷ [] → AreOpen (length old) goals → Enters old new goal
     → Nexts old new goals rest true
 entered old new goals rest goal e ordered enters =
     let turned : reverse goals ≡ goal ∷ reverse rest = ap reverse e ∙ reverse_push rest goal in
@@ -92,21 +92,21 @@ entered old new goals rest goal e ordered enters =
           (omega (arith, ap length front, length-append (take goal.kept old) more, length-take-le goal.kept old stack.0)) stack.1,
     )
 
-pub kept_within : (old : List Known) (goals rest : List Goal) (goal : Goal) → goals ≡ rest ++ goal ∷ [] → AreOpen (length old) goals → goal.kept ≤ length old
+pub kept_within : (old : List FactRef) (goals rest : List Goal) (goal : Goal) → goals ≡ rest ++ goal ∷ [] → AreOpen (length old) goals → goal.kept ≤ length old
 kept_within old goals rest goal e ordered =
     let stack : (goal.kept ≤ length old) × IsStack goal.kept (reverse rest) = subst (IsStack (length old)) (ap reverse e ∙ reverse_push rest goal) ordered in
     stack.0
 
-none_open : (vars : ℕ) (facts : List Known) (goals : List Goal) → length goals ≡ 0 → refutes vars [] (open_goals facts goals) ≡ true
+none_open : (vars : ℕ) (facts : List FactRef) (goals : List Goal) → length goals ≡ 0 → refutes vars [] (open_goals facts goals) ≡ true
 none_open vars facts [] h = refl
 none_open vars facts (goal ∷ goals) h = absurd (omega arith)
 
-some_open : (vars : ℕ) (facts : List Known) (gs : List Goal) → 0 < length gs → refutes vars [] (map (facts_at facts) gs) ≡ false
+some_open : (vars : ℕ) (facts : List FactRef) (gs : List Goal) → 0 < length gs → refutes vars [] (map (facts_at facts) gs) ≡ false
 some_open vars facts [] h = absurd (omega arith)
 some_open vars facts (goal ∷ goals) h = refl
 
 -- whether no goal is left over
-pub left_over : (vars : ℕ) (facts : List Known) (goals : List Goal) (none : Bool) → (none ≡ true → length goals ≡ 0) → (length goals ≡ 0 → none ≡ true)
+pub left_over : (vars : ℕ) (facts : List FactRef) (goals : List Goal) (none : Bool) → (none ≡ true → length goals ≡ 0) → (length goals ≡ 0 → none ≡ true)
     → none ≡ refutes vars [] (open_goals facts goals)
 left_over vars facts goals true f g = sym (none_open vars facts goals (f refl))
 left_over vars facts [] false f g = g refl

@@ -1,5 +1,4 @@
 pub mod Sums
-pub mod Told
 pub mod Sound
 pub mod Root
 pub mod TotalsLemmas

@@ -9,7 +9,7 @@ use Rattle.ipg_cert.specs.declared.pos.Pos.TheVariants.{Letter, Gap, First, Minu
 use Rattle.ipg_cert.specs.declared.refutation.Step.{Step}
 use Rattle.ipg_cert.specs.Words.{words_of}
 use Rattle.ipg_cert.specs.Texts.{IsTextOf, Begins, GoesOn, IsFirstFault, IsTextAt, IsFaultFrom}
-use Rattle.ipg_cert.specs.Reader.{turn_at, State, start, taken, step, has_ended, Found, next, read_from}
+use Rattle.ipg_cert.specs.Reader.{transition_at, State, start, taken, step, has_ended, Found, next, read_from}
 use Rattle.ipg_cert.proofs.Spelled.{IsSound, OnStep, step_sound}
 use Rattle.ipg_cert.proofs.Begun.{sound_begins}
 use Rattle.ipg_cert.proofs.Runs.{and_then, run, run_on, run_step, text_ends}
@@ -29,7 +29,7 @@ by_next (Some on) n m bs rest e go more last d =
 ended_stuck : (st : State) (b : ℕ) → has_ended st.pos ≡ true → step st b ≡ None
 ended_stuck st b e = at_end st.pos e
   where
-    at_end : (p : Pos) → has_ended p ≡ true → taken (turn_at p b) st b ≡ None
+    at_end : (p : Pos) → has_ended p ≡ true → taken (transition_at p b) st b ≡ None
     at_end Letter f = absurd (true≢false (sym f))
     at_end (Gap need) f = absurd (true≢false (sym f))
     at_end (First need) f = absurd (true≢false (sym f))

@@ -7,10 +7,10 @@ use Rattle.ipg_lin.specs.Form.{Assignment}
 use Rattle.ipg_lin.specs.Formula.{Solvable}
 use Rattle.ipg_lin.specs.declared.formula.Formula.{Formula}
 use Rattle.ipg_lin.specs.declared.formula.Boxed.{Boxed}
-use Rattle.ipg_cert.specs.Facts.{bound_facts, facts_of}
+use Rattle.ipg_cert.specs.Facts.{all_hold, bound_facts, facts_of}
 use Rattle.ipg_cert.specs.Checks.{root_facts, checks}
 use Rattle.ipg_cert.specs.declared.refutation.Refutation.{Refutation}
-use Rattle.ipg_cert.proofs.Told.{all_hold, all_hold-append, is_told}
+use Rattle.ipg_cert.specs.Told.{all_hold-append, is_told}
 use Rattle.ipg_cert.proofs.Sound.{le_test, refutes_sound}
 
 -- the variables from x on are within these bounds

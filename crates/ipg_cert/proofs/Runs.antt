@@ -13,8 +13,8 @@ use Rattle.ipg_cert.specs.declared.pos.Need.TheVariants.{Count, Weight, Fact, Va
 use Rattle.ipg_cert.specs.declared.pos.Number.{Number}
 use Rattle.ipg_cert.specs.declared.pos.Pos.{Pos}
 use Rattle.ipg_cert.specs.declared.pos.Pos.TheVariants.{Letter, First, Minus, Digits, Ended}
-use Rattle.ipg_cert.specs.declared.pos.Turn.{Turn}
-use Rattle.ipg_cert.specs.declared.pos.Turn.TheVariants.{Stuck, To, End}
+use Rattle.ipg_cert.specs.declared.pos.Transition.{Transition}
+use Rattle.ipg_cert.specs.declared.pos.Transition.TheVariants.{Stuck, To, End}
 use Rattle.ipg_cert.specs.declared.refutation.Step.{Step}
 use Rattle.ipg_cert.specs.declared.refutation.Step.TheVariants.{Combine, Split, Either}
 use Rattle.ipg_cert.specs.Words.{entry_words, step_words, words_of}
@@ -93,7 +93,7 @@ module _ (made : List Step) (entries : List (ℕ × ℕ)) (trees : ℕ) where
   first_begins need d less may =
       let (digit, value) = digit_is d less in
       let some = or_yes (may_be_zero need) (48 + d == 48) (λ e. not_zero_digit d (may.0 e)) in
-      let minus : Turn = if may_be_negative need && 48 + d == 45 then To (Minus need) else Stuck in
+      let minus : Transition = if may_be_negative need && 48 + d == 45 then To (Minus need) else Stuck in
       ap (λ c. taken (if c && (may_be_zero need || not (48 + d == 48)) then begun need false (48 + d) else minus) (at_place (First need)) (48 + d)) digit
       ∙ ap (λ c. taken (if c then begun need false (48 + d) else minus) (at_place (First need)) (48 + d)) some
       ∙ ap (λ v. Some (at_number made entries trees need false v)) value

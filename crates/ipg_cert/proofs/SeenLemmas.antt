@@ -10,9 +10,11 @@ use borrow.Author.Differences.{same_in, product_is}
 use Rattle.ipg_lin.specs.Form.{Form, are_coefficients, rises, in_rule}
 use Rattle.ipg_cert.specs.Facts.{Fact}
 use Rattle.ipg_cert.specs.Checks.{coefficient, plus_times, zero_form, form_of_entry, sum_from}
+use Rattle.ipg_cert.specs.Laws.{SumTakes}
 use Rattle.ipg_cert.specs.Totals.{AddsTerms}
 use Rattle.ipg_cert.specs.Seen.{Added, Weighs, AreZero, StandFor, Progress}
-use Rattle.ipg_cert.proofs.Sums.{both_true, plus_times_right}
+use Rattle.std.proofs.lemmas.Bool.{and_parts}
+use Rattle.ipg_cert.proofs.Sums.{plus_times_right}
 use Rattle.ipg_cert.proofs.TotalsLemmas.{grown, abs_add}
 
 pub added : (w : ℕ) (old new : List ℤ) (constant product : ℤ) (form : Form) → w ≤ 2 ^ 40 → length form.terms ≤ 64 → are_coefficients form.terms ≡ true
@@ -27,16 +29,16 @@ added w old new constant product form light few small terms same is size =
     }
 
 pub rule_few : (terms : List (ℕ × ℤ)) → in_rule terms ≡ true → length terms ≤ 64
-rule_few terms h = leb-true (length terms) 64 (both_true (nat_le (length terms) 64) (rises 0 terms && are_coefficients terms) h).0
+rule_few terms h = leb-true (length terms) 64 (and_parts (nat_le (length terms) 64) (rises 0 terms && are_coefficients terms) h).0
 
 pub rule_small : (terms : List (ℕ × ℤ)) → in_rule terms ≡ true → are_coefficients terms ≡ true
-rule_small terms h = (both_true (rises 0 terms) (are_coefficients terms) (both_true (nat_le (length terms) 64) (rises 0 terms && are_coefficients terms) h).1).1
+rule_small terms h = (and_parts (rises 0 terms) (are_coefficients terms) (and_parts (nat_le (length terms) 64) (rises 0 terms && are_coefficients terms) h).1).1
 
-pub coefficient-append : (x : ℕ) (xs ys : List (ℕ × ℤ)) → coefficient x (xs ++ ys) ≡ coefficient x xs +ℤ coefficient x ys
+coefficient-append : (x : ℕ) (xs ys : List (ℕ × ℤ)) → coefficient x (xs ++ ys) ≡ coefficient x xs +ℤ coefficient x ys
 coefficient-append x [] ys = same_in _ _ (omega (arith, ints))
 coefficient-append x (t ∷ xs) ys = ap (λ z. cond (nat_eq t.0 x) t.1 (pos 0) +ℤ z) (coefficient-append x xs ys) ∙ same_in _ _ (omega (arith, ints))
 
-pub coefficient-scaled : (x w : ℕ) (xs : List (ℕ × ℤ)) → coefficient x (map (λ (t : ℕ × ℤ). (t.0, pos w *ℤ t.1)) xs) ≡ pos w *ℤ coefficient x xs
+coefficient-scaled : (x w : ℕ) (xs : List (ℕ × ℤ)) → coefficient x (map (λ (t : ℕ × ℤ). (t.0, pos w *ℤ t.1)) xs) ≡ pos w *ℤ coefficient x xs
 coefficient-scaled x w [] = same_in _ _ (omega (arith, product_is (pos w) (pos 0)))
 coefficient-scaled x w (t ∷ xs) =
     ap (λ z. cond (nat_eq t.0 x) (pos w *ℤ t.1) (pos 0) +ℤ z) (coefficient-scaled x w xs)
@@ -45,12 +47,16 @@ coefficient-scaled x w (t ∷ xs) =
       | false ↦ same_in _ _ (omega (arith, ints, plus_times_right (pos w) (pos 0) (coefficient x xs), product_is (pos w) (pos 0)))
     ]
 
+pub sum_takes : SumTakes
+sum_takes x w form rest =
+    coefficient-append x (map (λ (t : ℕ × ℤ). (t.0, pos w *ℤ t.1)) form.terms) rest.terms
+    ∙ ap (λ z. z +ℤ coefficient x rest.terms) (coefficient-scaled x w form.terms)
+
 -- a form more in the sum
 stands_more : (w : ℕ) (old new : List ℤ) (form sum : Form) → AddsTerms old new w form.terms → StandFor old sum → StandFor new (plus_times w form sum)
 stands_more w old new form sum adds stands x =
     adds x ∙ ap (λ z. (pos w *ℤ coefficient x form.terms) +ℤ z) (stands x)
-    ∙ sym (coefficient-append x (map (λ (t : ℕ × ℤ). (t.0, pos w *ℤ t.1)) form.terms) sum.terms
-    ∙ ap (λ z. z +ℤ coefficient x sum.terms) (coefficient-scaled x w form.terms))
+    ∙ sym (sum_takes x w form sum)
 
 pub started : (facts : List Fact) (entries : List (ℕ × ℕ)) (totals : List ℤ) → AreZero totals → Progress facts entries entries 0 totals (pos 0)
 started facts entries totals zero =

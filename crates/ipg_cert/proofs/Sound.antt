@@ -8,21 +8,22 @@ use borrow.Author.Differences.{up, down, product_is}
 use Rattle.ipg_lin.specs.Form.{Form, Assignment, sum_at, value_at}
 use Rattle.ipg_lin.specs.Formula.{holds_at, some}
 use Rattle.ipg_lin.specs.declared.formula.Formula.{Formula}
-use Rattle.ipg_cert.specs.Facts.{Fact, AtMost, Choice, holds_fact, facts_of, at_least, at_most}
+use Rattle.ipg_cert.specs.Facts.{all_hold, Fact, AtMost, Choice, holds_fact, facts_of, at_least, at_most}
 use Rattle.ipg_cert.specs.Checks.{atom_in, members_in, is_choice, plus_times, form_of_entry, zero_form}
 use Rattle.ipg_cert.specs.Checks.{sum_from, weighted_sum, is_absurd, combines, cases_of, refutes}
 use Rattle.ipg_cert.specs.declared.refutation.Step.{Step}
 use Rattle.ipg_cert.specs.declared.refutation.Step.TheVariants.{Combine, Split, Either}
-use Rattle.ipg_cert.proofs.Sums.{both_true, zero_sum, value_at-plus_times}
-use Rattle.ipg_cert.proofs.Told.{all_hold, all_hold-append, is_told}
+use Rattle.std.proofs.lemmas.Bool.{and_parts}
+use Rattle.ipg_cert.proofs.Sums.{zero_sum, value_at-plus_times}
+use Rattle.ipg_cert.specs.Told.{all_hold-append, is_told}
 
 pub le_test : (a b : ℤ) → up a + down b ≤ up b + down a → int_le a b ≡ true
 le_test a b h = elim (int_le a b) as (λ r. int_le a b ≡ r → r ≡ true) [ true ↦ λ e. refl | false ↦ λ e. absurd (omega (arith, ints)) ] refl
 
 fact_holds : (v : Assignment) (facts : List Fact) (k : ℕ) (fact : Fact) → all_hold v facts ≡ true → slice_get facts k ≡ Some fact → holds_fact v fact ≡ true
 fact_holds v [] k fact h at = absurd (cc)
-fact_holds v (f ∷ facts) zero fact h at = let e : f ≡ fact = cc in sym (ap (holds_fact v) e) ∙ (both_true _ _ h).0
-fact_holds v (f ∷ facts) (suc k) fact h at = fact_holds v facts k fact (both_true _ _ h).1 at
+fact_holds v (f ∷ facts) zero fact h at = let e : f ≡ fact = cc in sym (ap (holds_fact v) e) ∙ (and_parts _ _ h).0
+fact_holds v (f ∷ facts) (suc k) fact h at = fact_holds v facts k fact (and_parts _ _ h).1 at
 
 -- the form is at most 0
 abbrev AtMostZero : Assignment → Form → Type 0
@@ -62,8 +63,8 @@ sum_holds v facts h sum (entry ∷ entries) form low e =
 
 absurd_fails : (v : Assignment) (form : Form) → is_absurd (Some form) ≡ true → AtMostZero v form → ⊥
 absurd_fails v form h low =
-    let none : sum_at v form.terms ≡ pos 0 = zero_sum v form.terms (both_true _ _ h).0 in
-    let above : int_lt (pos 0) form.constant ≡ true = (both_true _ _ h).1 in
+    let none : sum_at v form.terms ≡ pos 0 = zero_sum v form.terms (and_parts _ _ h).0 in
+    let above : int_lt (pos 0) form.constant ≡ true = (and_parts _ _ h).1 in
     omega (arith, ints)
 
 none_is_not_absurd : (v : Assignment) (o : Option Form) → is_absurd o ≡ true → ((f : Form) → o ≡ Some f → AtMostZero v f) → ⊥
@@ -71,7 +72,7 @@ none_is_not_absurd v None h p = absurd (cc)
 none_is_not_absurd v (Some form) h p = absurd_fails v form h (p form refl)
 
 combine_fails : (v : Assignment) (facts : List Fact) (entries : List (ℕ × ℕ)) → combines entries facts ≡ true → all_hold v facts ≡ true → ⊥
-combine_fails v facts entries h hold = none_is_not_absurd v (weighted_sum facts entries) (both_true _ _ (both_true _ _ h).1).1
+combine_fails v facts entries h hold = none_is_not_absurd v (weighted_sum facts entries) (and_parts _ _ (and_parts _ _ h).1).1
     (λ form. sum_holds v facts hold zero_form entries form refl)
 
 below_holds : (v : Assignment) (x : ℕ) (at : ℤ) → int_le (v x) at ≡ true → all_hold v (at_most x at ∷ []) ≡ true
@@ -117,14 +118,14 @@ refutes_sound vars [] [] v h = tt
 refutes_sound vars [] (facts ∷ goals) v h = absurd (cc)
 refutes_sound vars (step ∷ steps) [] v h = tt
 refutes_sound vars (Combine entries ∷ steps) (facts ∷ goals) v h =
-    (combine_fails v facts entries (both_true _ _ h).0, refutes_sound vars steps goals v (both_true _ _ h).1)
+    (combine_fails v facts entries (and_parts _ _ h).0, refutes_sound vars steps goals v (and_parts _ _ h).1)
 refutes_sound vars (Split x at ∷ steps) (facts ∷ goals) v h =
-    let each = refutes_sound vars steps ((facts ++ at_most x at ∷ []) ∷ (facts ++ at_least x (at +ℤ pos 1) ∷ []) ∷ goals) v (both_true _ _ h).1 in
+    let each = refutes_sound vars steps ((facts ++ at_most x at ∷ []) ∷ (facts ++ at_least x (at +ℤ pos 1) ∷ []) ∷ goals) v (and_parts _ _ h).1 in
     (split_fails v x at facts each.0 each.1.0, each.1.1)
 refutes_sound vars (Either fact parts ∷ steps) (facts ∷ goals) v h =
     let members = members_in (slice_get facts fact) in
-    let each = all_fail_split v (cases_of facts members) goals (refutes_sound vars steps (cases_of facts members ++ goals) v (both_true _ _ h).1) in (
+    let each = all_fail_split v (cases_of facts members) goals (refutes_sound vars steps (cases_of facts members ++ goals) v (and_parts _ _ h).1) in (
       λ hold. cases_fail v facts members each.0 hold
-          (choice_holds v parts (slice_get facts fact) (λ f is. fact_holds v facts fact f hold is) (both_true _ _ h).0),
+          (choice_holds v parts (slice_get facts fact) (λ f is. fact_holds v facts fact f hold is) (and_parts _ _ h).0),
       each.1,
     )

@@ -12,14 +12,14 @@ use Rattle.ipg_cert.specs.declared.pos.Need.TheVariants.{Count, Weight, Fact, Va
 use Rattle.ipg_cert.specs.declared.pos.Number.{Number}
 use Rattle.ipg_cert.specs.declared.pos.Pos.{Pos}
 use Rattle.ipg_cert.specs.declared.pos.Pos.TheVariants.{Letter, Gap, First, Minus, Digits, Ended}
-use Rattle.ipg_cert.specs.declared.pos.Turn.{Turn}
-use Rattle.ipg_cert.specs.declared.pos.Turn.TheVariants.{Stuck, To, End}
+use Rattle.ipg_cert.specs.declared.pos.Transition.{Transition}
+use Rattle.ipg_cert.specs.declared.pos.Transition.TheVariants.{Stuck, To, End}
 use Rattle.ipg_cert.specs.declared.refutation.Step.{Step}
 use Rattle.ipg_cert.specs.declared.refutation.Step.TheVariants.{Combine, Split, Either}
 use Rattle.ipg_cert.specs.Words.{entry_words, step_words, spaced, words_of}
 use Rattle.ipg_cert.specs.Texts.{parts_of, AreTrees, IsWord, IsSignedWord, IsEntry, IsInRange, IsTextOf}
-use Rattle.ipg_cert.proofs.Sums.{both_true}
-use Rattle.ipg_cert.specs.Reader.{limit, may_be_zero, may_be_negative, is_digit, digit_value, signed, begun, grown, turn_at}
+use Rattle.std.proofs.lemmas.Bool.{and_parts}
+use Rattle.ipg_cert.specs.Reader.{limit, may_be_zero, may_be_negative, is_digit, digit_value, signed, begun, grown, transition_at}
 use Rattle.ipg_cert.specs.Reader.{State, spaced_to, parted, with_entry, entered, finished, taken, step, has_ended}
 
 -- ---- words
@@ -410,10 +410,10 @@ module _ (made : List Step) (entries : List (ℕ × ℕ)) (trees : ℕ) (words :
   abbrev standing : Pos → State
   standing p = record { made = made; entries = entries; open_trees = trees; pos = p }
 
-  abbrev Turned : Pos → Turn → Type 0
+  abbrev Turned : Pos → Transition → Type 0
   Turned p t = OnStep (taken t (standing p) b) (words ++ b ∷ [])
 
-  on_digits : (n : Number) → IsSound (standing (Digits n)) words → Turned (Digits n) (turn_at (Digits n) b)
+  on_digits : (n : Number) → IsSound (standing (Digits n)) words → Turned (Digits n) (transition_at (Digits n) b)
   on_digits n sound =
       let p : Pos = Digits n in
       let number = sound.at.1 in
@@ -421,7 +421,7 @@ module _ (made : List Step) (entries : List (ℕ × ℕ)) (trees : ℕ) (words :
       cond_both (is_digit b) (grown n value) (End n) (Turned p)
       (λ digit. cond_both (not (n.value == 0) && nat_le value (limit n.need n.negative)) _ Stuck (Turned p)
       (λ fits.
-      let (some, small) = both_true (not (n.value == 0)) (nat_le value (limit n.need n.negative)) fits in
+      let (some, small) = and_parts (not (n.value == 0)) (nat_le value (limit n.need n.negative)) fits in
       let least : 1 ≤ n.value = pos_of_ne-zero (eqb-false n.value 0 (is_not (n.value == 0) some)) in
       let within : value ≤ limit n.need n.negative = leb-true value (limit n.need n.negative) small in
       let word : value < 2 ^ 64 = omega (arith, within, limit_word n.need n.negative) in
@@ -455,20 +455,20 @@ module _ (made : List Step) (entries : List (ℕ × ℕ)) (trees : ℕ) (words :
   step_sound (First need) sound =
       cond_both (is_digit b && (may_be_zero need || not (b == 48))) (begun need false b) _ (Turned (First need))
       (λ e.
-      let (digit, some) = both_true (is_digit b) (may_be_zero need || not (b == 48)) e in
+      let (digit, some) = and_parts (is_digit b) (may_be_zero need || not (b == 48)) e in
       moved made entries trees (First need) words sound b entries (Digits (record { need = need; negative = false; value = digit_value b })) refl sound.entries
       (sound.at, begins_number need false b digit (or_not (may_be_zero need) (b == 48) some) (λ f. absurd (true≢false (sym f))))
       (ap (λ xs. before entries need ++ xs) (one_digit b digit)))
       (λ e. cond_both (may_be_negative need && b == 45) (To (Minus need)) Stuck (Turned (First need))
       (λ e.
-      let (may, minus) = both_true (may_be_negative need) (b == 45) e in
+      let (may, minus) = and_parts (may_be_negative need) (b == 45) e in
       moved made entries trees (First need) words sound b entries (Minus need) refl sound.entries (sound.at, may)
       (ap (λ x. before entries need ++ x ∷ []) (eqb-true b 45 minus)))
       (λ e. tt))
   step_sound (Minus need) sound =
       cond_both (is_digit b && not (b == 48)) (begun need true b) Stuck (Turned (Minus need))
       (λ e.
-      let (digit, some) = both_true (is_digit b) (not (b == 48)) e in
+      let (digit, some) = and_parts (is_digit b) (not (b == 48)) e in
       let least = is_not (b == 48) some in
       moved made entries trees (Minus need) words sound b entries (Digits (record { need = need; negative = true; value = digit_value b })) refl sound.entries
       (sound.at.0, begins_number need true b digit (λ f. least) (λ f. (least, sound.at.1)))

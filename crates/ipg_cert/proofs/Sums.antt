@@ -1,17 +1,14 @@
 -- A sum of facts: what it comes to under an assignment.
-use Rattle.std.proofs.Common.{◌≡◌, ℕ, zero, suc, ◌+◌, ◌*◌, ◌≤◌, Bool, eqb-true, eq-eqb, ◌⊎◌, inl, inr, true, false, cond, ◌&&◌}
+use Rattle.std.proofs.Common.{◌≡◌, ℕ, zero, suc, ◌+◌, ◌*◌, ◌≤◌, eqb-true, eq-eqb, ◌⊎◌, inl, inr, true, false, cond}
 use Rattle.std.proofs.Common.{nat_eq, ℤ, pos, ◌+ℤ◌, ◌*ℤ◌, List, [], ◌∷◌, ◌++◌, map, length, refl, sym, ◌∙◌, ap, subst, arith}
 use Rattle.std.specs.List.{list_all}
+use Rattle.std.proofs.lemmas.Bool.{and_parts}
 use Rattle.std.specs.Ordering.{int_eq}
 use Rattle.std.proofs.lemmas.Bool.Decides.{Decides-int_eq}
 use Rattle.std.proofs.lemmas.Int.{ints}
 use borrow.Author.Differences.{up, down, same_in, product_is}
 use Rattle.ipg_lin.specs.Form.{Form, Assignment, sum_at, value_at}
 use Rattle.ipg_cert.specs.Checks.{coefficient, plus_times}
-
-pub both_true : (a b : Bool) → (a && b) ≡ true → (a ≡ true) × (b ≡ true)
-both_true true b h = (refl, h)
-both_true false b h = absurd (cc)
 
 pub times_zero : (v : ℤ) → pos 0 *ℤ v ≡ pos 0
 times_zero v = same_in _ _ (omega (arith, product_is (pos 0) v))
@@ -140,8 +137,8 @@ pub zero_or_absent : (all ts : List (ℕ × ℤ)) → list_all (λ (t : ℕ × �
 zero_or_absent all [] h y = inr refl
 zero_or_absent all (t ∷ ts) h y =
     elim (nat_eq t.0 y) as (λ b. nat_eq t.0 y ≡ b → (coefficient y all ≡ pos 0) ⊎ (cond b t.1 (pos 0) +ℤ coefficient y ts ≡ pos 0)) [
-      | true ↦ λ e. inl (subst (λ n. coefficient n all ≡ pos 0) (eqb-true t.0 y e) ((Decides-int_eq (coefficient t.0 all) (pos 0)).0 (both_true _ _ h).0))
-      | false ↦ λ e. elim (zero_or_absent all ts (both_true _ _ h).1 y) [ inl z ↦ inl z | inr z ↦ inr (ap (λ c. pos 0 +ℤ c) z) ]
+      | true ↦ λ e. inl (subst (λ n. coefficient n all ≡ pos 0) (eqb-true t.0 y e) ((Decides-int_eq (coefficient t.0 all) (pos 0)).0 (and_parts _ _ h).0))
+      | false ↦ λ e. elim (zero_or_absent all ts (and_parts _ _ h).1 y) [ inl z ↦ inl z | inr z ↦ inr (ap (λ c. pos 0 +ℤ c) z) ]
     ] refl
 
 pub zero_sum : (v : Assignment) (ts : List (ℕ × ℤ)) → list_all (λ (t : ℕ × ℤ). int_eq (coefficient t.0 ts) (pos 0)) ts ≡ true → sum_at v ts ≡ pos 0

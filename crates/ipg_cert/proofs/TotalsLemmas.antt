@@ -1,7 +1,6 @@
 -- The sizes of totals, and a term more in a sum.
 use Rattle.std.proofs.Common.{◌≡◌, ℕ, suc, ◌+◌, ◌-◌, ◌*◌, ◌^◌, ◌≤◌, true, false, cond, ◌&&◌, nat_eq, nat_le, nat_lt, ℤ, pos}
 use Rattle.std.proofs.Common.{negsuc, ◌+ℤ◌, ◌*ℤ◌, List, [], ◌∷◌, length, get_or, take, drop, refl, ◌∙◌, ap, arith}
-use Rattle.std.specs.Prelude.{Result, Ok, Err, OnOk}
 use Rattle.std.specs.Int.RustNames.{unsigned_abs}
 use Rattle.std.proofs.Math.Nat.{mul-le-mul_left, mul-le-mul_right}
 use Rattle.std.proofs.lemmas.List.{take_all}
@@ -11,11 +10,8 @@ use borrow.Author.Differences.{same_in, product_is}
 use Rattle.ipg_lin.specs.Form.{are_coefficients}
 use Rattle.ipg_cert.specs.Checks.{coefficient}
 use Rattle.ipg_cert.specs.Totals.{total_at, AddsAt, AddsTerms, AreWithin}
-use Rattle.ipg_cert.proofs.Sums.{plus_times_right, both_true}
-
-pub on_ok : {A E : Type 0} (r : Result A E) (P Q : Type 0) → (P → Q) → OnOk r P → OnOk r Q
-on_ok (Ok a) P Q f p = f p
-on_ok (Err e) P Q f p = tt
+use Rattle.std.proofs.lemmas.Bool.{and_parts}
+use Rattle.ipg_cert.proofs.Sums.{plus_times_right}
 
 pub abs_add : (a b : ℤ) → unsigned_abs (a +ℤ b) ≤ unsigned_abs a + unsigned_abs b
 abs_add (pos a) (pos b) = omega (arith, ints)
@@ -24,13 +20,13 @@ abs_add (negsuc a) (pos b) = omega (arith, ints)
 abs_add (negsuc a) (negsuc b) = omega (arith, ints)
 
 pub is_small : (n : ℕ) → (nat_lt 0 n && nat_le n (2 ^ 40)) ≡ true → n ≤ 2 ^ 40
-is_small n h = leb-true n (2 ^ 40) (both_true (nat_lt 0 n) (nat_le n (2 ^ 40)) h).1
+is_small n h = leb-true n (2 ^ 40) (and_parts (nat_lt 0 n) (nat_le n (2 ^ 40)) h).1
 
 coefficient_size : (x : ℕ) (terms : List (ℕ × ℤ)) → are_coefficients terms ≡ true → unsigned_abs (coefficient x terms) ≤ length terms * 2 ^ 40
 coefficient_size x [] h = omega arith
 coefficient_size x (t ∷ terms) h =
-    let rest : unsigned_abs (coefficient x terms) ≤ length terms * 2 ^ 40 = coefficient_size x terms (both_true _ _ h).1 in
-    let small : unsigned_abs t.1 ≤ 2 ^ 40 = is_small (unsigned_abs t.1) (both_true _ _ h).0 in
+    let rest : unsigned_abs (coefficient x terms) ≤ length terms * 2 ^ 40 = coefficient_size x terms (and_parts _ _ h).1 in
+    let small : unsigned_abs t.1 ≤ 2 ^ 40 = is_small (unsigned_abs t.1) (and_parts _ _ h).0 in
     elim (nat_eq t.0 x) as (λ b. unsigned_abs (cond b t.1 (pos 0) +ℤ coefficient x terms) ≤ suc (length terms) * 2 ^ 40) [
       | true ↦ omega (arith, abs_add t.1 (coefficient x terms))
       | false ↦ omega (arith, abs_add (pos 0) (coefficient x terms))
@@ -60,11 +56,11 @@ others-cons t ts = take_all (length (t ∷ ts) - 1) ts (omega arith)
 
 pub first_small : (terms : List (ℕ × ℤ)) → 1 ≤ length terms → are_coefficients terms ≡ true → unsigned_abs (get_or terms 0 (0, pos 0)).1 ≤ 2 ^ 40
 first_small [] some h = absurd (omega arith)
-first_small (t ∷ ts) some h = is_small (unsigned_abs t.1) (both_true _ _ h).0
+first_small (t ∷ ts) some h = is_small (unsigned_abs t.1) (and_parts _ _ h).0
 
 pub others_small : (terms : List (ℕ × ℤ)) → are_coefficients terms ≡ true → are_coefficients (others terms) ≡ true
 others_small [] h = refl
-others_small (t ∷ ts) h = ap are_coefficients (others-cons t ts) ∙ (both_true _ _ h).1
+others_small (t ∷ ts) h = ap are_coefficients (others-cons t ts) ∙ (and_parts _ _ h).1
 
 -- a term in front of those that were added
 pub adds_more : (old mid new : List ℤ) (w : ℕ) (terms : List (ℕ × ℤ)) → 1 ≤ length terms → AddsTerms old mid w (others terms)

@@ -2,7 +2,7 @@
 use Rattle.std.specs.Prelude.{ℕ, ◌+◌, Bool, ℤ, pos, negsuc, neg_ℤ, int_le, List, [], ◌∷◌, map}
 use Rattle.std.specs.List.{flat_map}
 use Rattle.ipg_lin.specs.Form.{Form, Assignment, value_at}
-use Rattle.ipg_lin.specs.Formula.{holds_at, some}
+use Rattle.ipg_lin.specs.Formula.{holds_at, every, some}
 use Rattle.ipg_lin.specs.declared.formula.Formula.{Formula}
 use Rattle.ipg_lin.specs.declared.formula.Formula.TheVariants as formula
 use Rattle.ipg_lin.specs.declared.formula.Formula.TheOpen.{Formula-F}
@@ -17,6 +17,9 @@ pub data Fact : Type 0 where
 abbrev pub holds_fact : Assignment → Fact → Bool
 holds_fact values (AtMost form) = int_le (value_at values form) (pos 0)
 holds_fact values (Choice members) = some (map (holds_at values) members)
+
+abbrev pub all_hold : Assignment → List Fact → Bool
+all_hold values facts = every (map (holds_fact values) facts)
 
 -- a formula, and the facts that its members are
 pub record Told : Type 0 where

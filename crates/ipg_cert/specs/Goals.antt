@@ -5,21 +5,21 @@ use Rattle.ipg_cert.specs.Facts.{Fact, AtMost, Choice, facts_of}
 use Rattle.ipg_cert.specs.Checks.{refutes}
 use Rattle.ipg_cert.specs.Seen.{seen, all_seen}
 use Rattle.ipg_cert.specs.declared.refutation.Step.{Step}
-use Rattle.ipg_cert.specs.declared.known.Known.{Known}
-use Rattle.ipg_cert.specs.declared.known.Known.TheVariants as known
+use Rattle.ipg_cert.specs.declared.fact_ref.FactRef.{FactRef}
+use Rattle.ipg_cert.specs.declared.fact_ref.FactRef.TheVariants as fact_ref
 use Rattle.ipg_cert.specs.declared.goal.Goal.{Goal}
 use Rattle.ipg_cert.specs.declared.goal.Added.{Added}
 use Rattle.ipg_cert.specs.declared.goal.Added.TheVariants as added
 
 abbrev pub added_facts : Added → List Fact
-added_facts (added.Case bound) = seen (known.Limit bound) ∷ []
+added_facts (added.Case bound) = seen (fact_ref.Limit bound) ∷ []
 added_facts (added.Member member) = facts_of member.now
 
-abbrev pub facts_at : List Known → Goal → List Fact
+abbrev pub facts_at : List FactRef → Goal → List Fact
 facts_at facts goal = all_seen (take goal.kept facts) ++ added_facts goal.added
 
 -- the goals, the next one first
-abbrev pub open_goals : List Known → List Goal → List (List Fact)
+abbrev pub open_goals : List FactRef → List Goal → List (List Fact)
 open_goals facts goals = map (facts_at facts) (reverse goals)
 
 -- each goal keeps no more facts than the one that comes before it
@@ -31,11 +31,11 @@ abbrev pub AreOpen : ℕ → List Goal → Type 0
 AreOpen most goals = IsStack most (reverse goals)
 
 -- the facts of the goal are the facts that hold now, behind the front that it keeps
-abbrev pub Enters : List Known → List Known → Goal → Type 0
-Enters old new goal = ((more : List Known) × (new ≡ take goal.kept old ++ more)) × (all_seen new ≡ facts_at old goal)
+abbrev pub Enters : List FactRef → List FactRef → Goal → Type 0
+Enters old new goal = ((more : List FactRef) × (new ≡ take goal.kept old ++ more)) × (all_seen new ≡ facts_at old goal)
 
 -- the step closes the goal of these facts, if it may, and leaves these goals
-abbrev pub Steps : ℕ → Step → List Known → List Goal → List Goal → Bool → Type 0
+abbrev pub Steps : ℕ → Step → List FactRef → List Goal → List Goal → Bool → Type 0
 Steps vars step facts old new on =
     (steps : List Step) → refutes vars (step ∷ steps) (all_seen facts ∷ open_goals facts old) ≡ (on && refutes vars steps (open_goals facts new))
 
@@ -61,6 +61,6 @@ abbrev pub OpensEach : ℕ → List Formula → List Goal → List Goal → Type
 OpensEach kept members old new = (cases : List Goal) × (reverse new ≡ cases ++ reverse old) × AreCases kept members cases
 
 -- the next goal's facts are at hand, or there is none
-abbrev pub Nexts : List Known → List Known → List Goal → List Goal → Bool → Type 0
+abbrev pub Nexts : List FactRef → List FactRef → List Goal → List Goal → Bool → Type 0
 Nexts old new goals rest true = (open_goals old goals ≡ all_seen new ∷ open_goals new rest) × AreOpen (length new) rest
 Nexts old new goals rest false = open_goals old goals ≡ []

@@ -2,6 +2,7 @@
 pub mod Facts
 pub mod Checks
 pub mod Laws
+pub mod Told
 pub mod Words
 pub mod Texts
 pub mod Totals

@@ -6,8 +6,8 @@ use Rattle.ipg_cert.specs.declared.pos.Need.TheVariants.{Count, Weight, Fact, Va
 use Rattle.ipg_cert.specs.declared.pos.Number.{Number}
 use Rattle.ipg_cert.specs.declared.pos.Pos.{Pos}
 use Rattle.ipg_cert.specs.declared.pos.Pos.TheVariants.{Letter, Gap, First, Minus, Digits, Ended}
-use Rattle.ipg_cert.specs.declared.pos.Turn.{Turn}
-use Rattle.ipg_cert.specs.declared.pos.Turn.TheVariants.{Stuck, To, End}
+use Rattle.ipg_cert.specs.declared.pos.Transition.{Transition}
+use Rattle.ipg_cert.specs.declared.pos.Transition.TheVariants.{Stuck, To, End}
 use Rattle.ipg_cert.specs.declared.refutation.Step.{Step}
 use Rattle.ipg_cert.specs.declared.refutation.Step.TheVariants.{Combine, Split, Either}
 use Rattle.ipg_cert.specs.declared.words.WordFault.{WordFault}
@@ -54,38 +54,38 @@ signed negative value = if negative then neg_ℤ (pos value) else pos value
 
 -- ---- one byte
 
-abbrev pub letter_turn : ℕ → Turn
-letter_turn b = if b == 99 then To (Gap Count) else (if b == 115 then To (Gap Var) else (if b == 101 then To (Gap Choice) else Stuck))
+abbrev pub letter_transition : ℕ → Transition
+letter_transition b = if b == 99 then To (Gap Count) else (if b == 115 then To (Gap Var) else (if b == 101 then To (Gap Choice) else Stuck))
 
-abbrev pub gap_turn : Need → ℕ → Turn
-gap_turn need b = if b == 32 then To (First need) else Stuck
+abbrev pub gap_transition : Need → ℕ → Transition
+gap_transition need b = if b == 32 then To (First need) else Stuck
 
-abbrev pub begun : Need → Bool → ℕ → Turn
+abbrev pub begun : Need → Bool → ℕ → Transition
 begun need negative b = To (Digits (record { need = need; negative = negative; value = digit_value b }))
 
-abbrev pub first_turn : Need → ℕ → Turn
-first_turn need b =
+abbrev pub first_transition : Need → ℕ → Transition
+first_transition need b =
     if is_digit b && (may_be_zero need || not (b == 48)) then begun need false b else
     (if may_be_negative need && b == 45 then To (Minus need) else Stuck)
 
-abbrev pub minus_turn : Need → ℕ → Turn
-minus_turn need b = if is_digit b && not (b == 48) then begun need true b else Stuck
+abbrev pub minus_transition : Need → ℕ → Transition
+minus_transition need b = if is_digit b && not (b == 48) then begun need true b else Stuck
 
 -- a number with one digit more, where it stays within its limit; 0 has none
-abbrev pub grown : Number → ℕ → Turn
+abbrev pub grown : Number → ℕ → Transition
 grown n value =
     if not (n.value == 0) && nat_le value (limit n.need n.negative) then To (Digits (record { need = n.need; negative = n.negative; value = value })) else Stuck
 
-abbrev pub digit_turn : Number → ℕ → Turn
-digit_turn n b = if is_digit b then grown n (n.value * 10 + digit_value b) else End n
+abbrev pub digit_transition : Number → ℕ → Transition
+digit_transition n b = if is_digit b then grown n (n.value * 10 + digit_value b) else End n
 
-abbrev pub turn_at : Pos → ℕ → Turn
-turn_at Letter b = letter_turn b
-turn_at (Gap need) b = gap_turn need b
-turn_at (First need) b = first_turn need b
-turn_at (Minus need) b = minus_turn need b
-turn_at (Digits n) b = digit_turn n b
-turn_at Ended b = Stuck
+abbrev pub transition_at : Pos → ℕ → Transition
+transition_at Letter b = letter_transition b
+transition_at (Gap need) b = gap_transition need b
+transition_at (First need) b = first_transition need b
+transition_at (Minus need) b = minus_transition need b
+transition_at (Digits n) b = digit_transition n b
+transition_at Ended b = Stuck
 
 abbrev pub PosWithin : Pos → Type 0
 PosWithin Letter = Unit {0}
@@ -95,10 +95,10 @@ PosWithin (Minus need) = Unit {0}
 PosWithin (Digits n) = n.value ≤ limit n.need n.negative
 PosWithin Ended = Unit {0}
 
-abbrev pub TurnWithin : Turn → Type 0
-TurnWithin Stuck = Unit {0}
-TurnWithin (To p) = PosWithin p
-TurnWithin (End n) = n.value ≤ limit n.need n.negative
+abbrev pub TransitionWithin : Transition → Type 0
+TransitionWithin Stuck = Unit {0}
+TransitionWithin (To p) = PosWithin p
+TransitionWithin (End n) = n.value ≤ limit n.need n.negative
 
 -- ---- the words so far
 
@@ -144,13 +144,13 @@ finished st (At var) s v b = parted (with_step st (Split var (signed s v))) b
 finished st Choice s v b = spaced_to st (Parts v) b
 finished st (Parts fact) s v b = parted (with_step st (Either fact v)) b
 
-abbrev pub taken : Turn → State → ℕ → Option State
+abbrev pub taken : Transition → State → ℕ → Option State
 taken Stuck st b = None
 taken (To p) st b = Some (at_pos st p)
 taken (End n) st b = finished st n.need n.negative n.value b
 
 abbrev pub step : State → ℕ → Option State
-step st b = taken (turn_at st.pos b) st b
+step st b = taken (transition_at st.pos b) st b
 
 -- ---- all bytes
 

@@ -5,19 +5,19 @@ use Rattle.ipg_lin.specs.Form.{Form}
 use Rattle.ipg_cert.specs.Facts.{Fact, AtMost, Choice}
 use Rattle.ipg_cert.specs.Totals.{total_at, AddsTerms, AreWithin}
 use Rattle.ipg_cert.specs.Checks.{coefficient, sum_from, weighted_sum}
-use Rattle.ipg_cert.specs.declared.known.Bound.{Bound}
-use Rattle.ipg_cert.specs.declared.known.Known.{Known}
-use Rattle.ipg_cert.specs.declared.known.Known.TheVariants as known
+use Rattle.ipg_cert.specs.declared.fact_ref.Bound.{Bound}
+use Rattle.ipg_cert.specs.declared.fact_ref.FactRef.{FactRef}
+use Rattle.ipg_cert.specs.declared.fact_ref.FactRef.TheVariants as fact_ref
 
 abbrev pub form_of : Bound → Form
 form_of bound = record { terms = (bound.var, bound.sign) ∷ []; constant = bound.constant }
 
-abbrev pub seen : Known → Fact
-seen (known.Limit bound) = AtMost (form_of bound)
-seen (known.Atom form) = AtMost form.now
-seen (known.Choice members) = Choice members.now
+abbrev pub seen : FactRef → Fact
+seen (fact_ref.Limit bound) = AtMost (form_of bound)
+seen (fact_ref.Atom form) = AtMost form.now
+seen (fact_ref.Choice members) = Choice members.now
 
-abbrev pub all_seen : List Known → List Fact
+abbrev pub all_seen : List FactRef → List Fact
 all_seen facts = map seen facts
 
 -- w times the form is added to the totals, and this is w times its constant
@@ -59,5 +59,5 @@ pub record Progress (facts : List Fact) (left entries : List (ℕ × ℕ)) (coun
   pub size : unsigned_abs constant ≤ count * 2 ^ 103
 
 -- facts were put behind the old ones, which stay
-abbrev pub Appends : List Known → List Known → List Fact → Type 0
-Appends old new facts = (more : List Known) × (new ≡ old ++ more) × (all_seen more ≡ facts)
+abbrev pub Appends : List FactRef → List FactRef → List Fact → Type 0
+Appends old new facts = (more : List FactRef) × (new ≡ old ++ more) × (all_seen more ≡ facts)

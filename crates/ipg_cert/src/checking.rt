@@ -6,9 +6,9 @@ ghost use Rattle.ipg_cert.specs.Seen.{all_seen, AreZero};
 ghost use Rattle.ipg_cert.specs.Goals.{open_goals, AreOpen, Steps, choice_in, OpensEach, Nexts};
 ghost use Rattle.ipg_cert.specs.declared.refutation.Step.TheVariants.{Split as Splits, Either as Eithers};
 
-use crate::facts::{add_bounds, enter};
+use crate::fact_ref::{Bound, FactRef};
+use crate::gathering::{add_bounds, enter};
 use crate::goal::{Added, Goal};
-use crate::known::{Bound, Known};
 use crate::refutation::{Refutation, Step};
 use crate::weigh::combine;
 use ipg_lin::{Boxed, Formula};
@@ -20,7 +20,7 @@ fn split<'a>(
     vars: u64,
     var: u64,
     at: i64,
-    known: &[Known<'a>],
+    known: &[FactRef<'a>],
     goals: &mut Vec<Goal<'a>>,
 ) -> Result<bool, AllocError>
     ensures steps { IfOk result (λ on. Steps vars (Splits var at) known.now goals.old.items goals.new.items on) }
@@ -48,7 +48,7 @@ fn push_goal<'a>(goals: &mut Vec<Goal<'a>>, kept: usize, added: Added<'a>) -> Re
 fn either<'a>(
     fact: u64,
     parts: u64,
-    known: &[Known<'a>],
+    known: &[FactRef<'a>],
     goals: &mut Vec<Goal<'a>>,
 ) -> Result<bool, AllocError>
     ensures steps { (vars : ℕ) → IfOk result (λ on. Steps vars (Eithers fact parts) known.now goals.old.items goals.new.items on) }
@@ -65,11 +65,11 @@ fn either<'a>(
 }
 
 /// The members of the Any that is fact number `fact`.
-fn members_of<'a>(known: &[Known<'a>], fact: u64) -> Option<&'a [Formula]>
+fn members_of<'a>(known: &[FactRef<'a>], fact: u64) -> Option<&'a [Formula]>
     ensures { option_map (λ ms. ms.now) result ≡ choice_in (slice_get (all_seen known.now) fact) }
 {
     match item_at(known, fact as usize) {
-        Some(Known::Choice(members)) => Some(*members),
+        Some(FactRef::Choice(members)) => Some(*members),
         _ => None,
     }
 }
@@ -91,7 +91,7 @@ fn open_members<'a>(
 }
 
 /// Takes the next goal off, and brings its facts to hand.
-fn next<'a>(known: &mut Vec<Known<'a>>, goals: &mut Vec<Goal<'a>>) -> Result<bool, AllocError>
+fn next<'a>(known: &mut Vec<FactRef<'a>>, goals: &mut Vec<Goal<'a>>) -> Result<bool, AllocError>
     requires { AreOpen (length known.old.items) goals.old.items }
     ensures { IfOk result (λ on. Nexts known.old.items known.new.items goals.old.items goals.new.items on) }
 {
@@ -106,7 +106,7 @@ fn next<'a>(known: &mut Vec<Known<'a>>, goals: &mut Vec<Goal<'a>>) -> Result<boo
 fn take_step<'a>(
     vars: u64,
     step: &Step,
-    known: &[Known<'a>],
+    known: &[FactRef<'a>],
     goals: &mut Vec<Goal<'a>>,
     totals: &mut Vec<i128>,
 ) -> Result<bool, AllocError>
@@ -126,7 +126,7 @@ fn take_step<'a>(
 fn run<'a>(
     vars: u64,
     steps: &[Step],
-    known: &mut Vec<Known<'a>>,
+    known: &mut Vec<FactRef<'a>>,
     goals: &mut Vec<Goal<'a>>,
     totals: &mut Vec<i128>,
 ) -> Result<bool, AllocError>

@@ -1,4 +1,4 @@
-use crate::known::Bound;
+use crate::fact_ref::Bound;
 use ipg_lin::Formula;
 
 /// What a case adds to the facts.

@@ -2,9 +2,9 @@
 #![tactic(auto)]
 
 mod checking;
-mod facts;
+mod fact_ref;
+mod gathering;
 mod goal;
-mod known;
 pub mod laws;
 mod pos;
 mod refutation;
@@ -14,8 +14,8 @@ mod weigh;
 mod words;
 
 pub use checking::check;
-pub use facts::{add_formula, root_facts};
-pub use known::{Bound, Known};
+pub use fact_ref::{Bound, FactRef};
+pub use gathering::{add_formula, root_facts};
 pub use refutation::{Refutation, Step};
 pub use text::refutation_text;
 pub use weigh::{MOST_ENTRIES, combines};

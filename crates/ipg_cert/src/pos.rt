@@ -1,7 +1,7 @@
 //! Where a reader of a refutation's words stands, and where a byte takes it.
 ghost use Rattle.std.specs.Prelude.{◌≡◌, ◌≤◌, ◌+◌, ◌*◌};
-ghost use Rattle.ipg_cert.specs.Reader.{limit, may_be_zero, may_be_negative, is_digit, digit_value, begun, letter_turn, gap_turn};
-ghost use Rattle.ipg_cert.specs.Reader.{first_turn, minus_turn, grown, digit_turn, turn_at, has_ended, PosWithin, TurnWithin};
+ghost use Rattle.ipg_cert.specs.Reader.{limit, may_be_zero, may_be_negative, is_digit, digit_value, begun, letter_transition, gap_transition};
+ghost use Rattle.ipg_cert.specs.Reader.{first_transition, minus_transition, grown, digit_transition, transition_at, has_ended, PosWithin, TransitionWithin};
 
 /// A number of a step that is due.
 #[derive(Clone, Copy)]
@@ -55,9 +55,9 @@ impl Pos {
     }
 }
 
-/// What a byte does.
+/// What a byte does to a reader.
 #[derive(Clone, Copy)]
-pub enum Turn {
+pub enum Transition {
     /// No words go on so.
     Stuck,
     To(Pos),
@@ -99,90 +99,90 @@ fn value_of(b: u8) -> u64
     u64::from(b.saturating_sub(b'0'))
 }
 
-fn at_letter(b: u8) -> Turn
-    ensures { result ≡ letter_turn b }
+fn at_letter(b: u8) -> Transition
+    ensures { result ≡ letter_transition b }
 {
     match b {
-        b'c' => Turn::To(Pos::Gap(Need::Count)),
-        b's' => Turn::To(Pos::Gap(Need::Var)),
-        b'e' => Turn::To(Pos::Gap(Need::Choice)),
-        _ => Turn::Stuck,
+        b'c' => Transition::To(Pos::Gap(Need::Count)),
+        b's' => Transition::To(Pos::Gap(Need::Var)),
+        b'e' => Transition::To(Pos::Gap(Need::Choice)),
+        _ => Transition::Stuck,
     }
 }
 
-fn at_gap(need: Need, b: u8) -> Turn
-    ensures { result ≡ gap_turn need b }
+fn at_gap(need: Need, b: u8) -> Transition
+    ensures { result ≡ gap_transition need b }
 {
     if b == b' ' {
-        Turn::To(Pos::First(need))
+        Transition::To(Pos::First(need))
     } else {
-        Turn::Stuck
+        Transition::Stuck
     }
 }
 
-fn begun(need: Need, negative: bool, b: u8) -> Turn
+fn begun(need: Need, negative: bool, b: u8) -> Transition
     ensures { result ≡ begun need negative b }
 {
-    Turn::To(Pos::Digits(Number {
+    Transition::To(Pos::Digits(Number {
         need,
         negative,
         value: value_of(b),
     }))
 }
 
-fn at_first(need: Need, b: u8) -> Turn
-    ensures { result ≡ first_turn need b }
+fn at_first(need: Need, b: u8) -> Transition
+    ensures { result ≡ first_transition need b }
 {
     if is_digit(b) && (allows_zero(need) || b != b'0') {
         begun(need, false, b)
     } else if allows_minus(need) && b == b'-' {
-        Turn::To(Pos::Minus(need))
+        Transition::To(Pos::Minus(need))
     } else {
-        Turn::Stuck
+        Transition::Stuck
     }
 }
 
-fn at_minus(need: Need, b: u8) -> Turn
-    ensures { result ≡ minus_turn need b }
+fn at_minus(need: Need, b: u8) -> Transition
+    ensures { result ≡ minus_transition need b }
 {
     if is_digit(b) && b != b'0' {
         begun(need, true, b)
     } else {
-        Turn::Stuck
+        Transition::Stuck
     }
 }
 
 /// One digit more, where the number stays within its limit; 0 has none.
-fn grow(n: Number, digit: u64) -> Turn
+fn grow(n: Number, digit: u64) -> Transition
     requires { digit ≤ 207 }
     ensures { result ≡ grown n (n.value * 10 + digit) }
 {
     let value = u128::from(n.value) * 10 + u128::from(digit);
     if n.value != 0 && value <= u128::from(limit_of(n.need, n.negative)) {
-        Turn::To(Pos::Digits(Number {
+        Transition::To(Pos::Digits(Number {
             value: value as u64,
             ..n
         }))
     } else {
-        Turn::Stuck
+        Transition::Stuck
     }
 }
 
-fn at_digits(n: Number, b: u8) -> Turn
-    ensures { result ≡ digit_turn n b }
+fn at_digits(n: Number, b: u8) -> Transition
+    ensures { result ≡ digit_transition n b }
 {
     if is_digit(b) {
         grow(n, value_of(b))
     } else {
-        Turn::End(n)
+        Transition::End(n)
     }
 }
 
 /// Where a byte takes a reader at this place.
-pub fn turn_at(pos: Pos, b: u8) -> Turn
+pub fn transition_at(pos: Pos, b: u8) -> Transition
     requires within { PosWithin pos }
-    ensures is { result ≡ turn_at pos b }
-    ensures within { TurnWithin result }
+    ensures is { result ≡ transition_at pos b }
+    ensures within { TransitionWithin result }
 {
     match pos {
         Pos::Letter => at_letter(b),
@@ -190,6 +190,6 @@ pub fn turn_at(pos: Pos, b: u8) -> Turn
         Pos::First(need) => at_first(need, b),
         Pos::Minus(need) => at_minus(need, b),
         Pos::Digits(n) => at_digits(n, b),
-        Pos::Ended => Turn::Stuck,
+        Pos::Ended => Transition::Stuck,
     }
 }

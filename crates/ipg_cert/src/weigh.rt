@@ -8,7 +8,7 @@ ghost use Rattle.ipg_cert.specs.Checks.{atom_in, form_of_entry, weighted_sum, co
 ghost use Rattle.ipg_cert.specs.Totals.{total_at, AddsTerms, AreWithin};
 ghost use Rattle.ipg_cert.specs.Seen.{form_of, seen, all_seen, Weighs, AreZero, Sums};
 
-use crate::known::{Bound, Known};
+use crate::fact_ref::{Bound, FactRef};
 use crate::sum::{add_terms, weighted};
 use ipg_lin::Linear;
 use ipg_lin::sum::{LARGEST, plus};
@@ -56,15 +56,15 @@ fn add_bound(totals: &mut Vec<i128>, weight: u64, bound: &Bound) -> Result<i128,
 }
 
 /// Adds `weight` times the form of a fact, and gives `weight` times its constant, if the fact is an atom.
-fn add_fact(totals: &mut Vec<i128>, weight: u64, fact: &Known) -> Result<Option<i128>, AllocError>
+fn add_fact(totals: &mut Vec<i128>, weight: u64, fact: &FactRef) -> Result<Option<i128>, AllocError>
     requires weight { weight ≤ 2 ^ 40 }
     requires size { AreWithin (2 ^ 120) totals.old.items }
     ensures { IfOk result (λ found. Weighs weight totals.old.items totals.new.items found (atom_in (Some (seen fact.now)))) }
 {
     match fact {
-        Known::Limit(bound) => Ok(Some(add_bound(totals, weight, bound)?)),
-        Known::Atom(form) => Ok(Some(add_form(totals, weight, form)?)),
-        Known::Choice(_) => Ok(None),
+        FactRef::Limit(bound) => Ok(Some(add_bound(totals, weight, bound)?)),
+        FactRef::Atom(form) => Ok(Some(add_form(totals, weight, form)?)),
+        FactRef::Choice(_) => Ok(None),
     }
 }
 
@@ -81,7 +81,7 @@ fn add_form(totals: &mut Vec<i128>, weight: u64, form: &Linear) -> Result<i128, 
 /// Adds what an entry names, and gives its weighted constant, if the weight is in range and the fact an atom.
 fn add_entry(
     totals: &mut Vec<i128>,
-    known: &[Known],
+    known: &[FactRef],
     entry: &(u64, u64),
 ) -> Result<Option<i128>, AllocError>
     requires { AreWithin (2 ^ 120) totals.old.items }
@@ -99,7 +99,7 @@ fn add_entry(
 /// The weighted sum of the entries: its totals, and its constant.
 fn weigh(
     entries: &[(u64, u64)],
-    known: &[Known],
+    known: &[FactRef],
     totals: &mut Vec<i128>,
 ) -> Result<Option<i128>, AllocError>
     requires few { length entries.now ≤ 2 ^ 21 }
@@ -133,7 +133,7 @@ fn is_absurd(totals: &[i128], constant: i128) -> bool
 /// nor after a yes.
 pub fn combine(
     entries: &[(u64, u64)],
-    known: &[Known],
+    known: &[FactRef],
     totals: &mut Vec<i128>,
 ) -> Result<bool, AllocError>
     requires { AreZero totals.old.items }
@@ -150,7 +150,11 @@ pub fn combine(
 }
 
 /// Whether the Combine of these entries refutes the facts.
-pub fn combines(alloc: Global, entries: &[(u64, u64)], known: &[Known]) -> Result<bool, AllocError>
+pub fn combines(
+    alloc: Global,
+    entries: &[(u64, u64)],
+    known: &[FactRef],
+) -> Result<bool, AllocError>
     ensures { IfOk result (λ yes. yes ≡ combines entries.now (all_seen known.now)) }
 {
     let mut totals = Vec::new(alloc);

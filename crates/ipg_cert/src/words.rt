@@ -8,7 +8,7 @@ ghost use Rattle.ipg_cert.specs.Reading.{seen};
 ghost use Rattle.ipg_cert.specs.declared.refutation.Step.{Step};
 ghost use Rattle.ipg_cert.specs.declared.words.WordFault.TheVariants.{Memory};
 
-use crate::pos::{Need, Number, Pos, Turn, turn_at};
+use crate::pos::{Need, Number, Pos, Transition, transition_at};
 use crate::refutation::{Refutation, Step};
 use ipg_num::List;
 use std::alloc::{AllocError, Global};
@@ -183,13 +183,13 @@ impl Reader {
         ensures within { IfOk result (λ _. PosWithin self.new.pos) }
         ensures grows { IfOk result (λ _. self.new.open_trees ≤ self.old.open_trees + 2 ^ 64) }
     {
-        match turn_at(self.pos, b) {
-            Turn::Stuck => Ok(false),
-            Turn::To(pos) => {
+        match transition_at(self.pos, b) {
+            Transition::Stuck => Ok(false),
+            Transition::To(pos) => {
                 self.pos = pos;
                 Ok(true)
             }
-            Turn::End(n) => self.finish(n, b),
+            Transition::End(n) => self.finish(n, b),
         }
     }
 }

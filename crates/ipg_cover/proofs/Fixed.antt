@@ -10,9 +10,9 @@ use Rattle.ipg_cert.specs.declared.refutation.Refutation.{Refutation}
 use Rattle.ipg_cert.specs.Laws.{ChecksRefute}
 use Rattle.ipg_solve.specs.declared.decision.Decision.{Decision}
 use Rattle.ipg_solve.specs.declared.decision.Decision.TheVariants.{Solution, Refuted}
-use Rattle.ipg_solve_least.specs.Least.{IsLeast, Settles}
+use Rattle.ipg_solve_values.specs.Least.{IsLeast, Settles}
 use Rattle.ipg_cover.specs.Cover.{IsLeastGap}
-use Rattle.ipg_cover.specs.Found.{IsLeastLength, fixed}
+use Rattle.ipg_cover.specs.Gaps.{IsLeastLength, fixed}
 
 abbrev Lies : Assignment → List (ℤ × ℤ) → Type 0
 Lies values bounds = (x : ℕ) (low high : ℤ) → slice_get bounds x ≡ Some (low, high) → (low ≤ℤ values x) × (values x ≤ℤ high)

@@ -14,9 +14,9 @@ use Rattle.ipg_facts_edges.specs.Edges.{numbered}
 use Rattle.ipg_facts.specs.Keep.{alt_of}
 use Rattle.ipg_facts.specs.Gap.{HasAlternative}
 use Rattle.std.proofs.lemmas.List.{take_all, take_more, take-append-drop}
-use Rattle.ipg_cover.specs.declared.least.Found.{Found}
-use Rattle.ipg_cover.specs.declared.least.Found.TheVariants.{Refuted, Gap}
-use Rattle.ipg_cover.specs.Found.{IsFound}
+use Rattle.ipg_cover.specs.declared.least.LeastGap.{LeastGap}
+use Rattle.ipg_cover.specs.declared.least.LeastGap.TheVariants.{Refuted, Gap}
+use Rattle.ipg_cover.specs.Gaps.{TellsGap}
 use Rattle.ipg_cover.specs.Cover.{Leaves, AreRefuted, Ground, Covers, IsLeastGap, HasGap, alternatives, alternatives_of, gap_at}
 
 module _ (g : Grammar) (marks : Marks) where
@@ -77,15 +77,15 @@ one_there g (p ∷ places) (suc i) d lt h = one_there g places i d (omega arith)
 
 -- ---- what was found of one
 
-pub found_gap : (g : Grammar) (read marks : Marks) → read ≡ marks → (place : ℕ × ℕ) (found : Found) (at eoi : ℤ) → found ≡ Gap at eoi
-    → IsFound (gap_at g read place) found → IsLeastGap (gap_at g marks place) at eoi
+pub found_gap : (g : Grammar) (read marks : Marks) → read ≡ marks → (place : ℕ × ℕ) (found : LeastGap) (at eoi : ℤ) → found ≡ Gap at eoi
+    → TellsGap (gap_at g read place) found → IsLeastGap (gap_at g marks place) at eoi
 found_gap g read marks same place found at eoi e h =
-    subst (λ m. IsLeastGap (gap_at g m place) at eoi) same (subst (IsFound (gap_at g read place)) e h)
+    subst (λ m. IsLeastGap (gap_at g m place) at eoi) same (subst (TellsGap (gap_at g read place)) e h)
 
-pub found_refuted : (g : Grammar) (read marks : Marks) → read ≡ marks → (place : ℕ × ℕ) (found : Found) (r : Refutation) → found ≡ Refuted r
-    → IsFound (gap_at g read place) found → IsTrue (checks (gap_at g marks place).0 (gap_at g marks place).1 r)
+pub found_refuted : (g : Grammar) (read marks : Marks) → read ≡ marks → (place : ℕ × ℕ) (found : LeastGap) (r : Refutation) → found ≡ Refuted r
+    → TellsGap (gap_at g read place) found → IsTrue (checks (gap_at g marks place).0 (gap_at g marks place).1 r)
 found_refuted g read marks same place found r e h =
-    subst (λ m. IsTrue (checks (gap_at g m place).0 (gap_at g m place).1 r)) same (subst (IsFound (gap_at g read place)) e h)
+    subst (λ m. IsTrue (checks (gap_at g m place).0 (gap_at g m place).1 r)) same (subst (TellsGap (gap_at g read place)) e h)
 
 -- ---- what comes of it
 

@@ -5,4 +5,4 @@ pub mod Cover
 pub mod Laws
 -- what functions inside the crate promise each other
 pub mod Pass
-pub mod Found
+pub mod Gaps

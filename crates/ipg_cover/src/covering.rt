@@ -4,10 +4,10 @@ ghost use Rattle.std.specs.Prelude.{IfOk};
 ghost use Rattle.ipg_core.specs.MustTouch.{AreLimit};
 ghost use Rattle.ipg_facts.specs.Gap.{HasAlternative};
 ghost use Rattle.ipg_cover.specs.Cover.{IsCover, gap_at};
-ghost use Rattle.ipg_cover.specs.Found.{IsFound};
+ghost use Rattle.ipg_cover.specs.Gaps.{TellsGap};
 
 use crate::answer::Cover;
-use crate::least::{Found, least_gap};
+use crate::least::{LeastGap, least_gap};
 use crate::listing::alternatives;
 use crate::reach::reached;
 use ipg_cert::laws::checks_refute;
@@ -19,9 +19,9 @@ use ipg_touch::must_touch;
 use std::alloc::{AllocError, Global};
 
 /// What there is of the gap of an alternative.
-fn gap_of(alloc: Global, g: &Core, marks: &[bool], place: (u32, u32)) -> Result<Found, AllocError>
+fn gap_of(alloc: Global, g: &Core, marks: &[bool], place: (u32, u32)) -> Result<LeastGap, AllocError>
     requires { HasAlternative g.now place.0 place.1 }
-    ensures { IfOk result (IsFound (gap_at g.now marks.now place)) }
+    ensures { IfOk result (TellsGap (gap_at g.now marks.now place)) }
 {
     gaps_are_bounded();
     let part = gap(alloc, g, marks, place.0, place.1)?;
@@ -42,8 +42,8 @@ pub fn cover(alloc: Global, g: &Checked) -> Result<Cover, AllocError>
     let mut refutations = List::new(alloc);
     for place in places.as_slice() {
         match gap_of(alloc, core, marks.as_slice(), *place)? {
-            Found::Refuted(r) => refutations.push(r)?,
-            Found::Gap { at, eoi } => {
+            LeastGap::Refuted(r) => refutations.push(r)?,
+            LeastGap::Gap { at, eoi } => {
                 return Ok(Cover::MayGap {
                     rule: place.0,
                     alt: place.1,

@@ -20,9 +20,9 @@ use Rattle.ipg_cert.specs.declared.refutation.Step.TheVariants.{Combine, Split, 
 use Rattle.ipg_cert.specs.declared.refutation.Refutation.{Refutation}
 use Rattle.ipg_cert.specs.Facts.{Fact, AtMost, Choice, Told, told_step, facts_of, at_least, at_most, bound_facts}
 use Rattle.ipg_cert.specs.Checks.{combines, is_choice, members_in, cases_of, refutes, root_facts, checks}
-use Rattle.ipg_solve.specs.declared.span.Span.{Span}
-use Rattle.ipg_solve.specs.Spans.{span_at, end_of, least}
-use Rattle.ipg_solve.specs.Closes.{entry_of, AreSpans}
+use Rattle.ipg_solve.specs.declared.domain.Domain.{Domain}
+use Rattle.ipg_solve.specs.Domains.{domain_at, end_of, least}
+use Rattle.ipg_solve.specs.Closes.{entry_of, AreDomains}
 use Rattle.ipg_facts_laws.specs.Light.{is_light, light_step, AreOrdered}
 use Rattle.ipg_solve.specs.Laws.{EndsCombine}
 
@@ -146,20 +146,20 @@ of_any fs = ap (λ (t : Told). t.facts) (folds-Any Told told_step fs) ∙ ap (λ
 
 -- ---- where each variable has one value, some atom is ruled out
 
-abbrev at_pins : List Span → Assignment
-at_pins pins x = (span_at pins x).low
+abbrev at_pins : List Domain → Assignment
+at_pins pins x = (domain_at pins x).low
 
-abbrev AreExact : List Span → Type 0
-AreExact pins = (x : ℕ) → x < length pins → (span_at pins x).high ≡ (span_at pins x).low
+abbrev AreExact : List Domain → Type 0
+AreExact pins = (x : ℕ) → x < length pins → (domain_at pins x).high ≡ (domain_at pins x).low
 
-end_is : (span : Span) (c : ℤ) → span.high ≡ span.low → end_of span c ≡ span.low
-end_is span (pos c) e = refl
-end_is span (negsuc c) e = e
+end_is : (domain : Domain) (c : ℤ) → domain.high ≡ domain.low → end_of domain c ≡ domain.low
+end_is domain (pos c) e = refl
+end_is domain (negsuc c) e = e
 
-least_is : (pins : List Span) → AreExact pins → (terms : List (ℕ × ℤ)) → terms_width terms ≤ length pins → least pins terms ≡ sum_at (at_pins pins) terms
+least_is : (pins : List Domain) → AreExact pins → (terms : List (ℕ × ℤ)) → terms_width terms ≤ length pins → least pins terms ≡ sum_at (at_pins pins) terms
 least_is pins exact [] within = refl
 least_is pins exact (term ∷ terms) within =
-    let e = end_is (span_at pins term.0) term.1 (exact term.0 (omega (arith, within))) in
+    let e = end_is (domain_at pins term.0) term.1 (exact term.0 (omega (arith, within))) in
     ap (λ z. (term.1 *ℤ z) +ℤ least pins terms) e
     ∙ ap (λ z. (term.1 *ℤ at_pins pins term.0) +ℤ z) (least_is pins exact terms (omega (arith, within)))
 
@@ -170,9 +170,9 @@ or_false : (a b : Bool) → a || b ≡ false → (a ≡ false) × (b ≡ false)
 or_false true b e = absurd (cc)
 or_false false b e = (refl, e)
 
-module _ (ends : EndsCombine) (vars : ℕ) (pins : List Span) (exact : AreExact pins) where
+module _ (ends : EndsCombine) (vars : ℕ) (pins : List Domain) (exact : AreExact pins) where
   abbrev IsClosed : Formula → Type 0
-  IsClosed f = (facts : List Fact) → AreSpans facts pins → is_light f ≡ true → width f ≤ length pins → holds_at (at_pins pins) f ≡ false
+  IsClosed f = (facts : List Fact) → AreDomains facts pins → is_light f ≡ true → width f ≤ length pins → holds_at (at_pins pins) f ≡ false
       → Have facts (facts_of f) → Refutable vars facts
 
   close_atom : (form : Form) → IsClosed (formula.Atom form)
@@ -188,7 +188,7 @@ module _ (ends : EndsCombine) (vars : ℕ) (pins : List Span) (exact : AreExact 
       is_few : (n : ℕ) → nat_le n 64 ≡ true → n ≤ 64
       is_few n e = grind (arith, nat_tests)
 
-  close_one : (fs : List Formula) → AllByRecursion IsClosed fs → (facts : List Fact) → AreSpans facts pins → every (map is_light fs) ≡ true
+  close_one : (fs : List Formula) → AllByRecursion IsClosed fs → (facts : List Fact) → AreDomains facts pins → every (map is_light fs) ≡ true
       → greatest (map width fs) ≤ length pins → every (map (holds_at (at_pins pins)) fs) ≡ false → Have facts (flat_map facts_of fs) → Refutable vars facts
   close_one [] each facts are light within fails have = absurd (cc)
   close_one (f ∷ fs) each facts are light within fails have =
@@ -208,10 +208,10 @@ module _ (ends : EndsCombine) (vars : ℕ) (pins : List Span) (exact : AreExact 
       close_one fs each facts are (sym (folds-All Bool light_step fs) ∙ light) (subst (λ n. n ≤ length pins) (folds-All ℕ width_step fs) within)
       (sym (folds-All Bool (holds_step (at_pins pins)) fs) ∙ fails) (subst (Have facts) (of_all fs) have)
 
-  still : (facts more : List Fact) → AreSpans facts pins → AreSpans (facts ++ more) pins
+  still : (facts more : List Fact) → AreDomains facts pins → AreDomains (facts ++ more) pins
   still facts more are x within = (in_front facts more _ _ (are x within).0, in_front facts more _ _ (are x within).1)
 
-  close_each : (fs : List Formula) → AllByRecursion IsClosed fs → (facts : List Fact) → AreSpans facts pins → every (map is_light fs) ≡ true
+  close_each : (fs : List Formula) → AllByRecursion IsClosed fs → (facts : List Fact) → AreDomains facts pins → every (map is_light fs) ≡ true
       → greatest (map width fs) ≤ length pins → some (map (holds_at (at_pins pins)) fs) ≡ false
       → AllByRecursion (λ m. Refutable vars (facts ++ facts_of m)) fs
   close_each [] each facts are light within fails = tt
@@ -271,13 +271,13 @@ module _ (ends : EndsCombine) (f : Formula) (box : Boxed) (ordered : AreOrdered 
   root = root_facts f box
 
   -- the variables from k on have values within their bounds
-  record ArePinned (k : ℕ) (facts : List Fact) (pins : List Span) : Type 0 where
+  record ArePinned (k : ℕ) (facts : List Fact) (pins : List Domain) : Type 0 where
     pub count : k + length pins ≡ vars
-    pub stand : (x : ℕ) → x < length pins → (slice_get facts (span_at pins x).low_at ≡ Some (at_least (k + x) (span_at pins x).low))
-        × (slice_get facts (span_at pins x).high_at ≡ Some (at_most (k + x) (span_at pins x).high))
+    pub stand : (x : ℕ) → x < length pins → (slice_get facts (domain_at pins x).low_at ≡ Some (at_least (k + x) (domain_at pins x).low))
+        × (slice_get facts (domain_at pins x).high_at ≡ Some (at_most (k + x) (domain_at pins x).high))
     pub exact : AreExact pins
     pub inside : (x : ℕ) → x < length pins → (low high : ℤ) → slice_get box.bounds (k + x) ≡ Some (low, high)
-        → (low ≤ℤ (span_at pins x).low) × ((span_at pins x).low ≤ℤ high)
+        → (low ≤ℤ (domain_at pins x).low) × ((domain_at pins x).low ≤ℤ high)
 
   bounded : (n x : ℕ) (bounds : List (ℤ × ℤ)) (low high : ℤ) → slice_get bounds x ≡ Some (low, high)
       → Has (bound_facts n bounds) (at_least (n + x) low) × Has (bound_facts n bounds) (at_most (n + x) high)
@@ -304,12 +304,12 @@ module _ (ends : EndsCombine) (f : Formula) (box : Boxed) (ordered : AreOrdered 
       )
 
   -- all have one: some atom is ruled out
-  all_pinned : (facts : List Fact) (pins : List Span) → Keeps facts root → ArePinned 0 facts pins → Refutable vars facts
+  all_pinned : (facts : List Fact) (pins : List Domain) → Keeps facts root → ArePinned 0 facts pins → Refutable vars facts
   all_pinned facts pins keeps are =
       let size : length pins ≡ vars = (let c = are.count in omega (arith, c)) in
       close ends vars pins are.exact f facts
       (λ x lt. let s = are.stand x lt in let at : 0 + x ≡ x = omega arith in
-      (s.0 ∙ ap (λ m. Some (at_least m (span_at pins x).low)) at, s.1 ∙ ap (λ m. Some (at_most m (span_at pins x).high)) at))
+      (s.0 ∙ ap (λ m. Some (at_least m (domain_at pins x).low)) at, s.1 ∙ ap (λ m. Some (at_most m (domain_at pins x).high)) at))
       light (let w = within in omega (arith, w, size)) (fails (holds_at (at_pins pins) f) refl)
       (λ fact h. let k = behind (bound_facts 0 box.bounds) (facts_of f) fact h in (k.0, keeps k.0 fact k.1))
     where
@@ -324,32 +324,32 @@ module _ (ends : EndsCombine) (f : Formula) (box : Boxed) (ordered : AreOrdered 
       fails false e = e
 
   -- one more has one
-  module _ (k : ℕ) (facts more : List Fact) (pins : List Span) (keeps : Keeps more facts) (are : ArePinned (suc k) facts pins) (span : Span)
-      (same : span.high ≡ span.low) (l : slice_get more span.low_at ≡ Some (at_least k span.low))
-      (h : slice_get more span.high_at ≡ Some (at_most k span.high))
-      (inside : (low high : ℤ) → slice_get box.bounds k ≡ Some (low, high) → (low ≤ℤ span.low) × (span.low ≤ℤ high)) where
-    stand_more : (x : ℕ) → x < length (span ∷ pins)
-        → (slice_get more (span_at (span ∷ pins) x).low_at ≡ Some (at_least (k + x) (span_at (span ∷ pins) x).low))
-        × (slice_get more (span_at (span ∷ pins) x).high_at ≡ Some (at_most (k + x) (span_at (span ∷ pins) x).high))
+  module _ (k : ℕ) (facts more : List Fact) (pins : List Domain) (keeps : Keeps more facts) (are : ArePinned (suc k) facts pins) (domain : Domain)
+      (same : domain.high ≡ domain.low) (l : slice_get more domain.low_at ≡ Some (at_least k domain.low))
+      (h : slice_get more domain.high_at ≡ Some (at_most k domain.high))
+      (inside : (low high : ℤ) → slice_get box.bounds k ≡ Some (low, high) → (low ≤ℤ domain.low) × (domain.low ≤ℤ high)) where
+    stand_more : (x : ℕ) → x < length (domain ∷ pins)
+        → (slice_get more (domain_at (domain ∷ pins) x).low_at ≡ Some (at_least (k + x) (domain_at (domain ∷ pins) x).low))
+        × (slice_get more (domain_at (domain ∷ pins) x).high_at ≡ Some (at_most (k + x) (domain_at (domain ∷ pins) x).high))
     stand_more zero lt =
         let at : k ≡ k + 0 = omega arith in
-        (l ∙ ap (λ m. Some (at_least m span.low)) at, h ∙ ap (λ m. Some (at_most m span.high)) at)
+        (l ∙ ap (λ m. Some (at_least m domain.low)) at, h ∙ ap (λ m. Some (at_most m domain.high)) at)
     stand_more (suc x) lt =
         let s = are.stand x (omega (arith, lt)) in
         let at : suc k + x ≡ k + suc x = omega arith in
-        (keeps _ _ s.0 ∙ ap (λ m. Some (at_least m (span_at pins x).low)) at, keeps _ _ s.1 ∙ ap (λ m. Some (at_most m (span_at pins x).high)) at)
+        (keeps _ _ s.0 ∙ ap (λ m. Some (at_least m (domain_at pins x).low)) at, keeps _ _ s.1 ∙ ap (λ m. Some (at_most m (domain_at pins x).high)) at)
 
-    exact_more : AreExact (span ∷ pins)
+    exact_more : AreExact (domain ∷ pins)
     exact_more zero lt = same
     exact_more (suc x) lt = are.exact x (omega (arith, lt))
 
-    inside_more : (x : ℕ) → x < length (span ∷ pins) → (low high : ℤ) → slice_get box.bounds (k + x) ≡ Some (low, high)
-        → (low ≤ℤ (span_at (span ∷ pins) x).low) × ((span_at (span ∷ pins) x).low ≤ℤ high)
+    inside_more : (x : ℕ) → x < length (domain ∷ pins) → (low high : ℤ) → slice_get box.bounds (k + x) ≡ Some (low, high)
+        → (low ≤ℤ (domain_at (domain ∷ pins) x).low) × ((domain_at (domain ∷ pins) x).low ≤ℤ high)
     inside_more zero lt low high e = inside low high (ap (slice_get box.bounds) (let at : k ≡ k + 0 = omega arith in at) ∙ e)
     inside_more (suc x) lt low high e =
         are.inside x (omega (arith, lt)) low high (ap (slice_get box.bounds) (let at : suc k + x ≡ k + suc x = omega arith in at) ∙ e)
 
-    one_pinned : ArePinned k more (span ∷ pins)
+    one_pinned : ArePinned k more (domain ∷ pins)
     one_pinned = record {
       count = let c = are.count in omega (arith, c);
       stand = stand_more;
@@ -358,9 +358,9 @@ module _ (ends : EndsCombine) (f : Formula) (box : Boxed) (ordered : AreOrdered 
     }
 
   abbrev Pins : ℕ → Type 0
-  Pins k = (facts : List Fact) (pins : List Span) → Keeps facts root → ArePinned k facts pins → Refutable vars facts
+  Pins k = (facts : List Fact) (pins : List Domain) → Keeps facts root → ArePinned k facts pins → Refutable vars facts
 
-  pin_one : (k : ℕ) → Pins k → (facts : List Fact) (pins : List Span) → Keeps facts root → ArePinned (suc k) facts pins → (low high : ℤ)
+  pin_one : (k : ℕ) → Pins k → (facts : List Fact) (pins : List Domain) → Keeps facts root → ArePinned (suc k) facts pins → (low high : ℤ)
       → slice_get box.bounds k ≡ Some (low, high) → Refutable vars facts
   pin_one k next facts pins keeps are low high e =
       let own = in_root k low high e in

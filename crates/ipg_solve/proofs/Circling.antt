@@ -1,5 +1,5 @@
 -- The facts of a circle that falls sum up to a constant above 0.
-use Rattle.std.proofs.Common.{◌≡◌, ℕ, ◌^◌, ◌≤◌, true, false, ◌&&◌, nat_le, ℤ, pos, ◌+ℤ◌, ◌*ℤ◌, List, [], ◌∷◌, map, length, refl, sym, ◌∙◌, ap, arith}
+use Rattle.std.proofs.Common.{◌≡◌, ℕ, ◌^◌, ◌≤◌, true, false, ◌&&◌, nat_le, ℤ, pos, ◌+ℤ◌, List, [], ◌∷◌, length, refl, sym, ◌∙◌, ap, arith}
 use Rattle.std.specs.Prelude.{Some, option_and_then, int_lt, ◌<ℤ◌}
 use Rattle.std.specs.List.{AllByRecursion}
 use Rattle.std.proofs.lemmas.Int.{ints}
@@ -9,9 +9,8 @@ use borrow.Author.Differences.{same_in, product_is}
 use Rattle.ipg_lin.specs.Form.{Form}
 use Rattle.ipg_cert.specs.Facts.{Fact}
 use Rattle.ipg_cert.specs.Checks.{atom_in, coefficient, plus_times, zero_form, sum_from, weighted_sum, is_absurd, combines}
-use Rattle.ipg_cert.proofs.SeenLemmas.{coefficient-append, coefficient-scaled}
-use Rattle.ipg_cert.proofs.Absurd.{in_zero}
-use Rattle.ipg_solve_potentials.specs.declared.edge.Edge.{Edge}
+use Rattle.ipg_cert.specs.Laws.{SumTakes, CancelledIsAbsurd}
+use Rattle.ipg_solve_potentials.specs.declared.difference.Difference.{Difference}
 use Rattle.ipg_solve_potentials.specs.Falls.{edge_at, LeadBack, fall_of, IsCircle}
 use Rattle.ipg_solve.specs.Edges.{edges_in, IsSized, entries_of}
 use Rattle.ipg_solve.proofs.Shapes.{unit, taken}
@@ -25,24 +24,14 @@ record Summed (facts : List Fact) (node start : ℕ) (numbers : List ℕ) (sum :
   terms : (y : ℕ) → coefficient y whole.terms +ℤ unit y start ≡ coefficient y sum.terms +ℤ unit y node
   constant : whole.constant ≡ sum.constant +ℤ fall_of (edges_in facts) numbers
 
-added_terms : (y : ℕ) (form sum : Form) → coefficient y (plus_times 1 form sum).terms ≡ coefficient y form.terms +ℤ coefficient y sum.terms
-added_terms y form sum =
-    same_in _ _ (omega (
-      arith,
-      ints,
-      coefficient-append y (map (λ (t : ℕ × ℤ). (t.0, pos 1 *ℤ t.1)) form.terms) sum.terms,
-      coefficient-scaled y 1 form.terms,
-      product_is (pos 1) (coefficient y form.terms),
-    ))
-
-summed : (vars : ℕ) (facts : List Fact) → AllByRecursion (IsNarrow vars) facts → AllByRecursion IsSized facts
+summed : SumTakes → (vars : ℕ) (facts : List Fact) → AllByRecursion (IsNarrow vars) facts → AllByRecursion IsSized facts
     → (node start : ℕ) (numbers : List ℕ) (sum : Form) → LeadBack (edges_in facts) node numbers start → Summed facts node start numbers sum
-summed vars facts narrow sized node start [] sum back =
+summed takes vars facts narrow sized node start [] sum back =
     record { whole = sum; leads = refl; terms = λ y. ap (λ k. coefficient y sum.terms +ℤ unit y k) (sym back); constant = same_in _ _ (omega (arith, ints)) }
-summed vars facts narrow sized node start (n ∷ numbers) sum back =
+summed takes vars facts narrow sized node start (n ∷ numbers) sum back =
     let fact = fact_at vars facts n narrow sized back.0 in
     let edge = edge_at (edges_in facts) n in
-    let rest = summed vars facts narrow sized edge.from start numbers (plus_times 1 fact.form sum) back.2 in
+    let rest = summed takes vars facts narrow sized edge.from start numbers (plus_times 1 fact.form sum) back.2 in
     record {
       whole = rest.whole;
       leads = ap (option_and_then (λ form. sum_from facts (plus_times 1 form sum) (entries_of numbers))) (ap atom_in fact.at) ∙ rest.leads;
@@ -51,13 +40,14 @@ summed vars facts narrow sized node start (n ∷ numbers) sum back =
             arith,
             ints,
             rest.terms y,
-            added_terms y fact.form sum,
+            takes y 1 fact.form sum,
+            product_is (pos 1) (coefficient y fact.form.terms),
             taken fact.form.terms fact.difference y,
-            ap (λ (e : Edge). unit y e.from) fact.edge,
-            ap (λ (e : Edge). unit y e.to) fact.edge,
+            ap (λ (e : Difference). unit y e.from) fact.edge,
+            ap (λ (e : Difference). unit y e.to) fact.edge,
             ap (unit y) back.1,
           ));
-      constant = same_in _ _ (omega (arith, ints, rest.constant, product_is (pos 1) fact.form.constant, ap (λ (e : Edge). e.fall) fact.edge));
+      constant = same_in _ _ (omega (arith, ints, rest.constant, product_is (pos 1) fact.form.constant, ap (λ (e : Difference). e.fall) fact.edge));
     }
 
 above_test : (z : ℤ) → pos 0 <ℤ z → int_lt (pos 0) z ≡ true
@@ -67,15 +57,16 @@ some_edge : (facts : List Fact) (numbers : List ℕ) → pos 0 <ℤ fall_of (edg
 some_edge facts [] h = absurd (omega (arith, ints))
 some_edge facts (n ∷ numbers) h = omega arith
 
-pub circle_combines : (vars : ℕ) (facts : List Fact) (circle : List ℕ) → AllByRecursion (IsNarrow vars) facts → AllByRecursion IsSized facts
+pub circle_combines : SumTakes → CancelledIsAbsurd → (vars : ℕ) (facts : List Fact) (circle : List ℕ)
+    → AllByRecursion (IsNarrow vars) facts → AllByRecursion IsSized facts
     → IsCircle (edges_in facts) circle → length circle ≤ 2 ^ 21 → combines (entries_of circle) facts ≡ true
-circle_combines vars facts circle narrow sized falls few =
+circle_combines takes cancelled vars facts circle narrow sized falls few =
     let entries : List (ℕ × ℕ) = entries_of circle in
-    let sum = summed vars facts narrow sized falls.0 falls.0 circle zero_form falls.1 in
+    let sum = summed takes vars facts narrow sized falls.0 falls.0 circle zero_form falls.1 in
     let count : length entries ≡ length circle = length-map circle (λ (n : ℕ). (1, n)) in
     ap (λ b. b && (nat_le (length entries) (2 ^ 21) && is_absurd (weighted_sum facts entries)))
     (le-leb 1 (length entries) (omega (arith, count, some_edge facts circle falls.2)))
     ∙ ap (λ b. b && is_absurd (weighted_sum facts entries)) (le-leb (length entries) (2 ^ 21) (omega (arith, count)))
     ∙ ap is_absurd sum.leads
-    ∙ ap (λ b. b && int_lt (pos 0) sum.whole.constant) (in_zero sum.whole.terms sum.whole.terms (λ y. same_in _ _ (omega (arith, ints, sum.terms y))))
-    ∙ above_test sum.whole.constant (omega (arith, ints, sum.constant, falls.2))
+    ∙ cancelled sum.whole (λ y. same_in _ _ (omega (arith, ints, sum.terms y)))
+    (above_test sum.whole.constant (omega (arith, ints, sum.constant, falls.2)))

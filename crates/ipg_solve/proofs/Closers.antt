@@ -1,4 +1,4 @@
--- Steps that refute the facts at hand, by what the formula is that the spans rule out.
+-- Steps that refute the facts at hand, by what the formula is that the domains rule out.
 use Rattle.std.proofs.Common.{◌≡◌, ℕ, zero, suc, ◌+◌, ◌<◌, ◌≤◌, true, ◌&&◌, pos, List, [], ◌∷◌, ◌++◌, map, take, drop, get_or, length, refl, sym, ◌∙◌}
 use Rattle.std.proofs.Common.{ap, subst, length-append, append_assoc, take-append-drop, eq-eqb}
 use Rattle.std.specs.Prelude.{Some, slice_get, int_lt}
@@ -10,9 +10,10 @@ use Rattle.ipg_cert.specs.Facts.{Fact, AtMost, Choice, facts_of}
 use Rattle.ipg_cert.specs.Checks.{refutes, cases_of, is_choice, members_in}
 use Rattle.ipg_cert.specs.declared.refutation.Step.{Step}
 use Rattle.ipg_cert.specs.declared.refutation.Step.TheVariants.{Combine, Either}
-use Rattle.ipg_solve.specs.declared.span.Span.{Span}
-use Rattle.ipg_solve.specs.Spans.{least_of}
-use Rattle.ipg_solve.specs.Closes.{entry_of, AreSpans, StandAt, ClosesFacts, ClosesCases, ClosesSome}
+use Rattle.ipg_solve.specs.declared.domain.Domain.{Domain}
+use Rattle.ipg_solve.specs.Domains.{least_of}
+use Rattle.ipg_solve.specs.Closes.{entry_of, AreDomains, StandAt, ClosesFacts, ClosesCases, ClosesSome}
+use Rattle.ipg_solve.specs.Laws.{EndsCombine}
 use Rattle.ipg_solve.proofs.Ends.{atom_combines}
 
 pub get_from_drop : {X : Type 0} (n : ℕ) (xs ys : List X) (y : X) → drop n xs ≡ y ∷ ys → slice_get xs n ≡ Some y
@@ -34,20 +35,20 @@ get_behind (x ∷ xs) ys y = get_behind xs ys y
 pub parted : {X : Type 0} (xs : List X) (n : ℕ) (x : X) → n < length xs → x ≡ get_or xs n x → xs ≡ take n xs ++ x ∷ drop (n + 1) xs
 parted xs n x within is = sym (take-append-drop n xs) ∙ ap (λ ys. take n xs ++ ys) (drop_more xs n x within ∙ ap (λ y. y ∷ drop (n + 1) xs) (sym is))
 
-pub spans_stay : (facts more : List Fact) (spans : List Span) → AreSpans facts spans → AreSpans (facts ++ more) spans
-spans_stay facts more spans are x within = (get_append facts more _ _ (are x within).0, get_append facts more _ _ (are x within).1)
+pub domains_stay : (facts more : List Fact) (domains : List Domain) → AreDomains facts domains → AreDomains (facts ++ more) domains
+domains_stay facts more domains are x within = (get_append facts more _ _ (are x within).0, get_append facts more _ _ (are x within).1)
 
 -- one step that closes the goal
-pub closes_atom : (spans : List Span) (number next : ℕ) (form : Form) (old new : List Step) (step : Step) → terms_width form.terms ≤ length spans
-    → in_rule form.terms ≡ true → int_lt (pos 0) (least_of spans form) ≡ true
-    → step ≡ Combine ((1, number) ∷ map (entry_of spans) form.terms) → new ≡ old ++ step ∷ [] → ClosesFacts spans number next (AtMost form ∷ []) old new
-closes_atom spans number next form old new step within rule above is e = (
+pub closes_atom : EndsCombine → (domains : List Domain) (number next : ℕ) (form : Form) (old new : List Step) (step : Step)
+    → terms_width form.terms ≤ length domains → in_rule form.terms ≡ true → int_lt (pos 0) (least_of domains form) ≡ true
+    → step ≡ Combine ((1, number) ∷ map (entry_of domains) form.terms) → new ≡ old ++ step ∷ [] → ClosesFacts domains number next (AtMost form ∷ []) old new
+closes_atom law domains number next form old new step within rule above is e = (
   step ∷ [],
   e,
   λ vars facts are stand _ more goals.
       let at : slice_get facts number ≡ Some (AtMost form) = get_from_drop number facts stand.0 (AtMost form) stand.1 in
       ap (λ s. refutes vars (s ∷ more) (facts ∷ goals)) is ∙ ap (λ b. b && refutes vars more goals)
-      (atom_combines facts spans number form are within rule at above),
+      (atom_combines law facts domains number form are within rule at above),
 )
 
 flat_front : (front back : List Formula) (member : Formula)
@@ -75,10 +76,10 @@ member_stands number front back member facts stand =
     )
 
 -- the facts of an All by those of one of its members
-pub closes_members : (spans : List Span) (number next first : ℕ) (members front back : List Formula) (member : Formula) (old new : List Step)
+pub closes_members : (domains : List Domain) (number next first : ℕ) (members front back : List Formula) (member : Formula) (old new : List Step)
     → members ≡ front ++ member ∷ back → first ≡ number + length (flat_map facts_of front)
-    → ClosesFacts spans first next (facts_of member) old new → ClosesFacts spans number next (flat_map facts_of members) old new
-closes_members spans number next first members front back member old new is e closes = (
+    → ClosesFacts domains first next (facts_of member) old new → ClosesFacts domains number next (flat_map facts_of members) old new
+closes_members domains number next first members front back member old new is e closes = (
   closes.0,
   closes.1,
   λ vars facts are stand n.
@@ -87,10 +88,10 @@ closes_members spans number next first members front back member old new is e cl
 )
 
 -- an Any by the cases of its members
-pub closes_choice : (spans : List Span) (number next : ℕ) (members : List Formula) (old mid new : List Step)
-    → mid ≡ old ++ Either number (length members) ∷ [] → ClosesCases spans next members mid new
-    → ClosesFacts spans number next (Choice members ∷ []) old new
-closes_choice spans number next members old mid new e closes = (
+pub closes_choice : (domains : List Domain) (number next : ℕ) (members : List Formula) (old mid new : List Step)
+    → mid ≡ old ++ Either number (length members) ∷ [] → ClosesCases domains next members mid new
+    → ClosesFacts domains number next (Choice members ∷ []) old new
+closes_choice domains number next members old mid new e closes = (
   Either number (length members) ∷ closes.0,
   closes.1 ∙ ap (λ s. s ++ closes.0) e ∙ append_assoc old (Either number (length members) ∷ []) closes.0,
   λ vars facts are stand n more goals.
@@ -100,14 +101,14 @@ closes_choice spans number next members old mid new e closes = (
       ∙ closes.2 vars facts are n more goals,
 )
 
-pub none_closed : (spans : List Span) (next : ℕ) (members : List Formula) (old : List Step) → ClosesSome spans next members members old old
-none_closed spans next members old = ([], sym (append-nil old), λ vars facts are n more goals. refl)
+pub none_closed : (domains : List Domain) (next : ℕ) (members : List Formula) (old : List Step) → ClosesSome domains next members members old old
+none_closed domains next members old = ([], sym (append-nil old), λ vars facts are n more goals. refl)
 
 -- the case of one member more
-pub one_closed : (spans : List Span) (next behind : ℕ) (members left rest : List Formula) (member : Formula) (old mid new : List Step)
-    → left ≡ member ∷ rest → behind ≡ next + length (facts_of member) → ClosesSome spans next members left old mid
-    → ClosesFacts spans next behind (facts_of member) mid new → ClosesSome spans next members rest old new
-one_closed spans next behind members left rest member old mid new is e so_far closes = (
+pub one_closed : (domains : List Domain) (next behind : ℕ) (members left rest : List Formula) (member : Formula) (old mid new : List Step)
+    → left ≡ member ∷ rest → behind ≡ next + length (facts_of member) → ClosesSome domains next members left old mid
+    → ClosesFacts domains next behind (facts_of member) mid new → ClosesSome domains next members rest old new
+one_closed domains next behind members left rest member old mid new is e so_far closes = (
   so_far.0 ++ closes.0,
   closes.1 ∙ ap (λ s. s ++ closes.0) so_far.1 ∙ append_assoc old so_far.0 closes.0,
   λ vars facts are n more goals.
@@ -116,13 +117,13 @@ one_closed spans next behind members left rest member old mid new is e so_far cl
       ap (λ s. refutes vars s (cases_of facts members ++ goals)) (append_assoc so_far.0 closes.0 more)
       ∙ so_far.2 vars facts are n (closes.0 ++ more) goals
       ∙ ap (λ ms. refutes vars (closes.0 ++ more) (cases_of facts ms ++ goals)) is
-      ∙ closes.2 vars own (spans_stay facts (facts_of member) spans are) stand (length-append facts (facts_of member)
+      ∙ closes.2 vars own (domains_stay facts (facts_of member) domains are) stand (length-append facts (facts_of member)
       ∙ ap (λ k. k + length (facts_of member)) n ∙ sym e) more (cases_of facts rest ++ goals),
 )
 
-pub all_closed : (spans : List Span) (next : ℕ) (members left : List Formula) (old new : List Step) → left ≡ []
-    → ClosesSome spans next members left old new → ClosesCases spans next members old new
-all_closed spans next members left old new none so_far = (
+pub all_closed : (domains : List Domain) (next : ℕ) (members left : List Formula) (old new : List Step) → left ≡ []
+    → ClosesSome domains next members left old new → ClosesCases domains next members old new
+all_closed domains next members left old new none so_far = (
   so_far.0,
   so_far.1,
   λ vars facts are n more goals. so_far.2 vars facts are n more goals ∙ ap (λ ms. refutes vars more (cases_of facts ms ++ goals)) none,

@@ -1,5 +1,5 @@
 -- What the levels or the circle of the graph say of the formula.
-use Rattle.std.proofs.Common.{◌≡◌, ℕ, suc, ◌+◌, ◌^◌, ◌<◌, ◌≤◌, inl, inr, true, ◌&&◌, ℤ, pos, negsuc, neg_ℤ, ◌+ℤ◌, ◌-ℤ◌, List, [], ◌∷◌, ◌++◌, length}
+use Rattle.std.proofs.Common.{◌≡◌, ℕ, suc, ◌+◌, ◌^◌, ◌<◌, ◌≤◌, inl, inr, true, false, ◌&&◌, ℤ, pos, negsuc, neg_ℤ, ◌+ℤ◌, ◌-ℤ◌, List, [], ◌∷◌, ◌++◌, length}
 use Rattle.std.proofs.Common.{get_or, refl, sym, ◌∙◌, ap, subst, arith}
 use Rattle.std.specs.Prelude.{Some, slice_get, int_le, ◌≤ℤ◌}
 use Rattle.std.specs.List.{AllByRecursion}
@@ -11,21 +11,20 @@ use Rattle.ipg_lin.specs.Form.{Form, Assignment, value_at}
 use Rattle.ipg_lin.specs.Formula.{assigned}
 use Rattle.ipg_lin.specs.declared.formula.Formula.{Formula}
 use Rattle.ipg_lin.specs.declared.formula.Boxed.{Boxed}
-use Rattle.ipg_cert.specs.Facts.{Fact, AtMost, Choice, bound_facts, facts_of}
+use Rattle.ipg_cert.specs.Facts.{Fact, AtMost, Choice, all_hold, bound_facts, facts_of}
 use Rattle.ipg_cert.specs.Checks.{root_facts, combines}
-use Rattle.ipg_cert.proofs.Told.{all_hold}
-use Rattle.ipg_cert.proofs.Sound.{le_test}
-use Rattle.ipg_solve_potentials.specs.declared.edge.Edge.{Edge}
-use Rattle.ipg_solve_potentials.specs.declared.settling.Settled.{Settled}
-use Rattle.ipg_solve_potentials.specs.declared.settling.Settled.TheVariants.{Levels, Circle}
+use Rattle.ipg_cert.specs.Laws.{SumTakes, CancelledIsAbsurd}
+use Rattle.ipg_solve_potentials.specs.declared.difference.Difference.{Difference}
+use Rattle.ipg_solve_potentials.specs.declared.settling.Potentials.{Potentials}
+use Rattle.ipg_solve_potentials.specs.declared.settling.Potentials.TheVariants.{Levels, Circle}
 use Rattle.ipg_solve_potentials.specs.Falls.{level_at, Falls, AllFall, Settles}
 use Rattle.ipg_solve.specs.Decides.{Solves}
 use Rattle.ipg_solve.specs.Differences.{are_differences}
 use Rattle.ipg_solve.specs.Edges.{edge_of, edges_in, entries_of, IsSized, AreBetween, AreHeights}
-use Rattle.ipg_solve.specs.Spans.{span_at}
-use Rattle.ipg_solve.specs.Cuts.{start_spans}
+use Rattle.ipg_solve.specs.Domains.{domain_at}
+use Rattle.ipg_solve.specs.Cuts.{start_domains}
 use Rattle.ipg_solve.specs.Within.{no_bounds}
-use Rattle.ipg_solve.proofs.Parts.{start_length, start_at, start_span, start_holds, Stands}
+use Rattle.ipg_solve.proofs.Parts.{start_length, start_at, start_domain, start_holds, Stands}
 use Rattle.ipg_solve.proofs.Shapes.{AreLevels, valued}
 use Rattle.ipg_solve.proofs.Narrow.{IsNarrow, all_hold-split, sure}
 use Rattle.ipg_solve.proofs.Graph.{edge_is}
@@ -41,8 +40,8 @@ pub between : (f : Formula) (box : Boxed) (levels : List ℤ) → AllByRecursion
 between f box levels narrow falls x within =
     let facts = root_facts f box in
     let b = get_or box.bounds x no_bounds in
-    let is : span_at (start_spans 0 box.bounds) x ≡ start_span (0 + x) b = start_at 0 box.bounds x b (slice_get-get_or box.bounds x no_bounds within) in
-    let stands : Stands facts x (start_span (0 + x) b) = subst (Stands facts x) is (start_holds f box x (omega (arith, start_length 0 box.bounds))) in
+    let is : domain_at (start_domains 0 box.bounds) x ≡ start_domain (0 + x) b = start_at 0 box.bounds x b (slice_get-get_or box.bounds x no_bounds within) in
+    let stands : Stands facts x (start_domain (0 + x) b) = subst (Stands facts x) is (start_holds f box x (omega (arith, start_length 0 box.bounds))) in
     let low : (level_at levels 0 +ℤ b.0) ≤ℤ level_at levels (x + 1) = fall_at (length box.bounds) levels facts _
     (record { terms = (x, negsuc 0) ∷ []; constant = b.0 }) narrow falls stands.0 in
     let high : (level_at levels (x + 1) +ℤ neg_ℤ b.1) ≤ℤ level_at levels 0 = fall_at (length box.bounds) levels facts _
@@ -52,7 +51,10 @@ between f box levels narrow falls x within =
 form_holds : (vars : ℕ) (levels : List ℤ) (values : Assignment) (form : Form) → AreLevels vars levels values → IsNarrow vars (AtMost form)
     → Falls levels (edge_of form) → int_le (value_at values form) (pos 0) ≡ true
 form_holds vars levels values form are narrow falls =
-    le_test (value_at values form) (pos 0) (omega (arith, ints, falls, valued vars levels values are form.terms narrow.0 narrow.1))
+    elim (int_le (value_at values form) (pos 0)) as (λ r. int_le (value_at values form) (pos 0) ≡ r → r ≡ true) [
+      | true ↦ λ e. refl
+      | false ↦ λ e. absurd (omega (arith, ints, falls, valued vars levels values are form.terms narrow.0 narrow.1))
+    ] refl
 
 facts_hold : (vars : ℕ) (levels : List ℤ) (values : Assignment) (facts : List Fact) → AreLevels vars levels values
     → AllByRecursion (IsNarrow vars) facts → AllFall levels (edges_in facts) → all_hold values facts ≡ true
@@ -92,19 +94,19 @@ height_more vars levels old new value heights is here = (
       ],
 )
 
-pub levels_fall : (nodes : ℕ) (facts : List Fact) (edges lent : List Edge) (settled : Settled) (levels seen : List ℤ) → Settles nodes lent settled
+pub levels_fall : (nodes : ℕ) (facts : List Fact) (edges lent : List Difference) (settled : Potentials) (levels seen : List ℤ) → Settles nodes lent settled
     → settled ≡ Levels levels → lent ≡ edges → edges ≡ edges_in facts → seen ≡ levels
     → (length seen ≡ nodes) × AllFall seen (edges_in facts)
 levels_fall nodes facts edges lent settled levels seen settles is lent_is edges_are seen_are =
     subst (λ ls. (length ls ≡ nodes) × AllFall ls (edges_in facts)) (sym seen_are)
     (subst (λ es. Settles nodes es (Levels levels)) (lent_is ∙ edges_are) (subst (Settles nodes lent) is settles))
 
-pub circle_refutes : (f : Formula) (box : Boxed) (edges lent : List Edge) (settled : Settled) (circle : List ℕ)
+pub circle_refutes : SumTakes → CancelledIsAbsurd → (f : Formula) (box : Boxed) (edges lent : List Difference) (settled : Potentials) (circle : List ℕ)
     → AllByRecursion (IsNarrow (length box.bounds)) (root_facts f box) → AllByRecursion IsSized (root_facts f box) → length box.bounds < 2 ^ 21
     → Settles (length box.bounds + 1) lent settled → settled ≡ Circle circle → lent ≡ edges → edges ≡ edges_in (root_facts f box)
     → (combines (entries_of circle) (root_facts f box) ≡ true) × (length circle ≤ length box.bounds + 1)
-circle_refutes f box edges lent settled circle narrow sized few settles is lent_is edges_are =
+circle_refutes takes cancelled f box edges lent settled circle narrow sized few settles is lent_is edges_are =
     let here : Settles (length box.bounds + 1) (edges_in (root_facts f box)) (Circle circle) =
     subst (λ es. Settles (length box.bounds + 1) es (Circle circle)) (lent_is ∙ edges_are) (subst (Settles (length box.bounds + 1) lent) is settles)
     in
-    (circle_combines (length box.bounds) (root_facts f box) circle narrow sized here.0 (omega (arith, here.1)), here.1)
+    (circle_combines takes cancelled (length box.bounds) (root_facts f box) circle narrow sized here.0 (omega (arith, here.1)), here.1)

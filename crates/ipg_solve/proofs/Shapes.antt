@@ -3,12 +3,11 @@ use Rattle.std.proofs.Common.{◌≡◌, ℕ, ◌+◌, ◌<◌, ◌≤◌, max, 
 use Rattle.std.proofs.Common.{sym, ◌∙◌, ap, subst, arith}
 use Rattle.std.specs.Ordering.{int_eq}
 use Rattle.std.proofs.lemmas.Int.{ints}
-use Rattle.std.proofs.lemmas.Bool.{or_cases}
+use Rattle.std.proofs.lemmas.Bool.{and_parts, or_cases}
 use Rattle.std.proofs.lemmas.Bool.Decides.{Decides-int_eq, nat_tests}
 use borrow.Author.Differences.{same_in, product_is}
 use Rattle.ipg_lin.specs.Form.{Assignment, sum_at, terms_width}
 use Rattle.ipg_cert.specs.Checks.{coefficient}
-use Rattle.ipg_cert.proofs.Sums.{both_true}
 use Rattle.ipg_solve_potentials.specs.Falls.{level_at}
 use Rattle.ipg_solve.specs.Differences.{is_one, is_minus_one, is_difference}
 use Rattle.ipg_solve.specs.Edges.{node_of}
@@ -37,11 +36,11 @@ by_shape P s (t ∷ []) h =
 by_shape P s (t ∷ u ∷ []) h =
     elim (or_cases (is_one t.1 && is_minus_one u.1) (is_minus_one t.1 && is_one u.1) h) [
       | inl a ↦
-          let b = both_true (is_one t.1) (is_minus_one u.1) a in
+          let b = and_parts (is_one t.1) (is_minus_one u.1) a in
           subst (λ z. P ((t.0, z) ∷ u ∷ [])) (sym (one_is t.1 b.0)) (subst (λ z. P ((t.0, pos 1) ∷ (u.0, z) ∷ [])) (sym (minus_one_is u.1 b.1))
           (s.plus_minus t.0 u.0))
       | inr a ↦
-          let b = both_true (is_minus_one t.1) (is_one u.1) a in
+          let b = and_parts (is_minus_one t.1) (is_one u.1) a in
           subst (λ z. P ((t.0, z) ∷ u ∷ [])) (sym (minus_one_is t.1 b.0)) (subst (λ z. P ((t.0, negsuc 0) ∷ (u.0, z) ∷ [])) (sym (one_is u.1 b.1))
           (s.minus_plus t.0 u.0))
     ]

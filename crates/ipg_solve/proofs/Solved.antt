@@ -1,4 +1,4 @@
--- A point that the spans don't rule out solves the formula.
+-- A point that the domains don't rule out solves the formula.
 use Rattle.std.proofs.Common.{◌≡◌, ℕ, zero, suc, ◌+◌, ◌<◌, ◌≤◌, Bool, true, false, ◌&&◌, ◌||◌, not, ℤ, pos, negsuc, ◌+ℤ◌, ◌*ℤ◌, List, [], ◌∷◌, map}
 use Rattle.std.proofs.Common.{length, refl, sym, ◌∙◌, ap, subst, arith}
 use Rattle.std.specs.Prelude.{int_le, int_lt, ◌≤ℤ◌}
@@ -13,33 +13,33 @@ use Rattle.ipg_lin.specs.Members.{by_members, folds-Atom, folds-All, folds-Any}
 use Rattle.std.specs.List.{AllByRecursion}
 use Rattle.ipg_lin.specs.declared.formula.Boxed.{Boxed}
 use Rattle.ipg_cert.specs.declared.refutation.Step.{Step}
-use Rattle.ipg_solve.specs.declared.span.Span.{Span}
-use Rattle.ipg_solve.specs.declared.cut.Cut.{Cut}
+use Rattle.ipg_solve.specs.declared.domain.Domain.{Domain}
+use Rattle.ipg_solve.specs.declared.domain_cut.DomainCut.{DomainCut}
 use Rattle.ipg_solve.specs.Decides.{Solves}
-use Rattle.ipg_solve.specs.Spans.{span_at, end_of, least, rules_out, rules_out_step, AreFull, ArePoints}
-use Rattle.ipg_solve.specs.Cuts.{start_spans, Halved}
-use Rattle.ipg_solve.proofs.Parts.{length_after, start_length, start_at, within_after, full_after, start_span, LiesWithin}
+use Rattle.ipg_solve.specs.Domains.{domain_at, end_of, least, rules_out, rules_out_step, AreFull, ArePoints}
+use Rattle.ipg_solve.specs.Cuts.{start_domains, Halved}
+use Rattle.ipg_solve.proofs.Parts.{length_after, start_length, start_at, within_after, full_after, start_domain, LiesWithin}
 
 -- the lower ends as values
-abbrev lows : List Span → List ℤ
-lows spans = map (λ (s : Span). s.low) spans
+abbrev lows : List Domain → List ℤ
+lows domains = map (λ (s : Domain). s.low) domains
 
-assigned_low : (spans : List Span) (x : ℕ) → x < length spans → assigned (lows spans) x ≡ (span_at spans x).low
+assigned_low : (domains : List Domain) (x : ℕ) → x < length domains → assigned (lows domains) x ≡ (domain_at domains x).low
 assigned_low [] x h = absurd (omega arith)
-assigned_low (s ∷ spans) zero h = refl
-assigned_low (s ∷ spans) (suc x) h = assigned_low spans x (omega arith)
+assigned_low (s ∷ domains) zero h = refl
+assigned_low (s ∷ domains) (suc x) h = assigned_low domains x (omega arith)
 
-point_end : (span : Span) (c : ℤ) → span.low ≡ span.high → end_of span c ≡ span.low
-point_end span (pos c) e = refl
-point_end span (negsuc c) e = sym e
+point_end : (domain : Domain) (c : ℤ) → domain.low ≡ domain.high → end_of domain c ≡ domain.low
+point_end domain (pos c) e = refl
+point_end domain (negsuc c) e = sym e
 
-point_least : (spans : List Span) (terms : List (ℕ × ℤ)) → ArePoints spans → terms_width terms ≤ length spans
-    → least spans terms ≡ sum_at (assigned (lows spans)) terms
-point_least spans [] points h = refl
-point_least spans (t ∷ terms) points h =
-    let within : t.0 < length spans = omega arith in
-    ap (λ z. (t.1 *ℤ z) +ℤ least spans terms) (point_end (span_at spans t.0) t.1 (points t.0 within) ∙ sym (assigned_low spans t.0 within))
-    ∙ ap (λ z. (t.1 *ℤ assigned (lows spans) t.0) +ℤ z) (point_least spans terms points (omega arith))
+point_least : (domains : List Domain) (terms : List (ℕ × ℤ)) → ArePoints domains → terms_width terms ≤ length domains
+    → least domains terms ≡ sum_at (assigned (lows domains)) terms
+point_least domains [] points h = refl
+point_least domains (t ∷ terms) points h =
+    let within : t.0 < length domains = omega arith in
+    ap (λ z. (t.1 *ℤ z) +ℤ least domains terms) (point_end (domain_at domains t.0) t.1 (points t.0 within) ∙ sym (assigned_low domains t.0 within))
+    ∙ ap (λ z. (t.1 *ℤ assigned (lows domains) t.0) +ℤ z) (point_least domains terms points (omega arith))
 
 not_above : (z : ℤ) → int_lt (pos 0) z ≡ not (int_le z (pos 0))
 not_above z =
@@ -49,82 +49,82 @@ not_above z =
     ] refl
 
 -- at the point the formula is ruled out exactly where it fails
-abbrev IsJudged : List Span → Formula → Type 0
-IsJudged spans f = width f ≤ length spans → rules_out spans f ≡ not (holds_at (assigned (lows spans)) f)
+abbrev IsJudged : List Domain → Formula → Type 0
+IsJudged domains f = width f ≤ length domains → rules_out domains f ≡ not (holds_at (assigned (lows domains)) f)
 
-judged_some : (spans : List Span) (fs : List Formula) → AllByRecursion (IsJudged spans) fs → greatest (map width fs) ≤ length spans
-    → some (map (rules_out spans) fs) ≡ not (every (map (holds_at (assigned (lows spans))) fs))
-judged_some spans [] each h = refl
-judged_some spans (f ∷ fs) each h =
-    let v = assigned (lows spans) in
-    ap (λ b. b || some (map (rules_out spans) fs)) (each.0 (omega arith))
-    ∙ ap (λ b. not (holds_at v f) || b) (judged_some spans fs each.1 (omega arith))
+judged_some : (domains : List Domain) (fs : List Formula) → AllByRecursion (IsJudged domains) fs → greatest (map width fs) ≤ length domains
+    → some (map (rules_out domains) fs) ≡ not (every (map (holds_at (assigned (lows domains))) fs))
+judged_some domains [] each h = refl
+judged_some domains (f ∷ fs) each h =
+    let v = assigned (lows domains) in
+    ap (λ b. b || some (map (rules_out domains) fs)) (each.0 (omega arith))
+    ∙ ap (λ b. not (holds_at v f) || b) (judged_some domains fs each.1 (omega arith))
     ∙ elim (holds_at v f) as (λ b. (not b || not (every (map (holds_at v) fs))) ≡ not (b && every (map (holds_at v) fs))) [ true ↦ refl | false ↦ refl ]
 
-judged_every : (spans : List Span) (fs : List Formula) → AllByRecursion (IsJudged spans) fs → greatest (map width fs) ≤ length spans
-    → every (map (rules_out spans) fs) ≡ not (some (map (holds_at (assigned (lows spans))) fs))
-judged_every spans [] each h = refl
-judged_every spans (f ∷ fs) each h =
-    let v = assigned (lows spans) in
-    ap (λ b. b && every (map (rules_out spans) fs)) (each.0 (omega arith))
-    ∙ ap (λ b. not (holds_at v f) && b) (judged_every spans fs each.1 (omega arith))
+judged_every : (domains : List Domain) (fs : List Formula) → AllByRecursion (IsJudged domains) fs → greatest (map width fs) ≤ length domains
+    → every (map (rules_out domains) fs) ≡ not (some (map (holds_at (assigned (lows domains))) fs))
+judged_every domains [] each h = refl
+judged_every domains (f ∷ fs) each h =
+    let v = assigned (lows domains) in
+    ap (λ b. b && every (map (rules_out domains) fs)) (each.0 (omega arith))
+    ∙ ap (λ b. not (holds_at v f) && b) (judged_every domains fs each.1 (omega arith))
     ∙ elim (holds_at v f) as (λ b. (not b && not (some (map (holds_at v) fs))) ≡ not (b || some (map (holds_at v) fs))) [ true ↦ refl | false ↦ refl ]
 
-on_atom : (spans : List Span) → ArePoints spans → (form : Form) → IsJudged spans (formula.Atom form)
-on_atom spans points form h =
-    let v = assigned (lows spans) in
-    let within : terms_width form.terms ≤ length spans = subst (λ n. n ≤ length spans) (folds-Atom ℕ width_step form) h in
-    folds-Atom Bool (rules_out_step spans) form
-    ∙ ap (λ z. int_lt (pos 0) (z +ℤ form.constant)) (point_least spans form.terms points within)
+on_atom : (domains : List Domain) → ArePoints domains → (form : Form) → IsJudged domains (formula.Atom form)
+on_atom domains points form h =
+    let v = assigned (lows domains) in
+    let within : terms_width form.terms ≤ length domains = subst (λ n. n ≤ length domains) (folds-Atom ℕ width_step form) h in
+    folds-Atom Bool (rules_out_step domains) form
+    ∙ ap (λ z. int_lt (pos 0) (z +ℤ form.constant)) (point_least domains form.terms points within)
     ∙ not_above (value_at v form)
     ∙ ap not (sym (folds-Atom Bool (holds_step v) form))
 
-on_all : (spans : List Span) (fs : List Formula) → AllByRecursion (IsJudged spans) fs → IsJudged spans (formula.All fs)
-on_all spans fs each h =
-    let within : greatest (map width fs) ≤ length spans = subst (λ n. n ≤ length spans) (folds-All ℕ width_step fs) h in
-    folds-All Bool (rules_out_step spans) fs ∙ judged_some spans fs each within ∙ ap not (sym (folds-All Bool (holds_step (assigned (lows spans))) fs))
+on_all : (domains : List Domain) (fs : List Formula) → AllByRecursion (IsJudged domains) fs → IsJudged domains (formula.All fs)
+on_all domains fs each h =
+    let within : greatest (map width fs) ≤ length domains = subst (λ n. n ≤ length domains) (folds-All ℕ width_step fs) h in
+    folds-All Bool (rules_out_step domains) fs ∙ judged_some domains fs each within ∙ ap not (sym (folds-All Bool (holds_step (assigned (lows domains))) fs))
 
-on_any : (spans : List Span) (fs : List Formula) → AllByRecursion (IsJudged spans) fs → IsJudged spans (formula.Any fs)
-on_any spans fs each h =
-    let within : greatest (map width fs) ≤ length spans = subst (λ n. n ≤ length spans) (folds-Any ℕ width_step fs) h in
-    folds-Any Bool (rules_out_step spans) fs ∙ judged_every spans fs each within ∙ ap not (sym (folds-Any Bool (holds_step (assigned (lows spans))) fs))
+on_any : (domains : List Domain) (fs : List Formula) → AllByRecursion (IsJudged domains) fs → IsJudged domains (formula.Any fs)
+on_any domains fs each h =
+    let within : greatest (map width fs) ≤ length domains = subst (λ n. n ≤ length domains) (folds-Any ℕ width_step fs) h in
+    folds-Any Bool (rules_out_step domains) fs ∙ judged_every domains fs each within ∙ ap not (sym (folds-Any Bool (holds_step (assigned (lows domains))) fs))
 
-judged : (spans : List Span) → ArePoints spans → (f : Formula) → IsJudged spans f
-judged spans points = by_members (IsJudged spans) (on_atom spans points) (on_all spans) (on_any spans)
+judged : (domains : List Domain) → ArePoints domains → (f : Formula) → IsJudged domains f
+judged domains points = by_members (IsJudged domains) (on_atom domains points) (on_all domains) (on_any domains)
 
 not_false : (a b : Bool) → a ≡ not b → a ≡ false → b ≡ true
 not_false a true e h = refl
 not_false a false e h = absurd (cc)
 
-pub halved_length : (f : Formula) (box : Boxed) (first : ℕ) (spans : List Span) (cuts : List Cut) (steps : List Step)
-    → Halved f box first spans cuts steps → length spans ≡ length box.bounds
-halved_length f box first spans cuts steps h = ap length h.spans_are ∙ length_after first (start_spans 0 box.bounds) cuts ∙ start_length 0 box.bounds
+pub halved_length : (f : Formula) (box : Boxed) (first : ℕ) (domains : List Domain) (cuts : List DomainCut) (steps : List Step)
+    → Halved f box first domains cuts steps → length domains ≡ length box.bounds
+halved_length f box first domains cuts steps h = ap length h.domains_are ∙ length_after first (start_domains 0 box.bounds) cuts ∙ start_length 0 box.bounds
 
-pub halved_full : (f : Formula) (box : Boxed) (first : ℕ) (spans : List Span) (cuts : List Cut) (steps : List Step)
-    → Halved f box first spans cuts steps → AreFull (start_spans 0 box.bounds) → AreFull spans
-halved_full f box first spans cuts steps h full = subst AreFull (sym h.spans_are) (full_after first (start_spans 0 box.bounds) cuts full h.cuts_are)
+pub halved_full : (f : Formula) (box : Boxed) (first : ℕ) (domains : List Domain) (cuts : List DomainCut) (steps : List Step)
+    → Halved f box first domains cuts steps → AreFull (start_domains 0 box.bounds) → AreFull domains
+halved_full f box first domains cuts steps h full = subst AreFull (sym h.domains_are) (full_after first (start_domains 0 box.bounds) cuts full h.cuts_are)
 
-lies_in : (f : Formula) (box : Boxed) (first : ℕ) (spans : List Span) (cuts : List Cut) (steps : List Step) → Halved f box first spans cuts steps
-    → ArePoints spans → LiesIn (assigned (lows spans)) box
-lies_in f box first spans cuts steps h points x low high at =
-    let n = halved_length f box first spans cuts steps h in
-    let inside : x < length spans = omega (arith, n, slice_get_within box.bounds x (low, high) at) in
-    let start = start_spans 0 box.bounds in
-    let within : LiesWithin start x (span_at spans x) =
-    subst (λ ss. LiesWithin start x (span_at ss x)) (sym h.spans_are)
+lies_in : (f : Formula) (box : Boxed) (first : ℕ) (domains : List Domain) (cuts : List DomainCut) (steps : List Step) → Halved f box first domains cuts steps
+    → ArePoints domains → LiesIn (assigned (lows domains)) box
+lies_in f box first domains cuts steps h points x low high at =
+    let n = halved_length f box first domains cuts steps h in
+    let inside : x < length domains = omega (arith, n, slice_get_within box.bounds x (low, high) at) in
+    let start = start_domains 0 box.bounds in
+    let within : LiesWithin start x (domain_at domains x) =
+    subst (λ ss. LiesWithin start x (domain_at ss x)) (sym h.domains_are)
     (within_after first start cuts h.cuts_are x (omega (arith, length_after first start cuts, start_length 0 box.bounds))) in
-    let is : span_at start x ≡ start_span (0 + x) (low, high) = start_at 0 box.bounds x (low, high) at in
-    let value = assigned_low spans x inside in (
-      subst (λ z. low ≤ℤ z) (sym value) (subst (λ s. s.low ≤ℤ (span_at spans x).low) is within.0),
-      subst (λ z. z ≤ℤ high) (sym (value ∙ points x inside)) (subst (λ s. (span_at spans x).high ≤ℤ s.high) is within.1),
+    let is : domain_at start x ≡ start_domain (0 + x) (low, high) = start_at 0 box.bounds x (low, high) at in
+    let value = assigned_low domains x inside in (
+      subst (λ z. low ≤ℤ z) (sym value) (subst (λ s. s.low ≤ℤ (domain_at domains x).low) is within.0),
+      subst (λ z. z ≤ℤ high) (sym (value ∙ points x inside)) (subst (λ s. (domain_at domains x).high ≤ℤ s.high) is within.1),
     )
 
-pub point_solves : (f : Formula) (box : Boxed) (first : ℕ) (spans : List Span) (cuts : List Cut) (steps : List Step)
-    → Halved f box first spans cuts steps → ArePoints spans → width f ≤ length box.bounds → rules_out spans f ≡ false
-    → Solves f box (lows spans)
-point_solves f box first spans cuts steps h points valued left =
-    let n = halved_length f box first spans cuts steps h in (
-      length-map spans (λ (s : Span). s.low) ∙ n,
-      lies_in f box first spans cuts steps h points,
-      not_false (rules_out spans f) (holds_at (assigned (lows spans)) f) (judged spans points f (omega (arith, n))) left,
+pub point_solves : (f : Formula) (box : Boxed) (first : ℕ) (domains : List Domain) (cuts : List DomainCut) (steps : List Step)
+    → Halved f box first domains cuts steps → ArePoints domains → width f ≤ length box.bounds → rules_out domains f ≡ false
+    → Solves f box (lows domains)
+point_solves f box first domains cuts steps h points valued left =
+    let n = halved_length f box first domains cuts steps h in (
+      length-map domains (λ (s : Domain). s.low) ∙ n,
+      lies_in f box first domains cuts steps h points,
+      not_false (rules_out domains f) (holds_at (assigned (lows domains)) f) (judged domains points f (omega (arith, n))) left,
     )

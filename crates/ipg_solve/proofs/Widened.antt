@@ -23,11 +23,11 @@ use Rattle.ipg_cert.specs.Checks.{atom_in, plus_times, zero_form, sum_from, weig
 use Rattle.ipg_cert.specs.declared.refutation.Refutation.{Refutation}
 use Rattle.ipg_cert.specs.declared.refutation.Step.TheVariants.{Combine}
 use Rattle.ipg_solve.specs.declared.decision.Decision.TheVariants.{Refuted}
-use Rattle.ipg_solve.specs.declared.span.Span.{Span}
+use Rattle.ipg_solve.specs.declared.domain.Domain.{Domain}
 use Rattle.ipg_solve.specs.Decides.{Solves}
 use Rattle.ipg_solve.specs.Differences.{IsShort}
-use Rattle.ipg_solve.specs.Cuts.{start_spans}
-use Rattle.ipg_solve.specs.Spans.{AreFull}
+use Rattle.ipg_solve.specs.Cuts.{start_domains}
+use Rattle.ipg_solve.specs.Domains.{AreFull}
 use Rattle.ipg_solve.specs.Edges.{entries_of}
 use Rattle.ipg_solve.specs.Widened.{moved, with_lows}
 use Rattle.ipg_solve.proofs.Parts.{start_length, start_at, bounds_length}
@@ -152,7 +152,7 @@ value_front : (values more : List ℤ) (x : ℕ) → x < length values → assig
 value_front values more x within = ap (λ o. unwrap_or o (pos 0)) (ap (λ vs. slice_get vs x) (sym (append-nil values)) ∙ get_front values [] more x within)
 
 pub widened_solves : (f : Formula) (box front : Boxed) (values : List ℤ) → front.bounds ≡ take (width f) box.bounds → width f ≤ length box.bounds
-    → AreFull (start_spans 0 box.bounds) → Solves f front values → Solves f box (with_lows box.bounds values)
+    → AreFull (start_domains 0 box.bounds) → Solves f front values → Solves f box (with_lows box.bounds values)
 widened_solves f box front values is within full solves =
     let w = width f in
     let n : length values ≡ w = solves.0 ∙ ap length is ∙ length-take-le w box.bounds within in
@@ -167,8 +167,8 @@ widened_solves f box front values is within full solves =
                 (subst (λ z. low ≤ℤ z) same lies.0, subst (λ z. z ≤ℤ high) same lies.1)
             | inr past ↦
                 let value = low_past values box.bounds x low high (omega (arith, n)) at in
-                let inside : x < length (start_spans 0 box.bounds) = omega (arith, start_length 0 box.bounds, slice_get_within box.bounds x (low, high) at) in
-                let order : low ≤ℤ high = subst (λ (s : Span). s.low ≤ℤ s.high) (start_at 0 box.bounds x (low, high) at) (full x inside) in
+                let inside : x < length (start_domains 0 box.bounds) = omega (arith, start_length 0 box.bounds, slice_get_within box.bounds x (low, high) at) in
+                let order : low ≤ℤ high = subst (λ (s : Domain). s.low ≤ℤ s.high) (start_at 0 box.bounds x (low, high) at) (full x inside) in
                 (omega (arith, ints, value), omega (arith, ints, value, order))
           ],
       sym (holds_same f w (assigned values) (assigned (values ++ more)) (omega arith) (λ x below. value_front values more x (omega (arith, n)))) ∙ solves.2,

@@ -5,7 +5,7 @@ use Rattle.std.specs.List.{flat_map}
 use Rattle.std.specs.Int.RustNames.{unsigned_abs}
 use Rattle.ipg_lin.specs.Form.{Form}
 use Rattle.ipg_cert.specs.Facts.{Fact, AtMost, Choice}
-use Rattle.ipg_solve_potentials.specs.declared.edge.Edge.{Edge}
+use Rattle.ipg_solve_potentials.specs.declared.difference.Difference.{Difference}
 use Rattle.ipg_solve_potentials.specs.Falls.{level_at}
 use Rattle.ipg_solve.specs.Within.{no_bounds}
 
@@ -15,14 +15,14 @@ node_of often [] = 0
 node_of often (term ∷ terms) = if int_eq term.1 often then term.0 + 1 else node_of often terms
 
 -- x - y + c <= 0: from y to x the level falls by c at least
-abbrev pub edge_of : Form → Edge
+abbrev pub edge_of : Form → Difference
 edge_of form = record { from = node_of (negsuc 0) form.terms; to = node_of (pos 1) form.terms; fall = form.constant }
 
-abbrev pub edges_of_fact : Fact → List Edge
+abbrev pub edges_of_fact : Fact → List Difference
 edges_of_fact (AtMost form) = edge_of form ∷ []
 edges_of_fact (Choice members) = []
 
-abbrev pub edges_in : List Fact → List Edge
+abbrev pub edges_in : List Fact → List Difference
 edges_in facts = flat_map edges_of_fact facts
 
 -- the form's constant fits

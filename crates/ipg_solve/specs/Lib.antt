@@ -4,7 +4,7 @@ pub mod Differences
 -- What the law says.
 pub mod Laws
 -- What functions inside the crate promise each other.
-pub mod Spans
+pub mod Domains
 pub mod Closes
 pub mod Cuts
 pub mod Crossed

@@ -7,7 +7,7 @@ use crate::decision::Decision;
 use ipg_cert::{Refutation, check};
 use ipg_lin::{Boxed, Formula, holds};
 use ipg_num::List;
-use ipg_solve_search::Found;
+use ipg_solve_search::SearchEnd;
 use std::alloc::{AllocError, Global};
 
 fn is_within(value: i64, bound: &(i64, i64)) -> bool
@@ -45,14 +45,14 @@ pub fn checked(
     alloc: Global,
     f: &Formula,
     b: &Boxed,
-    found: Option<Found>,
+    found: Option<SearchEnd>,
 ) -> Result<Option<Decision>, AllocError>
     requires { width f.now ≤ length b.now.bounds }
     ensures { IfOk result (λ kept. IfSome kept (Decides f.now b.now)) }
 {
     match found {
-        Some(Found::Values(values)) => Ok(solution(f, b, values)),
-        Some(Found::Refuted(r)) => refutation(alloc, f, b, r),
+        Some(SearchEnd::Values(values)) => Ok(solution(f, b, values)),
+        Some(SearchEnd::Refuted(r)) => refutation(alloc, f, b, r),
         None => Ok(None),
     }
 }

@@ -3,15 +3,17 @@ ghost use Rattle.ipg_lin.specs.Formula.{width};
 ghost use Rattle.ipg_cert.specs.declared.refutation.Step.TheVariants.{Combine};
 ghost use Rattle.ipg_solve.specs.Decides.{Decides, IsExact};
 ghost use Rattle.ipg_solve.specs.Differences.{IsDifference, IsShort};
-ghost use Rattle.ipg_solve.specs.Spans.{AreFull};
-ghost use Rattle.ipg_solve.specs.Cuts.{start_spans};
+ghost use Rattle.ipg_solve.specs.Domains.{AreFull};
+ghost use Rattle.ipg_solve.specs.Cuts.{start_domains};
 ghost use Rattle.ipg_solve.specs.Crossed.{IsCrossed};
 
 use crate::candidate::checked;
 use crate::counting::counted;
 use crate::difference::{short_enough, wants_short};
 use crate::halving::halve;
+use crate::laws::ends_combine;
 use crate::levels::decide_differences;
+use ipg_cert::laws::checks_refute;
 use ipg_cert::{Refutation, Step};
 use ipg_lin::{Boxed, Formula};
 use ipg_num::List;
@@ -34,7 +36,7 @@ fn is_crossed(bound: &(i64, i64)) -> bool
 
 /// A variable whose least value is above its greatest.
 pub fn crossed(bounds: &[(i64, i64)]) -> Option<usize>
-    ensures { MatchOption result (AreFull (start_spans 0 bounds.now)) (λ x. IsCrossed bounds.now x) }
+    ensures { MatchOption result (AreFull (start_domains 0 bounds.now)) (λ x. IsCrossed bounds.now x) }
 {
     for (x, bound) in bounds.iter().enumerate() {
         if is_crossed(bound) {
@@ -67,6 +69,7 @@ pub fn decide(alloc: Global, f: &Formula, b: &Boxed) -> Result<Decision, AllocEr
     ensures exact { IfOk result (λ decision. IsExact f.now b.now decision) }
     ensures short { IfOk result (λ decision. IsDifference f.now → width f.now < 2 ^ 21 → IsShort (max 1 (width f.now)) decision) }
 {
+    checks_refute();
     let decision = decided(alloc, f, b)?;
     Ok(decision)
 }
@@ -76,6 +79,7 @@ fn decided(alloc: Global, f: &Formula, b: &Boxed) -> Result<Decision, AllocError
     ensures decided { IfOk result (λ decision. Decides f.now b.now decision) }
     ensures short { IfOk result (λ decision. IsDifference f.now → width f.now < 2 ^ 21 → IsShort (max 1 (width f.now)) decision) }
 {
+    ends_combine();
     if let Some(x) = crossed(b.bounds.as_slice()) {
         return Ok(Decision::Refuted(crossing(alloc, x)?));
     }
@@ -99,7 +103,7 @@ fn searched(alloc: Global, f: &Formula, b: &Boxed) -> Result<Option<Decision>, A
 /// Decides the formula with no search.
 fn surely(alloc: Global, f: &Formula, b: &Boxed) -> Result<Decision, AllocError>
     requires valued { width f.now ≤ length b.now.bounds }
-    requires full { AreFull (start_spans 0 b.now.bounds) }
+    requires full { AreFull (start_domains 0 b.now.bounds) }
     ensures decided { IfOk result (λ decision. Decides f.now b.now decision) }
     ensures short { IfOk result (λ decision. IsDifference f.now → width f.now < 2 ^ 21 → IsShort (max 1 (width f.now)) decision) }
 {

@@ -8,7 +8,7 @@ ghost use Rattle.ipg_cert.specs.Checks.{root_facts};
 ghost use Rattle.ipg_solve.specs.Edges.{node_of, edge_of, edges_in, IsSized};
 
 use ipg_lin::{Boxed, Formula, Linear};
-use ipg_solve_potentials::Edge;
+use ipg_solve_potentials::Difference;
 use std::alloc::{AllocError, Global};
 
 /// The node of the first variable that is taken so often, or the ground.
@@ -28,12 +28,12 @@ fn node_of(often: i64, terms: &[(u64, i64)]) -> usize
     }
 }
 
-fn edge_of(form: &Linear) -> Edge
+fn edge_of(form: &Linear) -> Difference
     requires { terms_width form.now.terms ≤ 2 ^ 21 }
     ensures edge { result ≡ edge_of form.now }
     ensures sized { unsigned_abs form.now.constant ≤ 2 ^ 64 }
 {
-    Edge {
+    Difference {
         from: node_of(-1, form.terms()),
         to: node_of(1, form.terms()),
         fall: i128::from(form.constant()),
@@ -42,7 +42,7 @@ fn edge_of(form: &Linear) -> Edge
 
 /// Puts the edges that the formula's facts are behind the others.
 #[cycle(members)]
-fn put_edges(edges: &mut Vec<Edge>, f: &Formula) -> Result<(), AllocError>
+fn put_edges(edges: &mut Vec<Difference>, f: &Formula) -> Result<(), AllocError>
     requires { width f.now ≤ 2 ^ 21 }
     ensures edges { OnOk result (edges.new.items ≡ edges.old.items ++ edges_in (facts_of f.now)) }
     ensures sized { OnOk result (AllByRecursion IsSized (facts_of f.now)) }
@@ -55,7 +55,7 @@ fn put_edges(edges: &mut Vec<Edge>, f: &Formula) -> Result<(), AllocError>
 }
 
 #[cycle(members)]
-fn put_members(edges: &mut Vec<Edge>, members: &[Formula]) -> Result<(), AllocError>
+fn put_members(edges: &mut Vec<Difference>, members: &[Formula]) -> Result<(), AllocError>
     requires { greatest (map width members.now) ≤ 2 ^ 21 }
     ensures edges { OnOk result (edges.new.items ≡ edges.old.items ++ edges_in (flat_map facts_of members.now)) }
     ensures sized { OnOk result (AllByRecursion IsSized (flat_map facts_of members.now)) }
@@ -67,19 +67,19 @@ fn put_members(edges: &mut Vec<Edge>, members: &[Formula]) -> Result<(), AllocEr
 }
 
 /// Puts the edges between the ground and a variable.
-fn put_bound(edges: &mut Vec<Edge>, x: usize, bound: &(i64, i64)) -> Result<(), AllocError>
+fn put_bound(edges: &mut Vec<Difference>, x: usize, bound: &(i64, i64)) -> Result<(), AllocError>
     requires { x < 2 ^ 21 }
     ensures edges { OnOk result (edges.new.items ≡ edges.old.items ++ record { from = x + 1; to = 0; fall = bound.now.0 } ∷
         record { from = 0; to = x + 1; fall = neg_ℤ bound.now.1 } ∷ []) }
     ensures low { unsigned_abs bound.now.0 ≤ 2 ^ 64 }
     ensures high { unsigned_abs (neg_ℤ bound.now.1) ≤ 2 ^ 64 }
 {
-    edges.push(Edge {
+    edges.push(Difference {
         from: x + 1,
         to: 0,
         fall: i128::from(bound.0),
     })?;
-    edges.push(Edge {
+    edges.push(Difference {
         from: 0,
         to: x + 1,
         fall: -i128::from(bound.1),
@@ -87,7 +87,7 @@ fn put_bound(edges: &mut Vec<Edge>, x: usize, bound: &(i64, i64)) -> Result<(), 
     Ok(())
 }
 
-fn put_bounds(edges: &mut Vec<Edge>, bounds: &[(i64, i64)]) -> Result<(), AllocError>
+fn put_bounds(edges: &mut Vec<Difference>, bounds: &[(i64, i64)]) -> Result<(), AllocError>
     requires { length bounds.now < 2 ^ 21 }
     ensures edges { OnOk result (edges.new.items ≡ edges.old.items ++ edges_in (bound_facts 0 bounds.now)) }
     ensures sized { OnOk result (AllByRecursion IsSized (bound_facts 0 bounds.now)) }
@@ -99,7 +99,7 @@ fn put_bounds(edges: &mut Vec<Edge>, bounds: &[(i64, i64)]) -> Result<(), AllocE
 }
 
 /// The edges that the facts at the root are, in their order.
-pub fn edges_of(alloc: Global, f: &Formula, b: &Boxed) -> Result<Vec<Edge>, AllocError>
+pub fn edges_of(alloc: Global, f: &Formula, b: &Boxed) -> Result<Vec<Difference>, AllocError>
     requires valued { width f.now ≤ length b.now.bounds }
     requires few { length b.now.bounds < 2 ^ 21 }
     ensures edges { IfOk result (λ edges. edges.items ≡ edges_in (root_facts f.now b.now)) }

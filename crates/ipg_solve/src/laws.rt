@@ -1,8 +1,13 @@
-//! What holds of the ends of spans, as the contract of a function that does nothing.
+//! What holds of the ends of domains, as the contract of a function that calls only the laws it stands on.
 
 ghost use Rattle.ipg_solve.specs.Laws.{EndsCombine};
 
-/// An atom that spans rule out is refuted by one sum of facts: its own, and of each of its terms the end at which it is least.
+use ipg_cert::laws::{cancelled_is_absurd, sum_takes};
+
+/// An atom that domains rule out is refuted by one sum of facts: its own, and of each of its terms the end at which it is least.
 pub fn ends_combine()
     ensures { EndsCombine }
-{}
+{
+    sum_takes();
+    cancelled_is_absurd();
+}

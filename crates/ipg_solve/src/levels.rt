@@ -5,18 +5,19 @@ ghost use Rattle.ipg_solve.specs.Decides.{Decides};
 ghost use Rattle.ipg_solve.specs.Differences.{IsDifference, IsShort};
 ghost use Rattle.ipg_solve.specs.Edges.{AreBetween, AreHeights, entries_of};
 ghost use Rattle.ipg_solve.specs.Widened.{Levels, moved, with_lows};
-ghost use Rattle.ipg_solve.specs.Spans.{AreFull};
-ghost use Rattle.ipg_solve.specs.Cuts.{start_spans};
+ghost use Rattle.ipg_solve.specs.Domains.{AreFull};
+ghost use Rattle.ipg_solve.specs.Cuts.{start_domains};
 ghost use Rattle.ipg_cert.specs.declared.refutation.Step.TheVariants.{Combine};
 
 use crate::counting::counted;
 use crate::decision::Decision;
 use crate::edges::edges_of;
 use crate::width::width_of;
+use ipg_cert::laws::{cancelled_is_absurd, sum_takes};
 use ipg_cert::{Refutation, Step};
 use ipg_lin::{Boxed, Formula};
 use ipg_num::List;
-use ipg_solve_potentials::{Settled, settle};
+use ipg_solve_potentials::{Potentials, settle};
 use std::alloc::{AllocError, Global};
 
 /// The difference, which lies within the bounds.
@@ -67,14 +68,16 @@ fn level(alloc: Global, f: &Formula, b: &Boxed) -> Result<Leveled, AllocError>
     requires difference { IsDifference f.now }
     ensures { IfOk result (λ leveled. Levels f.now b.now leveled) }
 {
+    sum_takes();
+    cancelled_is_absurd();
     let edges = edges_of(alloc, f, b)?;
     let vars = b.bounds.len();
     match settle(alloc, vars + 1, &edges)? {
-        Settled::Levels(levels) => {
+        Potentials::Levels(levels) => {
             let values = heights(alloc, levels.as_slice(), b.bounds.as_slice())?;
             Ok(Leveled::Values(values))
         }
-        Settled::Circle(circle) => Ok(Leveled::Facts(circle)),
+        Potentials::Circle(circle) => Ok(Leveled::Facts(circle)),
     }
 }
 
@@ -130,7 +133,7 @@ pub fn decide_differences(alloc: Global, f: &Formula, b: &Boxed) -> Result<Decis
     requires valued { width f.now ≤ length b.now.bounds }
     requires few { width f.now < 2 ^ 21 }
     requires difference { IsDifference f.now }
-    requires full { AreFull (start_spans 0 b.now.bounds) }
+    requires full { AreFull (start_domains 0 b.now.bounds) }
     ensures decided { IfOk result (λ decision. Decides f.now b.now decision) }
     ensures short { IfOk result (λ decision. IsShort (max 1 (width f.now)) decision) }
 {

@@ -4,9 +4,10 @@
 mod candidate;
 mod closing;
 mod counting;
-mod cut;
 mod decision;
 mod difference;
+mod domain;
+mod domain_cut;
 mod edges;
 mod halving;
 pub mod laws;
@@ -14,7 +15,6 @@ mod least;
 mod levels;
 #[cfg(test)]
 mod small;
-mod span;
 #[cfg(test)]
 mod tests;
 mod width;

@@ -10,7 +10,7 @@ use crate::levels::decide_differences;
 use ipg_cert::{Refutation, Step, check};
 use ipg_lin::{Boxed, Formula, Linear, holds, is_over};
 use ipg_num::List;
-use ipg_solve_search::{Found, seek};
+use ipg_solve_search::{SearchEnd, seek};
 use std::alloc::Global;
 use std::test::Fail;
 
@@ -80,10 +80,10 @@ fn formula(alloc: Global, state: &mut u64, level: u64) -> Result<Formula, Fail> 
 
 /// Four variables, each of up to eight values.
 fn bounds(state: &mut u64) -> [(i64, i64); 4] {
-    [span(state), span(state), span(state), span(state)]
+    [domain(state), domain(state), domain(state), domain(state)]
 }
 
-fn span(state: &mut u64) -> (i64, i64) {
+fn domain(state: &mut u64) -> (i64, i64) {
     let low = around_zero(state, 6);
     (low, low + draw(state, 8) as i64)
 }
@@ -139,8 +139,8 @@ fn is_found(alloc: Global, f: &Formula, bounds: &[(i64, i64); 4]) -> Result<bool
         return Ok(false);
     }
     match seek(alloc, f, &b)? {
-        Some(Found::Values(values)) => Ok(solves(f, &b, values.as_slice())),
-        Some(Found::Refuted(r)) => Ok(check(alloc, f, &b, &r)?),
+        Some(SearchEnd::Values(values)) => Ok(solves(f, &b, values.as_slice())),
+        Some(SearchEnd::Refuted(r)) => Ok(check(alloc, f, &b, &r)?),
         None => Ok(false),
     }
 }

@@ -5,16 +5,16 @@ use Rattle.std.specs.List.{AllByRecursion}
 use Rattle.std.proofs.lemmas.Int.{ints}
 use Rattle.std.proofs.lemmas.List.{length-map}
 use borrow.Author.Differences.{same_in}
-use Rattle.ipg_solve_potentials.specs.declared.edge.Edge.{Edge}
+use Rattle.ipg_solve_potentials.specs.declared.difference.Difference.{Difference}
 use Rattle.ipg_solve_potentials.specs.declared.trail.Stop.{Stop}
-use Rattle.ipg_solve_potentials.specs.declared.settling.Settled.{Settled}
-use Rattle.ipg_solve_potentials.specs.declared.settling.Settled.TheVariants.{Levels, Circle}
+use Rattle.ipg_solve_potentials.specs.declared.settling.Potentials.{Potentials}
+use Rattle.ipg_solve_potentials.specs.declared.settling.Potentials.TheVariants.{Levels, Circle}
 use Rattle.ipg_solve_potentials.specs.Falls.{level_at, edge_at, AreEdges, LeadBack, AllFall, fall_of, IsCircle, IsExact, Settles}
 use Rattle.ipg_solve_potentials.specs.Trails.{IsTrail, IsAbove, IsWrong, LeadsTo, State, stop_at, trail_at, edges_of, is_wrong}
 use Rattle.ipg_solve_potentials.proofs.Levels.{trail_short}
 
 -- the edges since a stop lead back to it
-leads_back : (edges : List Edge) (stop : Stop) (trail : List Stop) (place : ℕ) → IsTrail edges (stop ∷ trail) → place < length (stop ∷ trail)
+leads_back : (edges : List Difference) (stop : Stop) (trail : List Stop) (place : ℕ) → IsTrail edges (stop ∷ trail) → place < length (stop ∷ trail)
     → LeadBack edges stop.node (edges_of (take place (stop ∷ trail))) (stop_at (stop ∷ trail) place).node
 leads_back edges stop trail zero is within = refl
 leads_back edges stop [] (suc place) is within = absurd (omega arith)
@@ -26,7 +26,7 @@ leads_back edges stop (before ∷ trail) (suc place) is within = (
 )
 
 -- and they fall by the difference of the levels
-falls_back : (edges : List Edge) (stop : Stop) (trail : List Stop) (place : ℕ) → IsTrail edges (stop ∷ trail) → place < length (stop ∷ trail)
+falls_back : (edges : List Difference) (stop : Stop) (trail : List Stop) (place : ℕ) → IsTrail edges (stop ∷ trail) → place < length (stop ∷ trail)
     → fall_of edges (edges_of (take place (stop ∷ trail))) +ℤ stop.level ≡ (stop_at (stop ∷ trail) place).level
 falls_back edges stop trail zero is within = same_in _ _ (omega (arith, ints))
 falls_back edges stop [] (suc place) is within = absurd (omega arith)
@@ -38,14 +38,14 @@ above_at levels [] place above within = absurd (omega arith)
 above_at levels (stop ∷ trail) zero above within = above.0
 above_at levels (stop ∷ trail) (suc place) above within = above_at levels trail place above.1 (omega arith)
 
-pub wrong_is : (levels : List ℤ) (edge : Edge) → is_wrong levels edge ≡ true → level_at levels edge.from <ℤ (level_at levels edge.to +ℤ edge.fall)
+pub wrong_is : (levels : List ℤ) (edge : Difference) → is_wrong levels edge ≡ true → level_at levels edge.from <ℤ (level_at levels edge.to +ℤ edge.fall)
 wrong_is levels edge h = omega (arith, ints)
 
 rises : (from to fall rest tip start : ℤ) → from <ℤ (to +ℤ fall) → tip ≡ from → to ≤ℤ start → rest +ℤ tip ≡ start → pos 0 <ℤ (fall +ℤ rest)
 rises from to fall rest tip start wrong is above back = omega (arith, ints)
 
 -- an edge that the levels break closes a circle that falls where the trail has passed its end
-pub closes : (edges : List Edge) (levels : List ℤ) (n : ℕ) (trail : List Stop) (place : ℕ) → IsWrong levels edges n
+pub closes : (edges : List Difference) (levels : List ℤ) (n : ℕ) (trail : List Stop) (place : ℕ) → IsWrong levels edges n
     → LeadsTo edges levels (edge_at edges n).from trail → place < length trail → (stop_at trail place).node ≡ (edge_at edges n).to
     → IsCircle edges (n ∷ edges_of (take place trail))
 closes edges levels n [] place wrong leads within is = absurd (omega arith)
@@ -62,7 +62,7 @@ closes edges levels n (tip ∷ trail) place wrong leads within is =
           (wrong_is levels edge wrong.1) leads.level above (falls_back edges tip trail place leads.is_trail within),
     )
 
-pub circle_found : (edges : List Edge) (levels : List ℤ) (trails : List (List Stop)) (n : ℕ) (seen lent : List Stop) (place : ℕ) (circle : List ℕ)
+pub circle_found : (edges : List Difference) (levels : List ℤ) (trails : List (List Stop)) (n : ℕ) (seen lent : List Stop) (place : ℕ) (circle : List ℕ)
     → State edges levels trails → AreEdges (length levels) edges → IsWrong levels edges n
     → seen ≡ trail_at trails (edge_at edges n).from → lent ≡ trail_at trails (edge_at edges n).from
     → (place < length seen) × ((stop_at seen place).node ≡ (edge_at edges n).to) → circle ≡ n ∷ edges_of (take place lent)
@@ -85,13 +85,13 @@ circle_found edges levels trails n seen lent place circle state joined wrong sam
     )
 
 -- levels that fall along each edge fall as far as a way back does
-back_falls : (edges : List Edge) (levels : List ℤ) → AllFall levels edges → (node : ℕ) (ns : List ℕ) (start : ℕ) → LeadBack edges node ns start
+back_falls : (edges : List Difference) (levels : List ℤ) → AllFall levels edges → (node : ℕ) (ns : List ℕ) (start : ℕ) → LeadBack edges node ns start
     → (level_at levels node +ℤ fall_of edges ns) ≤ℤ level_at levels start
 back_falls edges levels falls node [] start back = omega (arith, ints, ap (level_at levels) back)
 back_falls edges levels falls node (n ∷ ns) start back =
     omega (arith, ints, falls n back.0, ap (level_at levels) back.1, back_falls edges levels falls (edge_at edges n).from ns start back.2)
 
-pub is_exact : (nodes : ℕ) (edges : List Edge) (settled : Settled) → Settles nodes edges settled → IsExact edges settled
+pub is_exact : (nodes : ℕ) (edges : List Difference) (settled : Potentials) → Settles nodes edges settled → IsExact edges settled
 is_exact nodes edges (Levels levels) settles = (λ _. (levels, settles.1), λ _. refl)
 is_exact nodes edges (Circle circle) settles =
     (λ h. absurd (cc), λ fall. absurd (omega (arith, ints, settles.0.2, back_falls edges fall.0 fall.1 settles.0.0 circle settles.0.0 settles.0.1)))

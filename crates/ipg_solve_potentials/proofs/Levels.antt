@@ -9,7 +9,7 @@ use Rattle.std.proofs.lemmas.Bool.{cases_eq, cases_lt}
 use Rattle.std.proofs.lemmas.List.{length-map, length-set, get_or-set_same, get_or-set_other, get_or_past}
 use Rattle.std.proofs.lemmas.List.Sums.{sum_by-set}
 use Rattle.std.proofs.lemmas.Map.Steps.{length-le_from_distinct_below}
-use Rattle.ipg_solve_potentials.specs.declared.edge.Edge.{Edge}
+use Rattle.ipg_solve_potentials.specs.declared.difference.Difference.{Difference}
 use Rattle.ipg_solve_potentials.specs.declared.trail.Stop.{Stop}
 use Rattle.ipg_solve_potentials.specs.Falls.{level_at, edge_at, AreEdges}
 use Rattle.ipg_solve_potentials.specs.Trails.{AreSmall, IsAbove, LeadsTo, State, nodes_of, trail_at, room}
@@ -24,7 +24,7 @@ node_below levels (stop ∷ trail) above q is =
     ] refl is
 
 -- a trail that passes no node twice has no more stops than there are nodes
-pub trail_short : (edges : List Edge) (levels : List ℤ) (node : ℕ) (trail : List Stop) → LeadsTo edges levels node trail → length trail ≤ length levels
+pub trail_short : (edges : List Difference) (levels : List ℤ) (node : ℕ) (trail : List Stop) → LeadsTo edges levels node trail → length trail ≤ length levels
 trail_short edges levels node trail leads =
     omega (
       arith,
@@ -33,11 +33,11 @@ trail_short edges levels node trail leads =
           (node_below levels trail leads.above),
     )
 
-pub small_level : (edges : List Edge) (levels : List ℤ) (node : ℕ) (trail : List Stop) → LeadsTo edges levels node trail
+pub small_level : (edges : List Difference) (levels : List ℤ) (node : ℕ) (trail : List Stop) → LeadsTo edges levels node trail
     → unsigned_abs (level_at levels node) ≤ length levels * 2 ^ 64
 small_level edges levels node trail leads = omega (arith, leads.size, trail_short edges levels node trail leads)
 
-pub levels_small : (edges : List Edge) (levels : List ℤ) (trails : List (List Stop)) → State edges levels trails → AreSmall levels
+pub levels_small : (edges : List Difference) (levels : List ℤ) (trails : List (List Stop)) → State edges levels trails → AreSmall levels
 levels_small edges levels trails state node =
     elim (cases_lt node (length levels)) [
       | inl within ↦ small_level edges levels node (trail_at trails node) (state.lead node within)
@@ -45,7 +45,7 @@ levels_small edges levels trails state node =
     ]
 
 -- a level and a fall are far from the end of 128 bits
-pub edge_fits : (edges : List Edge) (levels lent : List ℤ) (trails : List (List Stop)) (n : ℕ) → AreEdges (length levels) edges → length levels ≤ 2 ^ 22
+pub edge_fits : (edges : List Difference) (levels lent : List ℤ) (trails : List (List Stop)) (n : ℕ) → AreEdges (length levels) edges → length levels ≤ 2 ^ 22
     → State edges levels trails → n < length edges → lent ≡ levels
     → unsigned_abs (level_at lent (edge_at edges n).from) + unsigned_abs (edge_at edges n).fall < 2 ^ 127
 edge_fits edges levels lent trails n joined few state within same =

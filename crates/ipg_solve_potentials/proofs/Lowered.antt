@@ -8,7 +8,7 @@ use Rattle.std.proofs.lemmas.Bool.{cases_eq}
 use Rattle.std.proofs.lemmas.List.{length-set, length-replicate, get_or-set_same, get_or-set_other, get_or-replicate}
 use Rattle.std.proofs.lemmas.Map.Keys.{IsDistinct-cons, IsDistinct-from_apart}
 use borrow.Author.Differences.{same_in}
-use Rattle.ipg_solve_potentials.specs.declared.edge.Edge.{Edge}
+use Rattle.ipg_solve_potentials.specs.declared.difference.Difference.{Difference}
 use Rattle.ipg_solve_potentials.specs.declared.trail.Stop.{Stop}
 use Rattle.ipg_solve_potentials.specs.Falls.{level_at, edge_at, IsEdge, AreEdges}
 use Rattle.ipg_solve_potentials.specs.Trails.{IsTrail, IsWrong, PassesBy, LeadsTo, State, Lowers, AreStarts, stop_at, trail_at, nodes_of}
@@ -16,17 +16,18 @@ use Rattle.ipg_solve_potentials.proofs.Circles.{wrong_is}
 use Rattle.ipg_solve_potentials.proofs.Levels.{small_level, above_stays, room_falls}
 
 -- the level to which the edge's end is lowered
-abbrev pub reached : List ℤ → Edge → ℤ
+abbrev pub reached : List ℤ → Difference → ℤ
 reached levels edge = level_at levels edge.from -ℤ edge.fall
 
 -- the stop at which the edge ends
-abbrev pub end_stop : List ℤ → List Edge → ℕ → Stop
+abbrev pub end_stop : List ℤ → List Difference → ℕ → Stop
 end_stop levels edges n = record { node = (edge_at edges n).to; level = reached levels (edge_at edges n); edge = n }
 
-is_lower : (levels : List ℤ) (edges : List Edge) (n : ℕ) → IsWrong levels edges n → reached levels (edge_at edges n) <ℤ level_at levels (edge_at edges n).to
+is_lower : (levels : List ℤ) (edges : List Difference) (n : ℕ) → IsWrong levels edges n
+    → reached levels (edge_at edges n) <ℤ level_at levels (edge_at edges n).to
 is_lower levels edges n wrong = omega (arith, ints, wrong_is levels (edge_at edges n) wrong.1)
 
-longer_trail : (edges : List Edge) (levels : List ℤ) (n : ℕ) (trail : List Stop) → n < length edges → IsTrail edges trail → 0 < length trail
+longer_trail : (edges : List Difference) (levels : List ℤ) (n : ℕ) (trail : List Stop) → n < length edges → IsTrail edges trail → 0 < length trail
     → (stop_at trail 0).node ≡ (edge_at edges n).from → (stop_at trail 0).level ≡ level_at levels (edge_at edges n).from
     → IsTrail edges (end_stop levels edges n ∷ trail)
 longer_trail edges levels n [] within is some ends level = absurd (omega arith)
@@ -35,7 +36,7 @@ longer_trail edges levels n (tip ∷ trail) within is some ends level = (within,
 grown : (from fall : ℤ) (k n : ℕ) → n ≡ k + 1 → unsigned_abs from ≤ k * 2 ^ 64 → unsigned_abs fall ≤ 2 ^ 64 → unsigned_abs (from -ℤ fall) ≤ n * 2 ^ 64
 grown from fall k n e a b = omega (arith, ints)
 
-new_trail : (edges : List Edge) (levels : List ℤ) (n : ℕ) (trail : List Stop) → IsEdge (length levels) (edge_at edges n) → IsWrong levels edges n
+new_trail : (edges : List Difference) (levels : List ℤ) (n : ℕ) (trail : List Stop) → IsEdge (length levels) (edge_at edges n) → IsWrong levels edges n
     → LeadsTo edges levels (edge_at edges n).from trail → PassesBy (edge_at edges n).to trail
     → LeadsTo edges (set levels (edge_at edges n).to (reached levels (edge_at edges n))) (edge_at edges n).to (end_stop levels edges n ∷ trail)
 new_trail edges levels n trail joins wrong leads by =
@@ -57,7 +58,7 @@ new_trail edges levels n trail joins wrong leads by =
           (grown (level_at levels edge.from) edge.fall (length trail) _ (omega arith) leads.size joins.2);
     }
 
-old_trail : (edges : List Edge) (levels : List ℤ) (to : ℕ) (level : ℤ) (node : ℕ) (trail : List Stop) → to < length levels → level ≤ℤ level_at levels to
+old_trail : (edges : List Difference) (levels : List ℤ) (to : ℕ) (level : ℤ) (node : ℕ) (trail : List Stop) → to < length levels → level ≤ℤ level_at levels to
     → LeadsTo edges levels node trail → level_at (set levels to level) node ≡ level_at levels node
     → LeadsTo edges (set levels to level) node trail
 old_trail edges levels to level node trail within low leads same =
@@ -71,7 +72,7 @@ old_trail edges levels to level node trail within low leads same =
       size = subst (λ z. unsigned_abs z ≤ length trail * 2 ^ 64) (sym same) leads.size;
     }
 
-pub lowered : (edges : List Edge) (levels : List ℤ) (trails : List (List Stop)) (n : ℕ) → AreEdges (length levels) edges → State edges levels trails
+pub lowered : (edges : List Difference) (levels : List ℤ) (trails : List (List Stop)) (n : ℕ) → AreEdges (length levels) edges → State edges levels trails
     → IsWrong levels edges n → PassesBy (edge_at edges n).to (trail_at trails (edge_at edges n).from)
     → Lowers edges levels (set levels (edge_at edges n).to (reached levels (edge_at edges n)))
     (set trails (edge_at edges n).to (end_stop levels edges n ∷ trail_at trails (edge_at edges n).from)) None
@@ -104,7 +105,8 @@ lowered edges levels trails n joined state wrong by =
       room_falls (length levels * 2 ^ 64) levels edge.to level joins.1 low small,
     )
 
-pub lowered_to : (edges : List Edge) (levels lent new : List ℤ) (trails : List (List Stop)) (n : ℕ) (seen trail : List Stop) (level : ℤ) (longer : List Stop)
+pub lowered_to : (edges : List Difference) (levels lent new : List ℤ) (trails : List (List Stop)) (n : ℕ) (seen trail : List Stop) (level : ℤ)
+    (longer : List Stop)
     → AreEdges (length levels) edges → State edges levels trails → IsWrong levels edges n → lent ≡ levels
     → seen ≡ trail_at trails (edge_at edges n).from → trail ≡ trail_at trails (edge_at edges n).from → PassesBy (edge_at edges n).to seen
     → level ≡ reached lent (edge_at edges n) → longer ≡ record { node = (edge_at edges n).to; level = level; edge = n } ∷ trail
@@ -118,7 +120,7 @@ lowered_to edges levels lent new trails n seen trail level longer joined state w
     (subst (λ ss. Lowers edges levels (set levels edge.to (reached levels edge)) (set trails edge.to ss) None) (sym made)
     (lowered edges levels trails n joined state wrong (subst (PassesBy edge.to) seen_is by)))
 
-start_leads : (edges : List Edge) (levels : List ℤ) (node : ℕ) → node < length levels → level_at levels node ≡ pos 0
+start_leads : (edges : List Difference) (levels : List ℤ) (node : ℕ) → node < length levels → level_at levels node ≡ pos 0
     → LeadsTo edges levels node (record { node = node; level = pos 0; edge = 0 } ∷ [])
 start_leads edges levels node within is =
     record {
@@ -131,7 +133,8 @@ start_leads edges levels node within is =
       size = subst (λ z. unsigned_abs z ≤ 1 * 2 ^ 64) (sym is) (omega arith);
     }
 
-pub start_state : (edges : List Edge) (nodes : ℕ) (levels : List ℤ) (trails : List (List Stop)) → levels ≡ replicate nodes (pos 0) → AreStarts nodes trails
+pub start_state : (edges : List Difference) (nodes : ℕ) (levels : List ℤ) (trails : List (List Stop)) → levels ≡ replicate nodes (pos 0)
+    → AreStarts nodes trails
     → State edges levels trails
 start_state edges nodes levels trails is starts =
     let count : length levels ≡ nodes = ap length is ∙ length-replicate nodes (pos 0) in

@@ -3,20 +3,20 @@ use Rattle.std.specs.Prelude.{◌≡◌, ℕ, ◌*◌, ◌^◌, ◌<◌, ◌≤�
 use Rattle.std.specs.Prelude.{int_lt, List, [], ◌∷◌, map, length, slice_index_or, Option, None, Some}
 use Rattle.std.specs.Int.RustNames.{unsigned_abs}
 use Rattle.std.specs.List.{AllByRecursion, IsDistinct, sum_by}
-use Rattle.ipg_solve_potentials.specs.declared.edge.Edge.{Edge}
+use Rattle.ipg_solve_potentials.specs.declared.difference.Difference.{Difference}
 use Rattle.ipg_solve_potentials.specs.declared.trail.Stop.{Stop}
 use Rattle.ipg_solve_potentials.specs.Falls.{level_at, edge_at, IsCircle}
 
 -- the level falls less than the edge says
-abbrev pub is_wrong : List ℤ → Edge → Bool
+abbrev pub is_wrong : List ℤ → Difference → Bool
 is_wrong levels edge = int_lt (level_at levels edge.from) (level_at levels edge.to +ℤ edge.fall)
 
 -- the edge of this number is one that the levels break
-abbrev pub IsWrong : List ℤ → List Edge → ℕ → Type 0
+abbrev pub IsWrong : List ℤ → List Difference → ℕ → Type 0
 IsWrong levels edges n = (n < length edges) × (is_wrong levels (edge_at edges n) ≡ true)
 
 -- the levels fall along the edges from the one number to before the other
-abbrev pub FallBetween : ℕ → ℕ → List ℤ → List Edge → Type 0
+abbrev pub FallBetween : ℕ → ℕ → List ℤ → List Difference → Type 0
 FallBetween from to levels edges = (n : ℕ) → from ≤ n → n < to → is_wrong levels (edge_at edges n) ≡ false
 
 -- no level is larger than so many falls
@@ -43,7 +43,7 @@ abbrev pub PassesBy : ℕ → List Stop → Type 0
 PassesBy node trail = AllByRecursion (λ other. nat_eq node other ≡ false) (nodes_of trail)
 
 -- each stop was reached from the one before it by its edge
-abbrev pub IsTrail : List Edge → List Stop → Type 0
+abbrev pub IsTrail : List Difference → List Stop → Type 0
 IsTrail edges [] = Unit {0}
 IsTrail edges (stop ∷ []) = Unit {0}
 IsTrail edges (stop ∷ before ∷ trail) =
@@ -55,7 +55,7 @@ abbrev pub IsAbove : List ℤ → Stop → Type 0
 IsAbove levels stop = (stop.node < length levels) × (level_at levels stop.node ≤ℤ stop.level)
 
 -- The trail leads to the node at its level, and passes no node twice.
-pub record LeadsTo (edges : List Edge) (levels : List ℤ) (node : ℕ) (trail : List Stop) : Type 0 where
+pub record LeadsTo (edges : List Difference) (levels : List ℤ) (node : ℕ) (trail : List Stop) : Type 0 where
   pub some : 0 < length trail
   pub is_trail : IsTrail edges trail
   pub ends : (stop_at trail 0).node ≡ node
@@ -65,7 +65,7 @@ pub record LeadsTo (edges : List Edge) (levels : List ℤ) (node : ℕ) (trail :
   pub size : unsigned_abs (level_at levels node) ≤ length trail * 2 ^ 64
 
 -- Each node has a trail that leads to it.
-pub record State (edges : List Edge) (levels : List ℤ) (trails : List (List Stop)) : Type 0 where
+pub record State (edges : List Difference) (levels : List ℤ) (trails : List (List Stop)) : Type 0 where
   pub each : length trails ≡ length levels
   pub lead : (node : ℕ) → node < length levels → LeadsTo edges levels node (trail_at trails node)
 
@@ -78,7 +78,7 @@ abbrev pub room : ℕ → List ℤ → ℕ
 room most levels = sum_by (λ level. unsigned_abs (level +ℤ pos most)) levels
 
 -- a short circle was found, or some level is lower than before
-abbrev pub Lowers : List Edge → List ℤ → List ℤ → List (List Stop) → Option (List ℕ) → Type 0
+abbrev pub Lowers : List Difference → List ℤ → List ℤ → List (List Stop) → Option (List ℕ) → Type 0
 Lowers edges old levels trails None =
     (length levels ≡ length old) × State edges levels trails × (room (length old * 2 ^ 64) levels < room (length old * 2 ^ 64) old)
 Lowers edges old levels trails (Some circle) = IsCircle edges circle × (length circle ≤ length old)

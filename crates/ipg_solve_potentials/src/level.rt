@@ -3,16 +3,16 @@ ghost use Rattle.std.specs.Int.RustNames.{unsigned_abs};
 ghost use Rattle.ipg_solve_potentials.specs.Falls.{level_at, AreEdges, AllFall};
 ghost use Rattle.ipg_solve_potentials.specs.Trails.{AreSmall, FallBetween, IsWrong, is_wrong};
 
-use crate::edge::Edge;
+use crate::difference::Difference;
 
-fn sum(x: i128, y: i128) -> i128
+fn plus(x: i128, y: i128) -> i128
     requires { unsigned_abs x + unsigned_abs y < 2 ^ 127 }
     ensures { result ≡ x +ℤ y }
 {
     x + y
 }
 
-fn difference(x: i128, y: i128) -> i128
+fn minus(x: i128, y: i128) -> i128
     requires { unsigned_abs x + unsigned_abs y < 2 ^ 127 }
     ensures { result ≡ x -ℤ y }
 {
@@ -20,12 +20,12 @@ fn difference(x: i128, y: i128) -> i128
 }
 
 /// How low the edge's end must be.
-pub fn reached(levels: &[i128], edge: Edge) -> i128
+pub fn reached(levels: &[i128], edge: Difference) -> i128
     requires within { edge.from < length levels.now }
     requires size { unsigned_abs (level_at levels.now edge.from) + unsigned_abs edge.fall < 2 ^ 127 }
     ensures { result ≡ level_at levels.now edge.from -ℤ edge.fall }
 {
-    difference(levels[edge.from], edge.fall)
+    minus(levels[edge.from], edge.fall)
 }
 
 pub fn put_level(levels: &mut Vec<i128>, node: usize, level: i128)
@@ -36,17 +36,17 @@ pub fn put_level(levels: &mut Vec<i128>, node: usize, level: i128)
 }
 
 /// Whether the level falls less than the edge says.
-fn is_wrong(levels: &[i128], edge: Edge) -> bool
+fn is_wrong(levels: &[i128], edge: Difference) -> bool
     requires from { edge.from < length levels.now }
     requires to { edge.to < length levels.now }
     requires size { unsigned_abs (level_at levels.now edge.to) + unsigned_abs edge.fall < 2 ^ 127 }
     ensures { result ≡ is_wrong levels.now edge }
 {
-    levels[edge.from] < sum(levels[edge.to], edge.fall)
+    levels[edge.from] < plus(levels[edge.to], edge.fall)
 }
 
 /// The first edge from the one number to before the other that the levels break.
-fn wrong_between(levels: &[i128], edges: &[Edge], from: usize, to: usize) -> Option<usize>
+fn wrong_between(levels: &[i128], edges: &[Difference], from: usize, to: usize) -> Option<usize>
     requires edges { AreEdges (length levels.now) edges.now }
     requires few { length levels.now ≤ 2 ^ 22 }
     requires small { AreSmall levels.now }
@@ -62,7 +62,7 @@ fn wrong_between(levels: &[i128], edges: &[Edge], from: usize, to: usize) -> Opt
 }
 
 /// The first edge that the levels break, from this one on and then round from the first one.
-pub fn next_wrong(levels: &[i128], edges: &[Edge], from: usize) -> Option<usize>
+pub fn next_wrong(levels: &[i128], edges: &[Difference], from: usize) -> Option<usize>
     requires edges { AreEdges (length levels.now) edges.now }
     requires few { length levels.now ≤ 2 ^ 22 }
     requires small { AreSmall levels.now }

@@ -2,15 +2,15 @@ ghost use Rattle.std.specs.Prelude.{◌^◌, ◌<◌, ◌≤◌, length, IfOk};
 ghost use Rattle.ipg_solve_potentials.specs.Falls.{AreEdges, Settles, IsExact};
 ghost use Rattle.ipg_solve_potentials.specs.Trails.{IsWrong, State, Lowers};
 
-use crate::edge::Edge;
+use crate::difference::Difference;
 use crate::level::{next_wrong, put_level, reached};
 use crate::trail::{Stop, circle_of, extended, place_of, start_trails, trail_of};
 use ipg_num::List;
 use std::alloc::{AllocError, Global};
 
-/// What became of a graph.
+/// What a graph comes to: potentials of its nodes, or a reason that there are none.
 #[derive(Drop)]
-pub enum Settled {
+pub enum Potentials {
     /// A level for each node: along each edge they fall as far as it says.
     Levels(List<i128>),
     /// The numbers of the edges of a circle that falls, the last one first.
@@ -21,7 +21,7 @@ pub enum Settled {
 fn lower(
     alloc: Global,
     n: usize,
-    edges: &[Edge],
+    edges: &[Difference],
     levels: &mut Vec<i128>,
     trails: &mut Vec<List<Stop>>,
 ) -> Result<Option<List<u64>>, AllocError>
@@ -43,7 +43,11 @@ fn lower(
     Ok(None)
 }
 
-fn levels_or_circle(alloc: Global, nodes: usize, edges: &[Edge]) -> Result<Settled, AllocError>
+fn levels_or_circle(
+    alloc: Global,
+    nodes: usize,
+    edges: &[Difference],
+) -> Result<Potentials, AllocError>
     requires edges { AreEdges nodes edges.now }
     requires few { nodes ≤ 2 ^ 22 }
     ensures { IfOk result (λ settled. Settles nodes edges.now settled) }
@@ -53,17 +57,17 @@ fn levels_or_circle(alloc: Global, nodes: usize, edges: &[Edge]) -> Result<Settl
     let mut from = 0;
     while let Some(n) = next_wrong(&levels, edges, from) {
         if let Some(circle) = lower(alloc, n, edges, &mut levels, &mut trails)? {
-            return Ok(Settled::Circle(circle));
+            return Ok(Potentials::Circle(circle));
         }
         from = n;
     }
-    Ok(Settled::Levels(List::from_vec(levels)))
+    Ok(Potentials::Levels(List::from_vec(levels)))
 }
 
 /// Levels that fall along each edge as far as it says, or a circle of at most as many edges as nodes
 /// whose falls sum up to more than 0, so that there are no such levels. Each edge joins two of the
 /// `nodes` nodes, of which there are at most 2^22, and no fall is above 2^64 in size.
-pub fn settle(alloc: Global, nodes: usize, edges: &[Edge]) -> Result<Settled, AllocError>
+pub fn settle(alloc: Global, nodes: usize, edges: &[Difference]) -> Result<Potentials, AllocError>
     requires edges { AreEdges nodes edges.now }
     requires few { nodes ≤ 2 ^ 22 }
     ensures settled { IfOk result (λ settled. Settles nodes edges.now settled) }

@@ -1,19 +1,18 @@
 //! Cases are opened, and where one is refuted the search goes on to the next, or jumps back over cases that
 //! played no part.
-use crate::end::End;
 use crate::gone::Gone;
-use crate::marks::Limit;
-use crate::parting::Parting;
+use crate::parting::{above, below};
 use crate::seeker::{Branching, Cases, Seeker};
-use crate::steps::Place;
-use ipg_cert::{Known, Step};
+use crate::steps::StepPlace;
+use ipg_cert::{FactRef, Step};
 use ipg_lin::Formula;
 use ipg_num::item_at;
+use ipg_solve_bounds::{DomainEnd, Limit, Parting};
 use std::alloc::AllocError;
 
 /// Whether a case is at hand.
 #[derive(Clone, Copy)]
-pub enum Next {
+pub enum CaseAtHand {
     Case,
     /// All are refuted.
     Done,
@@ -21,7 +20,7 @@ pub enum Next {
 
 /// What a case adds to the facts.
 #[derive(Clone, Copy)]
-enum Added<'a> {
+enum CaseFact<'a> {
     Member(&'a Formula),
     Below(Parting),
     Above(Parting),
@@ -29,15 +28,15 @@ enum Added<'a> {
 
 impl<'a> Branching<'a> {
     /// The next case, if one is left.
-    fn next(&self) -> Option<Added<'a>> {
+    fn next(&self) -> Option<CaseFact<'a>> {
         match self.cases {
             Cases::Members(members, _) => match item_at(members, self.taken) {
-                Some(member) => Some(Added::Member(member)),
+                Some(member) => Some(CaseFact::Member(member)),
                 None => None,
             },
             Cases::Parts(parting) => match self.taken {
-                0 => Some(Added::Below(parting)),
-                1 => Some(Added::Above(parting)),
+                0 => Some(CaseFact::Below(parting)),
+                1 => Some(CaseFact::Above(parting)),
                 _ => None,
             },
         }
@@ -46,9 +45,9 @@ impl<'a> Branching<'a> {
 
 impl<'a> Seeker<'a> {
     /// Opens the cases of an Any, the first of them at hand.
-    pub fn open_members(&mut self, choice: usize) -> Result<Next, AllocError> {
+    pub fn open_members(&mut self, choice: usize) -> Result<CaseAtHand, AllocError> {
         let Some(what) = self.facts.choices.get_mut(choice) else {
-            return Ok(Next::Done);
+            return Ok(CaseAtHand::Done);
         };
         what.is_open = true;
         let (fact, members) = (what.fact, what.members);
@@ -62,7 +61,7 @@ impl<'a> Seeker<'a> {
     }
 
     /// Cuts the box, the part below at hand.
-    pub fn open_parts(&mut self, parting: Parting) -> Result<Next, AllocError> {
+    pub fn open_parts(&mut self, parting: Parting) -> Result<CaseAtHand, AllocError> {
         let cuts = self.cuts().saturating_add(1);
         let step = self.steps.here();
         self.steps.push(&Step::Split {
@@ -80,13 +79,18 @@ impl<'a> Seeker<'a> {
         }
     }
 
-    fn open(&mut self, cases: Cases<'a>, step: Place, cuts: usize) -> Result<Next, AllocError> {
+    fn open(
+        &mut self,
+        cases: Cases<'a>,
+        step: StepPlace,
+        cuts: usize,
+    ) -> Result<CaseAtHand, AllocError> {
         let case = self.steps.here();
         self.branchings.push(Branching {
             cases,
             taken: 0,
             facts: self.facts.len(),
-            marks: self.marks.len(),
+            bounds: self.bounds.trail.len(),
             looks: self.looks.len(),
             cuts,
             step,
@@ -98,22 +102,22 @@ impl<'a> Seeker<'a> {
     }
 
     /// Goes on to the next case after one was refuted.
-    pub fn go_on(&mut self) -> Result<Next, AllocError> {
+    pub fn go_on(&mut self) -> Result<CaseAtHand, AllocError> {
         for _ in 0..self.branchings.len() {
             let Some(branching) = self.branchings.last() else {
-                return Ok(Next::Done);
+                return Ok(CaseAtHand::Done);
             };
             let branching = *branching;
             let is_named = branching.taken == 0 || 0 < branching.named;
             match branching.next() {
                 Some(added) if is_named => {
                     self.enter(branching, added)?;
-                    return Ok(Next::Case);
+                    return Ok(CaseAtHand::Case);
                 }
                 _ => self.close_branching(branching, is_named)?,
             }
         }
-        Ok(Next::Done)
+        Ok(CaseAtHand::Done)
     }
 
     /// Leaves a branching whose cases are refuted. Where the steps of its last case name none of the case's
@@ -148,22 +152,28 @@ impl<'a> Seeker<'a> {
     }
 
     /// Brings a case to hand.
-    fn enter(&mut self, branching: Branching<'a>, added: Added<'a>) -> Result<(), AllocError> {
+    fn enter(&mut self, branching: Branching<'a>, added: CaseFact<'a>) -> Result<(), AllocError> {
         self.forget(branching.looks);
         self.facts.truncate(branching.facts);
-        self.marks.undo(branching.marks);
+        self.bounds.atoms.truncate(branching.facts);
+        self.bounds.trail.undo(branching.bounds);
         let depth = self.branchings.len();
         match added {
-            Added::Member(member) => self.facts.add(member, depth)?,
-            Added::Below(parting) => {
-                let fact = self.facts.add_limit(Known::Limit(parting.below()), depth)?;
-                self.bound(End::high(parting.var), parting.at, fact)?;
+            CaseFact::Member(member) => self.facts.add(member)?,
+            CaseFact::Below(parting) => {
+                let fact = self.facts.add_limit(FactRef::Limit(below(parting)))?;
+                self.bound(DomainEnd::high(parting.var), parting.at, fact)?;
             }
-            Added::Above(parting) => {
-                let fact = self.facts.add_limit(Known::Limit(parting.above()), depth)?;
-                self.bound(End::low(parting.var), parting.at.saturating_add(1), fact)?;
+            CaseFact::Above(parting) => {
+                let fact = self.facts.add_limit(FactRef::Limit(above(parting)))?;
+                self.bound(
+                    DomainEnd::low(parting.var),
+                    parting.at.saturating_add(1),
+                    fact,
+                )?;
             }
         }
+        self.enlist(depth)?;
         let own = self.facts.len().saturating_sub(branching.facts);
         let case = self.steps.here();
         if let Some(slot) = self.branchings.last_mut() {
@@ -175,8 +185,8 @@ impl<'a> Seeker<'a> {
         Ok(())
     }
 
-    fn bound(&mut self, end: End, at: i64, fact: usize) -> Result<(), AllocError> {
-        self.marks.take_limit(end, Limit { fact, at })?;
-        self.facts.wake(end.var)
+    fn bound(&mut self, end: DomainEnd, at: i64, fact: usize) -> Result<(), AllocError> {
+        self.bounds.trail.take_limit(end, Limit { fact, at })?;
+        self.bounds.atoms.wake(end.var)
     }
 }

@@ -1,11 +1,10 @@
 //! Which Any is opened next.
-use crate::end::End;
-use crate::facts::{Choice, Look};
-use crate::marks::{Effect, Marks, Reach};
+use crate::case_facts::{Choice, LastLook};
 use crate::seeker::{Looked, Seeker};
-use ipg_cert::{Known, add_formula};
+use ipg_cert::{FactRef, add_formula};
 use ipg_lin::Formula;
 use ipg_num::item_at;
+use ipg_solve_bounds::{Atom, BoundTrail, BoundedTerms, DomainEnd, Effect};
 use std::alloc::AllocError;
 
 /// How often a member's own atoms are gone over to see whether it fails at once.
@@ -53,7 +52,7 @@ impl<'a> Seeker<'a> {
             return Ok(None);
         }
         if let Some(look) = what.look {
-            if !is_any_touched(what.members, &self.marks, look.marks) {
+            if !is_any_touched(what.members, &self.bounds.trail, look.bounds) {
                 return Ok(Some(look.left));
             }
         }
@@ -62,12 +61,12 @@ impl<'a> Seeker<'a> {
             choice,
             before: what.look,
         })?;
-        let marks = self.marks.len();
-        self.look(choice, Some(Look { left, marks }));
+        let bounds = self.bounds.trail.len();
+        self.look(choice, Some(LastLook { left, bounds }));
         Ok(Some(left))
     }
 
-    fn look(&mut self, choice: usize, look: Option<Look>) {
+    fn look(&mut self, choice: usize, look: Option<LastLook>) {
         if let Some(slot) = self.facts.choices.get_mut(choice) {
             slot.look = look;
         }
@@ -99,18 +98,19 @@ impl<'a> Seeker<'a> {
     fn fails_at_once(&mut self, member: &'a Formula) -> Result<bool, AllocError> {
         let mut own = Vec::new(self.alloc);
         add_formula(&mut own, member)?;
-        let marks = self.marks.len();
+        let bounds = self.bounds.trail.len();
         let fails = self.fail_at_once(&own)?;
-        self.marks.undo(marks);
+        self.bounds.trail.undo(bounds);
         Ok(fails)
     }
 
-    fn fail_at_once(&mut self, facts: &[Known<'a>]) -> Result<bool, AllocError> {
+    fn fail_at_once(&mut self, facts: &[FactRef<'a>]) -> Result<bool, AllocError> {
         for _ in 0..GLANCES {
             let mut is_tighter = false;
             for fact in facts {
-                if let Known::Atom(form) = fact {
-                    match self.marks.narrow(0, form, Reach::Once)? {
+                if let FactRef::Atom(form) = *fact {
+                    let atom = Atom { fact: 0, form };
+                    match self.bounds.trail.narrow(atom, BoundedTerms::Once)? {
                         Effect::Same => {}
                         Effect::Tighter => is_tighter = true,
                         Effect::RuledOut => return Ok(true),
@@ -125,33 +125,33 @@ impl<'a> Seeker<'a> {
     }
 }
 
-/// Whether a variable of the formula was bounded since there were so many marks.
+/// Whether a variable of the formula was bounded since there were so many bounds.
 #[cycle(touched)]
-fn is_touched(f: &Formula, marks: &Marks, since: usize) -> bool {
+fn is_touched(f: &Formula, trail: &BoundTrail, since: usize) -> bool {
     match f {
         Formula::Atom(form) => form.terms().iter().any(|term| {
             let var = term.0 as usize;
-            is_newer(marks.head(End::low(var)), since)
-                || is_newer(marks.head(End::high(var)), since)
+            is_newer(trail.last_place(DomainEnd::low(var)), since)
+                || is_newer(trail.last_place(DomainEnd::high(var)), since)
         }),
-        Formula::All(members) => is_any_touched(members.as_slice(), marks, since),
-        Formula::Any(members) => is_any_touched(members.as_slice(), marks, since),
+        Formula::All(members) => is_any_touched(members.as_slice(), trail, since),
+        Formula::Any(members) => is_any_touched(members.as_slice(), trail, since),
     }
 }
 
 #[cycle(touched)]
-fn is_any_touched(members: &[Formula], marks: &Marks, since: usize) -> bool {
+fn is_any_touched(members: &[Formula], trail: &BoundTrail, since: usize) -> bool {
     for member in members {
-        if is_touched(member, marks, since) {
+        if is_touched(member, trail, since) {
             return true;
         }
     }
     false
 }
 
-fn is_newer(head: Option<usize>, since: usize) -> bool {
-    match head {
-        Some(head) => since <= head,
+fn is_newer(place: Option<usize>, since: usize) -> bool {
+    match place {
+        Some(place) => since <= place,
         None => false,
     }
 }

@@ -3,23 +3,15 @@
 #![tactic(auto)]
 
 mod back;
+mod case_facts;
 mod choose;
-mod cut;
-mod dive;
-mod eliminate;
-mod end;
-mod explain;
-mod facts;
 mod gone;
-mod marks;
 mod packed;
-mod parity;
 mod parting;
-mod row;
+mod patience;
 mod search;
 mod seeker;
+mod settle;
 mod steps;
-mod tighten;
-mod waiting;
 
-pub use search::{Found, seek};
+pub use search::{SearchEnd, seek};

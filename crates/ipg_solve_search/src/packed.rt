@@ -29,14 +29,14 @@ pub fn put_signed(bytes: &mut Vec<u8>, number: i64) -> Result<(), AllocError> {
     put_number(bytes, size)
 }
 
-/// Reads packed numbers.
+/// Reads packed steps, number by number.
 #[derive(Clone, Copy)]
-pub struct Reader<'b> {
+pub struct StepReader<'b> {
     pub bytes: &'b [u8],
     pub at: usize,
 }
 
-impl<'b> Reader<'b> {
+impl<'b> StepReader<'b> {
     pub fn number(&mut self) -> Option<u64> {
         let mut number = 0u64;
         for place in 0..10u32 {

@@ -3,26 +3,18 @@ ghost use Rattle.ipg_cert.specs.Facts.{AtMost, at_least, at_most};
 ghost use Rattle.ipg_cert.specs.Seen.{form_of};
 
 use ipg_cert::Bound;
+use ipg_solve_bounds::Parting;
 
-/// A cut of the box: a variable is at most `at`, or above it.
-#[derive(Clone, Copy)]
-pub struct Parting {
-    pub var: usize,
-    pub at: i64,
+/// What the part below a cut knows.
+pub fn below(parting: Parting) -> Bound
+    ensures { AtMost (form_of result) ≡ at_most parting.var parting.at }
+{
+    Bound::at_most(parting.var as u64, i128::from(parting.at))
 }
 
-impl Parting {
-    /// What the part below knows.
-    pub fn below(self) -> Bound
-        ensures { AtMost (form_of result) ≡ at_most self.var self.at }
-    {
-        Bound::at_most(self.var as u64, i128::from(self.at))
-    }
-
-    /// What the part above knows.
-    pub fn above(self) -> Bound
-        ensures { AtMost (form_of result) ≡ at_least self.var (self.at +ℤ pos 1) }
-    {
-        Bound::at_least(self.var as u64, i128::from(self.at) + 1)
-    }
+/// What the part above a cut knows.
+pub fn above(parting: Parting) -> Bound
+    ensures { AtMost (form_of result) ≡ at_least parting.var (parting.at +ℤ pos 1) }
+{
+    Bound::at_least(parting.var as u64, i128::from(parting.at) + 1)
 }

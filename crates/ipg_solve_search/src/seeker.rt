@@ -1,11 +1,10 @@
-use crate::facts::{Facts, Look};
-use crate::marks::Marks;
-use crate::parity::Long;
-use crate::parting::Parting;
-use crate::steps::{Place, Steps};
-use ipg_cert::{Step, root_facts};
+use crate::case_facts::{CaseFacts, LastLook};
+use crate::patience::LongCase;
+use crate::steps::{StepPlace, Steps};
+use ipg_cert::{FactRef, Step, root_facts};
 use ipg_lin::{Boxed, Formula};
 use ipg_num::List;
+use ipg_solve_bounds::{Atom, CaseBounds, Parting};
 use std::alloc::{AllocError, Global};
 
 /// The cases that a step opens.
@@ -23,15 +22,15 @@ pub struct Branching<'a> {
     pub cases: Cases<'a>,
     /// How many cases were taken.
     pub taken: usize,
-    /// What there was before: so many facts, marks and looks.
+    /// What there was before: so many facts, bounds and looks.
     pub facts: usize,
-    pub marks: usize,
+    pub bounds: usize,
     pub looks: usize,
     /// How many cuts come right before.
     pub cuts: usize,
     /// Where its step stands, and where the steps of the case at hand begin.
-    pub step: Place,
-    pub case: Place,
+    pub step: StepPlace,
+    pub case: StepPlace,
     /// How many facts the case at hand added, and how often its steps name one of them.
     pub own: usize,
     pub named: usize,
@@ -41,26 +40,25 @@ pub struct Branching<'a> {
 #[derive(Clone, Copy)]
 pub struct Looked {
     pub choice: usize,
-    pub before: Option<Look>,
+    pub before: Option<LastLook>,
 }
 
 /// A search for a solution or a refutation.
 #[derive(Drop)]
 pub struct Seeker<'a> {
     pub alloc: Global,
-    pub vars: usize,
-    pub facts: Facts<'a>,
-    pub marks: Marks,
+    pub facts: CaseFacts<'a>,
+    pub bounds: CaseBounds<'a>,
     pub looks: Vec<Looked>,
     pub branchings: Vec<Branching<'a>>,
     pub steps: Steps,
     /// A case that may be too long to refute.
-    pub long: Option<Long>,
+    pub long: Option<LongCase>,
 }
 
 /// What became of the case at hand.
 #[derive(Clone, Copy)]
-pub enum State {
+pub enum CaseState {
     Open,
     /// A step refutes it.
     Closed,
@@ -70,26 +68,39 @@ pub enum State {
 
 impl<'a> Seeker<'a> {
     pub fn new(alloc: Global, f: &'a Formula, b: &Boxed) -> Result<Seeker<'a>, AllocError> {
-        let vars = b.bounds.len();
-        Ok(Seeker {
+        let mut seeker = Seeker {
             alloc,
-            vars,
-            facts: Facts::new(alloc, root_facts(alloc, f, b)?, vars)?,
-            marks: Marks::new(alloc, b.bounds.as_slice())?,
+            facts: CaseFacts::new(alloc, root_facts(alloc, f, b)?),
+            bounds: CaseBounds::new(alloc, b)?,
             looks: Vec::new(alloc),
             branchings: Vec::new(alloc),
             steps: Steps::new(alloc),
             long: None,
-        })
+        };
+        seeker.enlist(0)?;
+        Ok(seeker)
+    }
+
+    /// Enlists the facts that are new, and puts the atoms among them by the bounds.
+    pub fn enlist(&mut self, depth: usize) -> Result<(), AllocError> {
+        for _ in 0..self.facts.len() {
+            let Some((fact, what)) = self.facts.enlist(depth)? else {
+                return Ok(());
+            };
+            if let FactRef::Atom(form) = what {
+                self.bounds.atoms.put(Atom { fact, form })?;
+            }
+        }
+        Ok(())
     }
 
     /// Closes the case at hand by a Combine.
-    pub fn close(&mut self, entries: Vec<(u64, u64)>) -> Result<State, AllocError> {
+    pub fn close(&mut self, entries: Vec<(u64, u64)>) -> Result<CaseState, AllocError> {
         for entry in entries.iter() {
             self.name(entry.1 as usize);
         }
         self.steps.push(&Step::Combine(List::from_vec(entries)))?;
-        Ok(State::Closed)
+        Ok(CaseState::Closed)
     }
 
     /// Counts that a step names the fact.

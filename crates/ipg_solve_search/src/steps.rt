@@ -1,12 +1,12 @@
 use crate::gone::Gone;
-use crate::packed::{Reader, put_number, put_signed};
+use crate::packed::{StepReader, put_number, put_signed};
 use ipg_cert::{Refutation, Step};
 use ipg_num::List;
 use std::alloc::{AllocError, Global};
 
 /// A place among the steps.
 #[derive(Clone, Copy)]
-pub struct Place {
+pub struct StepPlace {
     byte: usize,
 }
 
@@ -32,8 +32,8 @@ impl Steps {
         }
     }
 
-    pub fn here(&self) -> Place {
-        Place {
+    pub fn here(&self) -> StepPlace {
+        StepPlace {
             byte: self.bytes.len(),
         }
     }
@@ -63,9 +63,9 @@ impl Steps {
     }
 
     /// The facts that the steps from the one place to the other name.
-    pub fn named(&self, from: Place, to: Place) -> Result<Vec<u64>, AllocError> {
+    pub fn named(&self, from: StepPlace, to: StepPlace) -> Result<Vec<u64>, AllocError> {
         let mut named = Vec::new(self.alloc);
-        let mut reader = Reader {
+        let mut reader = StepReader {
             bytes: &self.bytes,
             at: from.byte,
         };
@@ -89,12 +89,17 @@ impl Steps {
 
     /// Takes out the steps from the one place to the other, and the facts that are gone, if the steps behind
     /// name none of them.
-    pub fn cut_out(&mut self, from: Place, to: Place, gone: Gone) -> Result<(), AllocError> {
+    pub fn cut_out(
+        &mut self,
+        from: StepPlace,
+        to: StepPlace,
+        gone: Gone,
+    ) -> Result<(), AllocError> {
         let Some(behind) = self.bytes.get(to.byte..) else {
             return Ok(());
         };
         let mut moved = Steps::new(self.alloc);
-        let mut reader = Reader {
+        let mut reader = StepReader {
             bytes: behind,
             at: 0,
         };
@@ -114,7 +119,7 @@ impl Steps {
 
     pub fn into_refutation(self) -> Result<Refutation, AllocError> {
         let mut steps = List::new(self.alloc);
-        let mut reader = Reader {
+        let mut reader = StepReader {
             bytes: &self.bytes,
             at: 0,
         };
@@ -128,7 +133,7 @@ impl Steps {
     }
 }
 
-impl<'b> Reader<'b> {
+impl<'b> StepReader<'b> {
     fn step(&mut self, alloc: Global) -> Result<Option<Step>, AllocError> {
         match self.number() {
             Some(COMBINE) => self.combine(alloc),

@@ -9,7 +9,7 @@ use Rattle.ipg_cert.specs.declared.refutation.Refutation.{Refutation}
 use Rattle.ipg_cert.specs.Laws.{ChecksRefute}
 use Rattle.ipg_proof.specs.Calls.{CallGraph, joint_of, cycle_checks}
 use Rattle.ipg_graph.specs.Cycle.{IsSimpleCycle, StandsBefore}
-use Rattle.ipg_solve_least.specs.Least.{IsLeast}
+use Rattle.ipg_solve_values.specs.Least.{IsLeast}
 use Rattle.ipg_term.specs.Loops.{CanLoop}
 use Rattle.ipg_term.specs.Refuted.{AreRefuted, IsLoop, IsReasonIn}
 use Rattle.ipg_term.specs.declared.fault.TermWhy.{TermWhy}

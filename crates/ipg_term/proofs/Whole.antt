@@ -18,7 +18,7 @@ use Rattle.ipg_proof.specs.Calls.{CallGraph, calls_of, joint_of, keep_of, keeps,
 use Rattle.ipg_proof.specs.Cycles.{LiveCyclesAreCycles, LoopsAreLive}
 use Rattle.ipg_proof.specs.Proves.{Accepts, Proves}
 use Rattle.ipg_touch.specs.Laws.{OneLimit}
-use Rattle.ipg_solve_least.specs.Least.{IsLeast}
+use Rattle.ipg_solve_values.specs.Least.{IsLeast}
 use Rattle.ipg_term.specs.Loops.{CanLoop, Loops, IsReason}
 use Rattle.ipg_term.specs.Laws.{LoopsArentAccepted, OneLoops}
 use Rattle.ipg_term.specs.Refuted.{EdgesCheck, AreDead, AreRefuted, IsReasonIn}

@@ -5,7 +5,7 @@ use Rattle.ipg_core.specs.MustTouch.{Marks, AreLimit}
 use Rattle.ipg_graph.specs.Cycle.{IsSimpleCycle, StandsBefore}
 use Rattle.ipg_lin.specs.Formula.{Solvable}
 use Rattle.ipg_proof.specs.Calls.{CallGraph, calls_of, joint_of, live_graph}
-use Rattle.ipg_solve_least.specs.Least.{IsLeast}
+use Rattle.ipg_solve_values.specs.Least.{IsLeast}
 use Rattle.ipg_term.specs.declared.fault.TermWhy.{TermWhy}
 use Rattle.ipg_term.specs.declared.fault.TermWhy.TheVariants.{MayLoop, Memory}
 

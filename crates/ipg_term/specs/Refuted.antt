@@ -7,7 +7,7 @@ use Rattle.ipg_graph.specs.Answers.{Spot, Start, IsAfter, IsRun}
 use Rattle.ipg_cert.specs.declared.refutation.Refutation.{Refutation}
 use Rattle.ipg_proof.specs.Calls.{CallGraph, joint_of, edge_checks, cycle_checks}
 use Rattle.ipg_proof.specs.Places.{Rise}
-use Rattle.ipg_solve_least.specs.Least.{IsLeast}
+use Rattle.ipg_solve_values.specs.Least.{IsLeast}
 use Rattle.ipg_term.specs.Loops.{CanLoop}
 use Rattle.ipg_term.specs.declared.fault.TermWhy.{TermWhy}
 use Rattle.ipg_term.specs.declared.fault.TermWhy.TheVariants.{MayLoop, Memory}

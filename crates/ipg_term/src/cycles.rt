@@ -15,7 +15,7 @@ use ipg_graph::Cycles;
 use ipg_num::List;
 use ipg_proof::{CallGraph, joint_of, live_cycles};
 use ipg_solve::Decision;
-use ipg_solve_least::decide_least;
+use ipg_solve_values::decide_least;
 use std::alloc::{AllocError, Global};
 
 fn next_cycle(alloc: Global, cycles: &mut Cycles) -> Result<Option<List<u32>>, AllocError>

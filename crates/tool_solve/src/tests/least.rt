@@ -3,7 +3,7 @@
 use ipg_lin::{Boxed, Formula, Linear, is_over};
 use ipg_num::List;
 use ipg_solve::Decision;
-use ipg_solve_least::decide_least;
+use ipg_solve_values::decide_least;
 use std::alloc::Global;
 use std::test::Fail;
 

@@ -3,17 +3,17 @@
 ghost use Rattle.std.specs.Prelude.{◌≤◌, IsTrue};
 ghost use Rattle.ipg_solve_potentials.specs.Falls.{IsEdge, AreEdges};
 
-use ipg_solve_potentials::{Edge, Settled, settle};
+use ipg_solve_potentials::{Difference, Potentials, settle};
 use std::alloc::Global;
 use std::test::Fail;
 
-fn is_edge(nodes: usize, edge: Edge) -> bool
+fn is_edge(nodes: usize, edge: Difference) -> bool
     ensures { IsTrue result → IsEdge nodes edge }
 {
     edge.from < nodes && edge.to < nodes && edge.fall.unsigned_abs() <= 1 << 64
 }
 
-fn are_edges(nodes: usize, edges: &[Edge]) -> bool
+fn are_edges(nodes: usize, edges: &[Difference]) -> bool
     ensures { IsTrue result → AreEdges nodes edges.now }
 {
     for n in 0..edges.len() {
@@ -24,7 +24,7 @@ fn are_edges(nodes: usize, edges: &[Edge]) -> bool
     true
 }
 
-fn settled(alloc: Global, nodes: usize, edges: &[Edge]) -> Result<Settled, Fail>
+fn settled(alloc: Global, nodes: usize, edges: &[Difference]) -> Result<Potentials, Fail>
     requires { nodes ≤ 3 }
 {
     if are_edges(nodes, edges) {
@@ -34,18 +34,18 @@ fn settled(alloc: Global, nodes: usize, edges: &[Edge]) -> Result<Settled, Fail>
     }
 }
 
-fn edge(from: usize, to: usize, fall: i128) -> Edge {
-    Edge { from, to, fall }
+fn edge(from: usize, to: usize, fall: i128) -> Difference {
+    Difference { from, to, fall }
 }
 
 #[test]
 fn levels_fall_along_edges(rt: HostRuntime) -> Result<(), Fail> {
     let edges = [edge(0, 1, 3), edge(1, 2, 4), edge(2, 0, -7)];
     match settled(rt.alloc(), 3, &edges)? {
-        Settled::Levels(levels) => {
+        Potentials::Levels(levels) => {
             assert!(rt; levels.as_slice() == [0, -3, -7].as_slice());
         }
-        Settled::Circle(_) => assert!(rt; false),
+        Potentials::Circle(_) => assert!(rt; false),
     }
     Ok(())
 }
@@ -54,8 +54,8 @@ fn levels_fall_along_edges(rt: HostRuntime) -> Result<(), Fail> {
 fn a_circle_that_falls_is_found(rt: HostRuntime) -> Result<(), Fail> {
     let edges = [edge(0, 1, 3), edge(1, 2, 4), edge(2, 1, -3), edge(2, 0, -9)];
     match settled(rt.alloc(), 3, &edges)? {
-        Settled::Levels(_) => assert!(rt; false),
-        Settled::Circle(circle) => assert!(rt; circle.as_slice() == [2, 1].as_slice()),
+        Potentials::Levels(_) => assert!(rt; false),
+        Potentials::Circle(circle) => assert!(rt; circle.as_slice() == [2, 1].as_slice()),
     }
     Ok(())
 }
@@ -63,8 +63,8 @@ fn a_circle_that_falls_is_found(rt: HostRuntime) -> Result<(), Fail> {
 #[test]
 fn an_edge_from_a_node_to_itself_is_a_circle(rt: HostRuntime) -> Result<(), Fail> {
     match settled(rt.alloc(), 1, &[edge(0, 0, 1)])? {
-        Settled::Levels(_) => assert!(rt; false),
-        Settled::Circle(circle) => assert!(rt; circle.as_slice() == [0].as_slice()),
+        Potentials::Levels(_) => assert!(rt; false),
+        Potentials::Circle(circle) => assert!(rt; circle.as_slice() == [0].as_slice()),
     }
     Ok(())
 }

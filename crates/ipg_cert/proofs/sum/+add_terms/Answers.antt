@@ -1,6 +1,6 @@
-use Rattle.std.proofs.Common.{arith, get_or, pos, ◌*ℤ◌, ◌^◌}
-use Rattle.ipg_cert.specs.Totals.{AddsAt, AddsTerms}
-use Rattle.ipg_cert.proofs.TotalsLemmas.{on_ok, grown, adds_more, others, others_small}
+use Rattle.std.proofs.Common.{arith, get_or, pos, ◌^◌}
+use Rattle.std.proofs.lemmas.Result.{on_ok_weaker}
+use Rattle.ipg_cert.proofs.TotalsLemmas.{grown, adds_more, others, others_small}
 use Rattle.ipg_cert.proofs.sum.+add_terms.Goals as goal
 
 pub add_term-requires-clause-size : goal.add_term-requires-clause-size
@@ -13,10 +13,7 @@ add_term-requires-clause-size t c =
 
 pub returns-in_ok-add_terms-in-len1-up : goal.returns-in_ok-add_terms-in-len1-up
 returns-in_ok-add_terms-in-len1-up t c =
-    on_ok c.add_term.result
-    (AddsAt c.add_terms.new.totals.items c.add_term.new.totals.items (get_or c.args.terms.now 0 (0, pos 0)).0
-    (pos c.args.weight *ℤ (get_or c.args.terms.now 0 (0, pos 0)).1))
-    (AddsTerms c.args.totals.now.items c.add_term.new.totals.items c.args.weight c.args.terms.now)
+    on_ok_weaker c.add_term.result
     (adds_more c.args.totals.now.items c.add_terms.new.totals.items c.add_term.new.totals.items c.args.weight c.args.terms.now c.in-len1-up.len_at_least
     c.in_ok-add_terms-in-len1-up.ensures)
     c.add_term.ensures

@@ -2,7 +2,7 @@ use Rattle.std.proofs.Common.{rules, ◌∙◌, sym, ap, subst}
 use Rattle.std.proofs.lemmas.Int.{to_z-of_z}
 use mir.Syntax.{w64}
 use Rattle.ipg_lin.specs.Formula.{assigned}
-use Rattle.ipg_cover.specs.Found.{IsLeastLength}
+use Rattle.ipg_cover.specs.Gaps.{IsLeastLength}
 use Rattle.ipg_cover.proofs.Fixed.{is_length}
 use Rattle.ipg_cover.proofs.least.least_gap.Goals as goal
 

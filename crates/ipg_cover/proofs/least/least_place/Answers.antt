@@ -3,7 +3,7 @@ use Rattle.std.proofs.lemmas.Int.{to_z-of_z}
 use mir.Syntax.{w64}
 use Rattle.ipg_lin.specs.Formula.{assigned}
 use Rattle.ipg_cover.specs.Cover.{IsLeastGap}
-use Rattle.ipg_cover.specs.Found.{fixed}
+use Rattle.ipg_cover.specs.Gaps.{fixed}
 use Rattle.ipg_cover.proofs.Fixed.{never_refuted, is_gap}
 use Rattle.ipg_cover.proofs.least.least_place.Goals as goal
 

@@ -5,6 +5,6 @@ use Rattle.ipg_solve.proofs.closing.put_ends.Given as goal
 
 abbrev pub invariant-loop-term : goal.invariant-loop-term
 invariant-loop-term l = record {
-  put : l.entries.items ++ map (entry_of l.spans) (drop l.term-index l.terms) ≡ l.fn.entries.items ++ map (entry_of l.spans) l.terms;
-  spanned : terms_width (drop l.term-index l.terms) ≤ length l.spans;
+  put : l.entries.items ++ map (entry_of l.domains) (drop l.term-index l.terms) ≡ l.fn.entries.items ++ map (entry_of l.domains) l.terms;
+  valued : terms_width (drop l.term-index l.terms) ≤ length l.domains;
 }

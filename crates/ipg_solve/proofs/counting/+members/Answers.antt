@@ -2,7 +2,7 @@ use Rattle.std.proofs.Common.{◌≡◌, length, ap, sym, subst, ◌∙◌}
 use Rattle.std.specs.Prelude.{IfOk}
 use Rattle.std.specs.List.{flat_map}
 use Rattle.ipg_cert.specs.Facts.{facts_of}
-use Rattle.ipg_cert.proofs.Told.{facts_of-All, facts_of-Any}
+use Rattle.ipg_cert.specs.Told.{facts_of-All, facts_of-Any}
 use Rattle.ipg_solve.proofs.counting.+members.Goals as goal
 
 pub count-returns-in-All : goal.count-returns-in-All

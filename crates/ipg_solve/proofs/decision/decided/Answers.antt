@@ -6,7 +6,7 @@ use Rattle.ipg_solve.proofs.decision.decided.Goals as goal
 
 pub returns-in-Some-clause-decided : goal.returns-in-Some-clause-decided
 returns-in-Some-clause-decided c =
-    crossed_checks c.args.f.now c.args.b.now c.in-Some.x c.in_ok-crossing.field-0
+    crossed_checks c.ends_combine.ensures c.args.f.now c.args.b.now c.in-Some.x c.in_ok-crossing.field-0
     (subst (λ bounds. IsCrossed bounds c.in-Some.x) c.as_slice.ensures c.in-Some.ensures) c.in_ok-crossing.ensures
 
 pub returns-in-Some-clause-short : goal.returns-in-Some-clause-short

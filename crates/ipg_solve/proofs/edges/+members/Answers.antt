@@ -2,7 +2,7 @@ use Rattle.std.proofs.Common.{◌≡◌, ◌++◌, ap, sym, subst, ◌∙◌}
 use Rattle.std.specs.Prelude.{OnOk}
 use Rattle.std.specs.List.{flat_map, AllByRecursion}
 use Rattle.ipg_cert.specs.Facts.{facts_of}
-use Rattle.ipg_cert.proofs.Told.{facts_of-All}
+use Rattle.ipg_cert.specs.Told.{facts_of-All}
 use Rattle.ipg_solve.specs.Edges.{edges_in, IsSized}
 use Rattle.ipg_solve.proofs.edges.+members.Goals as goal
 

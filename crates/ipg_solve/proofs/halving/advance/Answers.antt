@@ -2,19 +2,19 @@ use Rattle.std.proofs.Common.{◌≡◌, ℕ, ◌+◌, List, length, reverse, tr
 use Rattle.ipg_lin.specs.declared.formula.Formula.{Formula}
 use Rattle.ipg_lin.specs.declared.formula.Boxed.{Boxed}
 use Rattle.ipg_cert.specs.declared.refutation.Step.{Step}
-use Rattle.ipg_solve.specs.declared.span.Span.{Span}
-use Rattle.ipg_solve.specs.Spans.{AreFull, ArePoints, rules_out}
+use Rattle.ipg_solve.specs.declared.domain.Domain.{Domain}
+use Rattle.ipg_solve.specs.Domains.{AreFull, ArePoints, rules_out}
 use Rattle.ipg_solve.specs.Closes.{ClosesFormula}
-use Rattle.ipg_solve.specs.Cuts.{start_spans, Backs}
+use Rattle.ipg_solve.specs.Cuts.{start_domains, Backs}
 use Rattle.ipg_solve.proofs.Turning.{back_turns, refuted_turns, cut_turns}
 use Rattle.ipg_solve.proofs.Solved.{halved_length, halved_full, point_solves}
 use Rattle.ipg_solve.proofs.halving.advance.Goals as goal
 
--- what was closed, as the spans and the box are called here
-same_closed : (f : Formula) (around box : Boxed) (spans lent : List Span) (n : ℕ) (old new : List Step) → around ≡ box → lent ≡ spans
+-- what was closed, as the domains and the box are called here
+same_closed : (f : Formula) (around box : Boxed) (domains lent : List Domain) (n : ℕ) (old new : List Step) → around ≡ box → lent ≡ domains
     → ClosesFormula lent (length box.bounds + length box.bounds) n f old new
-    → ClosesFormula spans (length around.bounds + length around.bounds) n f old new
-same_closed f around box spans lent n old new e is closes =
+    → ClosesFormula domains (length around.bounds + length around.bounds) n f old new
+same_closed f around box domains lent n old new e is closes =
     subst (λ ss. ClosesFormula ss (length around.bounds + length around.bounds) n f old new) is
     (subst (λ b. ClosesFormula lent (length b.bounds + length b.bounds) n f old new) (sym e) closes)
 
@@ -24,7 +24,7 @@ rules_out-requires g c =
       arith,
       c.requires.1.0,
       ap length c.deref.ensures.value,
-      halved_length c.args.f.now g.around c.args.first c.args.spans.now.items
+      halved_length c.args.root.f.now g.around c.args.root.facts c.args.domains.now.items
           (reverse c.args.cuts.now.items) c.args.steps.now.items c.requires.1.1.1,
     )
 
@@ -34,50 +34,54 @@ close_part-requires-clause-width g c =
       arith,
       c.requires.1.0,
       ap length c.deref-then-rules_out.ensures.value,
-      halved_length c.args.f.now g.around c.args.first c.args.spans.now.items (reverse c.args.cuts.now.items) c.args.steps.now.items c.requires.1.1.1,
+      halved_length c.args.root.f.now g.around c.args.root.facts c.args.domains.now.items
+          (reverse c.args.cuts.now.items) c.args.steps.now.items c.requires.1.1.1,
     )
 
 pub widest-requires : goal.widest-requires
 widest-requires g c =
     subst AreFull (sym c.deref-else-rules_out.ensures.value)
-    (halved_full c.args.f.now g.around c.args.first c.args.spans.now.items (reverse c.args.cuts.now.items) c.args.steps.now.items c.requires.1.1.1
+    (halved_full c.args.root.f.now g.around c.args.root.facts c.args.domains.now.items (reverse c.args.cuts.now.items) c.args.steps.now.items c.requires.1.1.1
     c.requires.1.1.0)
 
 pub returns-then-branch : goal.returns-then-branch
 returns-then-branch g c =
     let n : ℕ = length c.deref-then-rules_out-2.result.now in
-    let backs : Backs c.args.first (start_spans 0 g.around.bounds) c.back.new.spans.items (reverse c.args.cuts.now.items) (reverse c.back.new.cuts.items) true =
-    subst (Backs c.args.first (start_spans 0 g.around.bounds) c.back.new.spans.items (reverse c.args.cuts.now.items) (reverse c.back.new.cuts.items))
+    let backs : Backs c.args.root.facts (start_domains 0 g.around.bounds) c.back.new.domains.items (reverse c.args.cuts.now.items)
+    (reverse c.back.new.cuts.items) true =
+    subst (Backs c.args.root.facts (start_domains 0 g.around.bounds) c.back.new.domains.items (reverse c.args.cuts.now.items) (reverse c.back.new.cuts.items))
     c.if-branch.true c.in_ok-back.ensures in
-    back_turns c.args.f.now g.around c.args.first n c.args.spans.now.items c.back.new.spans.items c.args.cuts.now.items c.back.new.cuts.items
+    back_turns c.args.root.f.now g.around c.args.root.facts n c.args.domains.now.items c.back.new.domains.items c.args.cuts.now.items c.back.new.cuts.items
     c.args.steps.now.items c.close_part.new.steps.items c.requires.1.1.1
     (ap length c.deref-then-rules_out-2.ensures.value)
-    (same_closed c.args.f.now g.around c.args.b.now c.args.spans.now.items c.deref-then-rules_out.result.now (c.args.first + n) c.args.steps.now.items
+    (same_closed c.args.root.f.now g.around c.args.root.b.now c.args.domains.now.items c.deref-then-rules_out.result.now (c.args.root.facts + n)
+    c.args.steps.now.items
     c.close_part.new.steps.items c.requires.0 c.deref-then-rules_out.ensures.value c.in_ok-close_part.ensures)
     backs
 
 pub returns-else-branch : goal.returns-else-branch
 returns-else-branch g c =
     let n : ℕ = length c.deref-then-rules_out-2.result.now in
-    let backs : Backs c.args.first (start_spans 0 g.around.bounds) c.back.new.spans.items (reverse c.args.cuts.now.items)
+    let backs : Backs c.args.root.facts (start_domains 0 g.around.bounds) c.back.new.domains.items (reverse c.args.cuts.now.items)
     (reverse c.back.new.cuts.items) false =
-    subst (Backs c.args.first (start_spans 0 g.around.bounds) c.back.new.spans.items (reverse c.args.cuts.now.items) (reverse c.back.new.cuts.items))
+    subst (Backs c.args.root.facts (start_domains 0 g.around.bounds) c.back.new.domains.items (reverse c.args.cuts.now.items) (reverse c.back.new.cuts.items))
     c.if-branch.false c.in_ok-back.ensures in
-    refuted_turns c.args.f.now g.around c.args.first n c.args.spans.now.items c.back.new.spans.items c.args.cuts.now.items c.back.new.cuts.items
+    refuted_turns c.args.root.f.now g.around c.args.root.facts n c.args.domains.now.items c.back.new.domains.items c.args.cuts.now.items c.back.new.cuts.items
     c.args.steps.now.items c.close_part.new.steps.items c.requires.1.1.1
     (ap length c.deref-then-rules_out-2.ensures.value)
-    (same_closed c.args.f.now g.around c.args.b.now c.args.spans.now.items c.deref-then-rules_out.result.now (c.args.first + n) c.args.steps.now.items
+    (same_closed c.args.root.f.now g.around c.args.root.b.now c.args.domains.now.items c.deref-then-rules_out.result.now (c.args.root.facts + n)
+    c.args.steps.now.items
     c.close_part.new.steps.items c.requires.0 c.deref-then-rules_out.ensures.value c.in_ok-close_part.ensures)
     backs
 
 pub returns-in_ok-cut_at-in-Some : goal.returns-in_ok-cut_at-in-Some
 returns-in_ok-cut_at-in-Some g c =
-    cut_turns c.args.f.now g.around c.args.first c.in-Some.x c.args.spans.now.items c.cut_at.new.spans.items c.args.cuts.now.items
+    cut_turns c.args.root.f.now g.around c.args.root.facts c.in-Some.x c.args.domains.now.items c.cut_at.new.domains.items c.args.cuts.now.items
     c.cut_at.new.cuts.items c.args.steps.now.items c.cut_at.new.steps.items c.requires.1.1.1
     (omega (arith, c.in-Some.ensures.0, ap length c.deref-else-rules_out.ensures.value)) c.in_ok-cut_at-in-Some.ensures
 
 pub returns-in-None : goal.returns-in-None
 returns-in-None g c =
-    point_solves c.args.f.now g.around c.args.first c.args.spans.now.items (reverse c.args.cuts.now.items) c.args.steps.now.items c.requires.1.1.1
+    point_solves c.args.root.f.now g.around c.args.root.facts c.args.domains.now.items (reverse c.args.cuts.now.items) c.args.steps.now.items c.requires.1.1.1
     (subst ArePoints c.deref-else-rules_out.ensures.value c.in-None.ensures) c.requires.1.0
-    (ap (λ ss. rules_out ss c.args.f.now) (sym c.deref.ensures.value) ∙ sym c.rules_out.ensures ∙ c.if-rules_out.false)
+    (ap (λ ss. rules_out ss c.args.root.f.now) (sym c.deref.ensures.value) ∙ sym c.rules_out.ensures ∙ c.if-rules_out.false)

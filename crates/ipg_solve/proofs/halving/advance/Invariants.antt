@@ -1,5 +1,5 @@
-use Rattle.ipg_solve.specs.Cuts.{start_spans}
+use Rattle.ipg_solve.specs.Cuts.{start_domains}
 use Rattle.ipg_solve.proofs.halving.advance.Given as goal
 
 abbrev pub ghost-back : goal.ghost-back
-ghost-back g a = start_spans 0 g.around.bounds
+ghost-back g a = start_domains 0 g.around.bounds

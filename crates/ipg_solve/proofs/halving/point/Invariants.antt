@@ -1,6 +1,6 @@
 use Rattle.std.proofs.Common.{◌≡◌, ◌++◌, drop, map}
-use Rattle.ipg_solve.specs.declared.span.Span.{Span}
+use Rattle.ipg_solve.specs.declared.domain.Domain.{Domain}
 use Rattle.ipg_solve.proofs.halving.point.Given as goal
 
-abbrev pub invariant-loop-span : goal.invariant-loop-span
-invariant-loop-span l = l.values ++ map (λ (s : Span). s.low) (drop l.span-index l.spans) ≡ map (λ (s : Span). s.low) l.spans
+abbrev pub invariant-loop-domain : goal.invariant-loop-domain
+invariant-loop-domain l = l.values ++ map (λ (s : Domain). s.low) (drop l.domain-index l.domains) ≡ map (λ (s : Domain). s.low) l.domains

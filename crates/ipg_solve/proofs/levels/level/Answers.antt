@@ -31,7 +31,8 @@ returns-in-Levels c =
 
 pub returns : goal.returns
 returns c =
-    circle_refutes c.args.f.now c.args.b.now c.in_ok-edges.edges.items c.deref.result.now c.in_ok-levels.field-0 c.in-Circle.circle
+    circle_refutes c.sum_takes.ensures c.cancelled_is_absurd.ensures
+    c.args.f.now c.args.b.now c.in_ok-edges.edges.items c.deref.result.now c.in_ok-levels.field-0 c.in-Circle.circle
     (root_narrow c.args.f.now c.args.b.now c.requires.difference c.requires.valued) c.in_ok-edges.ensures.sized c.requires.few
     (subst (λ (n : ℕ). Settles (n + 1) c.deref.result.now c.in_ok-levels.field-0) c.len-vars.ensures c.in_ok-levels.ensures.settled) c.in-Circle.is
     c.deref.ensures.value c.in_ok-edges.ensures.edges

@@ -1,3 +1,0 @@
--- half of a range
-pub mod Narrowing
-pub mod Halves

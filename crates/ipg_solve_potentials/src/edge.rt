@@ -1,7 +1,0 @@
-/// Along an edge the level must fall at least so far, or rise at most so far where `fall` is below 0.
-#[derive(Clone, Copy)]
-pub struct Edge {
-    pub from: usize,
-    pub to: usize,
-    pub fall: i128,
-}
