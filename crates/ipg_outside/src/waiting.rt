@@ -8,7 +8,7 @@ const ROOM: usize = 1 << 14;
 
 /// There is no room for a piece.
 #[derive(Clone, Copy)]
-pub(crate) struct Full;
+pub(crate) struct NoRoom;
 
 /// At most 16 KiB, piece behind piece. Taking them away writes nothing.
 #[derive(Drop)]
@@ -54,12 +54,12 @@ impl Waiting {
 
     /// Puts a piece behind what there is, where there is room for all of it.
     #[inline]
-    pub(crate) fn add(&mut self, piece: &[u8]) -> Result<(), Full>
+    pub(crate) fn add(&mut self, piece: &[u8]) -> Result<(), NoRoom>
         ensures added { OnOk result (self.new ≡ self.old ++ piece.now) }
         ensures full { OnErr result (self.new ≡ self.old) }
     {
         if ROOM - self.count < piece.len() {
-            return Err(Full);
+            return Err(NoRoom);
         }
         let end = self.count + piece.len();
         self.bytes[self.count..end].copy_from_slice(piece);

@@ -8,7 +8,7 @@ use Rattle.ipg_num.specs.declared.op.Answer.{Answer}
 use Rattle.ipg_num.specs.declared.op.Answer.TheVariants.{Val}
 use Rattle.ipg_core.specs.Environment.{Environment}
 use Rattle.ipg_core.specs.Eval.{found, on_value}
-use Rattle.ipg_table.specs.declared.in_hand.Hand.{Hand}
+use Rattle.ipg_table.specs.declared.in_hand.Holding.{Holding}
 use Rattle.ipg_table.specs.declared.row.Op.{Op}
 use Rattle.ipg_table.specs.declared.row.Op.TheVariants.{Two}
 use Rattle.ipg_table.specs.Hand.{LeadOn, LeadsOn, handed}
@@ -18,20 +18,20 @@ use Rattle.ipg_table.proofs.Runs.{put_is}
 use Rattle.ipg_table.proofs.Turning.{turn_on}
 
 -- what leads on where something else does the same
-pub led_alike : (o : Option Hand) (f g : Next → Answer) → ((next : Next) → g next ≡ f next)
+pub led_alike : (o : Option Holding) (f g : Next → Answer) → ((next : Next) → g next ≡ f next)
     → IfSome o (λ h. (next : Next) → f next ≡ next h.skip (handed h.number)) → IfSome o (λ h. (next : Next) → g next ≡ next h.skip (handed h.number))
 led_alike None f g same is = is
 led_alike (Some h) f g same is = λ next. same next ∙ is next
 
 -- a row leads on from the rows that begin with it
-pub row_leads : (env : Environment) (room : ℕ) (ops : List Op) (op : Op) (stack : List ℤ) (o : Option Hand) → op ≡ get_or ops 0 op → 0 < length ops
+pub row_leads : (env : Environment) (room : ℕ) (ops : List Op) (op : Op) (stack : List ℤ) (o : Option Holding) → op ≡ get_or ops 0 op → 0 < length ops
     → IfSome o (LeadsOn env room op stack) → IfSome o (LeadOn env room ops stack)
 row_leads env room ops op stack None is within leads = leads
 row_leads env room ops op stack (Some h) is within leads =
     turn_on env room ops (drop (h.skip + 1) ops) op stack (handed h.number) h.skip is within leads refl
 
 -- a number and the operator behind it
-pub two_lead : (env : Environment) (room : ℕ) (ops : List Op) (b c : Op) (op : Op2) (x y z : ℤ) (h : Hand) → 2 ≤ length ops → b ≡ get_or ops 0 b
+pub two_lead : (env : Environment) (room : ℕ) (ops : List Op) (b c : Op) (op : Op2) (x y z : ℤ) (h : Holding) → 2 ≤ length ops → b ≡ get_or ops 0 b
     → c ≡ get_or ops 1 c → c ≡ Two op → 2 ≤ room → Puts env room b y → on_value (apply_of op x y) limited ≡ Val z
     → h.number ≡ Some z → h.skip ≡ 1 → LeadOn env room ops (x ∷ []) h
 two_lead env room [] b c op x y z h two is_b is_c is within puts gives number skip = absurd (omega arith)

@@ -19,7 +19,7 @@ use ipg_num::{Answer, Op2, apply, negate};
 
 /// The number in hand behind a row, if there is one, and how many rows behind it are passed over.
 #[derive(Clone, Copy)]
-pub(crate) struct Hand {
+pub(crate) struct Holding {
     number: Option<i64>,
     skip: u32,
 }
@@ -129,7 +129,7 @@ fn is_zero(a: i64) -> bool
 
 /// An answer taken in hand, where it is a number.
 #[inline(always)]
-fn taken(answer: Answer, skip: u32) -> Option<Hand>
+fn taken(answer: Answer, skip: u32) -> Option<Holding>
     ensures { (room : ℕ) → 1 ≤ room → IfSome result (λ h. (next : Next) → put room answer skip [] next ≡ next h.skip (handed h.number)) }
 {
     match number(answer) {
@@ -140,11 +140,11 @@ fn taken(answer: Answer, skip: u32) -> Option<Hand>
 
 /// This number in hand.
 #[inline(always)]
-fn held(number: i64, skip: u32) -> Hand
+fn held(number: i64, skip: u32) -> Holding
     ensures number { result.number ≡ Some number }
     ensures skip { result.skip ≡ skip }
 {
-    Hand {
+    Holding {
         number: Some(number),
         skip,
     }
@@ -152,16 +152,16 @@ fn held(number: i64, skip: u32) -> Hand
 
 /// Nothing in hand.
 #[inline(always)]
-fn empty(skip: u32) -> Hand
+fn empty(skip: u32) -> Holding
     ensures number { result.number ≡ None }
     ensures skip { result.skip ≡ skip }
 {
-    Hand { number: None, skip }
+    Holding { number: None, skip }
 }
 
 /// An end that is there is taken in hand.
 #[inline(always)]
-fn end_or_none(end: Option<i64>, skip: u32) -> Option<Hand>
+fn end_or_none(end: Option<i64>, skip: u32) -> Option<Holding>
     ensures { (room : ℕ) (place : Option ℕ) → 1 ≤ room → end ≡ option_map pos place
         → IfSome result (λ h. (next : Next) → put_end room place skip [] next ≡ next h.skip (handed h.number)) }
 {
@@ -173,7 +173,7 @@ fn end_or_none(end: Option<i64>, skip: u32) -> Option<Hand>
 
 /// What a row leads to from an empty hand.
 #[inline(always)]
-fn first<R: Results>(op: &Op, results: &R) -> Option<Hand>
+fn first<R: Results>(op: &Op, results: &R) -> Option<Holding>
     ensures { (env : Environment) (room : ℕ) → R.stands results.now env → 1 ≤ room → IfSome result (LeadsOn env room op.now []) }
 {
     match op {
@@ -187,7 +187,7 @@ fn first<R: Results>(op: &Op, results: &R) -> Option<Hand>
 
 /// Where the left side is 0, the value is 0, and the right side is passed over.
 #[inline(always)]
-fn both(a: i64, skip: u32) -> Option<Hand>
+fn both(a: i64, skip: u32) -> Option<Holding>
     ensures { (env : Environment) (room : ℕ) → 1 ≤ room → IfSome result (LeadsOn env room (ops.Both skip) (a ∷ [])) }
 {
     if is_zero(a) {
@@ -199,7 +199,7 @@ fn both(a: i64, skip: u32) -> Option<Hand>
 
 /// Where the left side isn't 0, the value is 1, and the right side is passed over.
 #[inline(always)]
-fn either(a: i64, skip: u32) -> Option<Hand>
+fn either(a: i64, skip: u32) -> Option<Holding>
     ensures { (env : Environment) (room : ℕ) → 1 ≤ room → IfSome result (LeadsOn env room (ops.Either skip) (a ∷ [])) }
 {
     if is_zero(a) {
@@ -211,7 +211,7 @@ fn either(a: i64, skip: u32) -> Option<Hand>
 
 /// Where the condition is 0, the first choice is passed over.
 #[inline(always)]
-fn choice(a: i64, skip: u32) -> Hand
+fn choice(a: i64, skip: u32) -> Holding
     ensures { (env : Environment) (room : ℕ) → LeadsOn env room (ops.Cond skip) (a ∷ []) result }
 {
     if is_zero(a) { empty(skip) } else { empty(0) }
@@ -219,7 +219,7 @@ fn choice(a: i64, skip: u32) -> Hand
 
 /// What a row leads to that takes the number in hand and no other.
 #[inline(always)]
-fn with<R: Results>(op: &Op, a: i64, results: &R) -> Option<Hand>
+fn with<R: Results>(op: &Op, a: i64, results: &R) -> Option<Holding>
     ensures { (env : Environment) (room : ℕ) → R.stands results.now env → 1 ≤ room → IfSome result (LeadsOn env room op.now (a ∷ [])) }
 {
     match op {
@@ -238,7 +238,7 @@ fn with<R: Results>(op: &Op, a: i64, results: &R) -> Option<Hand>
 
 /// What a row that takes nothing off the stack and the operator behind it lead to.
 #[inline(always)]
-fn joined<R: Results>(a: i64, rows: &[Op], results: &R) -> Option<Hand>
+fn joined<R: Results>(a: i64, rows: &[Op], results: &R) -> Option<Holding>
     ensures { (env : Environment) (room : ℕ) → R.stands results.now env → 2 ≤ room → IfSome result (LeadOn env room rows.now (a ∷ [])) }
 {
     if rows.len() < 2 {
@@ -256,7 +256,7 @@ fn joined<R: Results>(a: i64, rows: &[Op], results: &R) -> Option<Hand>
 
 /// What rows lead to with a number in hand.
 #[inline(always)]
-fn further<R: Results>(a: i64, rows: &[Op], results: &R) -> Option<Hand>
+fn further<R: Results>(a: i64, rows: &[Op], results: &R) -> Option<Holding>
     requires { 0 < length rows.now }
     ensures { (env : Environment) (room : ℕ) → R.stands results.now env → 2 ≤ room → IfSome result (LeadOn env room rows.now (a ∷ [])) }
 {
@@ -268,7 +268,7 @@ fn further<R: Results>(a: i64, rows: &[Op], results: &R) -> Option<Hand>
 
 /// What rows lead to with this in hand.
 #[inline(always)]
-fn onward<R: Results>(number: Option<i64>, rows: &[Op], results: &R) -> Option<Hand>
+fn onward<R: Results>(number: Option<i64>, rows: &[Op], results: &R) -> Option<Holding>
     requires { 0 < length rows.now }
     ensures { (env : Environment) (room : ℕ) → R.stands results.now env → 2 ≤ room → IfSome result (LeadOn env room rows.now (handed number)) }
 {
