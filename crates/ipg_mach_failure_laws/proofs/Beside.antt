@@ -95,7 +95,8 @@ module _ (g : Grammar) (s : List ℕ) where
     alike_after : IsToldAs f other → IsToldAs (furthest_with f x) so_far
     alike_after alike = others_told (stories leads.count middle) (furthest_with f x) (furthest_with other x) leads.met (both_told f other x alike)
 
-  follows : CallsSit → StandsThere → (n : ℕ) (f other : Furthest) (lower : List OpenCall) (highest : Highest) (known : Known) (tally before : Tally) → Stands g s f lower highest known
+  follows : CallsSit → StandsThere → (n : ℕ) (f other : Furthest) (lower : List OpenCall) (highest : Highest) (known : Known) (tally before : Tally)
+      → Stands g s f lower highest known
       → IsToldAs f other → Follows n f other lower highest known tally before
   unfolding moves stories
   follows sit there zero f other lower highest known tally before stands alike = record {

@@ -101,7 +101,8 @@ module _ (g : Grammar) (s : List ℕ) where
   learned_by f (Some holder) known key answer knows more = knows
 
   -- the answer of a call that has come to it
-  pub knows_learned : StandsThere → (f : Furthest) (a : Start) (known : Known) (key : Key) (answer : Result Tree Stop) → KnowsAll f known → Sits a → key ≡ key_of a
+  pub knows_learned : StandsThere → (f : Furthest) (a : Start) (known : Known) (key : Key) (answer : Result Tree Stop)
+      → KnowsAll f known → Sits a → key ≡ key_of a
       → GoesDown answer → Began f a (Holds key answer) → KnowsAll f (learned (holder_of (rule_at g key.rule)) known key answer)
   knows_learned stands f a known key answer knows sits is down began =
       learned_by f (holder_of (rule_at g key.rule)) known key answer knows (λ global. record { global = global; down = down; began = there global })

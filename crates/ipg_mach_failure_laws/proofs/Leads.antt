@@ -61,7 +61,8 @@ pub leads_by : (f : Furthest) (lower : List OpenCall) (highest : Highest) (low :
     → IsSettledIfAny f (highest_fails highest) → LeadsTo f lower highest low next
 unfolding moves stories
 leads_by f lower highest low next goes settled tally =
-    record { count = 1; later = (goes tally).0; is = (goes tally).1; met = front_settled f (calls_in lower) (highest_reads highest) (highest_fails highest) settled }
+    let met = front_settled f (calls_in lower) (highest_reads highest) (highest_fails highest) settled in
+    record { count = 1; later = (goes tally).0; is = (goes tally).1; met = met }
 
 -- what a highest call meets is settled from then on
 pub settled_now : (f : Furthest) (calls : List Call) (read : Failure → List Valued) (failure : Option Failure)

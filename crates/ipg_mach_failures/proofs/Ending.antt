@@ -119,7 +119,8 @@ module _ (g : Grammar) (good : Good g) where
   unfolding moves stories
   moves_sound zero e sound none = sound
   moves_sound (suc n) e sound none =
-      let parts = none_first (calls_of e) (highest_reads e.highest) (failure_of e) (stories n (move e)) none in moves_sound n (move e) (move_sound e sound parts.0) parts.1
+      let parts = none_first (calls_of e) (highest_reads e.highest) (failure_of e) (stories n (move e)) none in
+      moves_sound n (move e) (move_sound e sound parts.0) parts.1
 
   opens : (s : List ℕ) (known : Option Known) → NoneKnown known → Sound g (opening g s known)
   unfolding opening

@@ -13,5 +13,6 @@ returns-in-Some c g own rest stand stands =
 
 pub returns-in-None : goal.returns-in-None
 returns-in-None c g own rest stand stands =
-    let none = subst (λ found. IsNext c.args.tables.now found (drop c.args.alt (alts_of (rule_at g c.args.rule)))) c.in-None.is (c.alternative.ensures g stand) in
+    let none = subst (λ found. IsNext c.args.tables.now found (drop c.args.alt (alts_of (rule_at g c.args.rule)))) c.in-None.is
+    (c.alternative.ensures g stand) in
     absurd (cc)

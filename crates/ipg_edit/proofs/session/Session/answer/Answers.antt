@@ -12,7 +12,8 @@ returns-clause-ok g c = λ grammar kept answer.
     let s = inside.input.items in
     let given = c.in_ok-given.given in
     let later = holding c.replace.new.dest in
-    let are = answering.answered_there t c.as_slice.result.now s (holding c.replace-state.result) (holding inside.state) given (holding c.in_ok-given.state) later
-    c.as_slice.ensures.value (ap holding c.replace-state.ensures.value) (ap holding c.replace.ensures.after) c.in_ok-given.ensures in
+    let are = answering.answered_there t c.as_slice.result.now s (holding c.replace-state.result) (holding inside.state) given
+    (holding c.in_ok-given.state) later c.as_slice.ensures.value (ap holding c.replace-state.ensures.value)
+    (ap holding c.replace.ensures.after) c.in_ok-given.ensures in
     subst (λ (x : Seen). Knows grammar kept x → Means grammar x.input answer
     → Answers grammar x.input kept answer given (record { tables = t; input = s; holding = later })) c.self.view_is (are.answers grammar kept answer)

@@ -67,8 +67,8 @@ returns-in-Some c =
         choice = record { within = next.choice.within; at_tip = next.choice.at_tip };
       };
       same = rw c.in-Some.ensures.items
-          (same-back s.links p (state_of p s.start (caller s.links c.in-Some.edge) (set s.seen.items s.tip false)) c.in-Some.edge s.cursor c.following-self.result
-          s.start s.tip s.seen.items
+          (same-back s.links p (state_of p s.start (caller s.links c.in-Some.edge) (set s.seen.items s.tip false)) c.in-Some.edge s.cursor
+          c.following-self.result s.start s.tip s.seen.items
           back.long (walk.tip c.requires.some) (λ i from. past-end s.links i (omega (arith, c.requires.done))) back.runs next.after
           (rw c.caller-self.ensures at next.skipped));
       less = rw (c.in-Some.ensures.items, append_assoc)

@@ -14,10 +14,12 @@ returns-in_ok-begin-in-Some-clause-highest g c src frames lower f from ready =
     let those = alternatives f in
     let there = drop s.frame.alt (alts_of (rule_at f.grammar s.frame.rule)) in
     let at = sym (working.alternatives_at t src s.frame _ f from ready.call) in
-    let one = subst (IsNext t (Some c.in-Some.alt)) at (subst (λ found. IsNext t found there) c.in-Some.is (c.alternative.ensures f.grammar ready.call.tables)) in
+    let row = subst (λ found. IsNext t found there) c.in-Some.is (c.alternative.ensures f.grammar ready.call.tables) in
+    let one = subst (IsNext t (Some c.in-Some.alt)) at row in
     let rest = drop 1 those in
     on_ok_weaker c.run_on.result
-    (subst (IsHighest t src (shown c.run_on.new.self) frames lower) (working.begins_so t src s frames lower f from ready c.in-Some.alt.now one.0 rest one.1 those one.2))
+    (subst (IsHighest t src (shown c.run_on.new.self) frames lower)
+    (working.begins_so t src s frames lower f from ready c.in-Some.alt.now one.0 rest one.1 those one.2))
     (c.run_on.ensures.highest src frames lower _
     (working.begun t src s frames lower f from ready c.in-Some.alt.now one.0 rest one.1 c.none_has_run.ensures c.instrs-self.result c.begin.new.self one.2
     c.instrs-self.ensures (c.in_ok-begin-in-Some.ensures ready.base)) refl)

@@ -10,7 +10,8 @@ pub returns-clause-highest : goal.returns-clause-highest
 returns-clause-highest g c src frames lower items call mark work =
     let t = c.args.tables.now in
     let s = shown c.args.self.now in
-    subst (λ alts. OnOk c.begin.result (IsHighest t src (shown c.begin.new.self) frames lower (begins (record call.frame { alt = call.frame.alt + 1 }) call.from alts)))
+    let behind = record call.frame { alt = call.frame.alt + 1 } in
+    subst (λ alts. OnOk c.begin.result (IsHighest t src (shown c.begin.new.self) frames lower (begins behind call.from alts)))
     (working.later_alternatives call work.is_open.alternative)
     (c.begin.ensures.highest src frames lower _ call.from
     (working.next_ready t src s frames lower items call work c.later.result c.cut.new.self c.in_ok-self.field-0 c.before_before.ensures
