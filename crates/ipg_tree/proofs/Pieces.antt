@@ -20,22 +20,6 @@ use Rattle.ipg_tree.specs.Line.{Says, head_line}
 use Rattle.ipg_tree.specs.declared.line.Places.{Places}
 use Rattle.ipg_tree.specs.Words.{spaced, parted}
 
--- the digits of bytes behind others
-pub digits_append : (xs ys : List ℕ) → hex_digits (xs ++ ys) ≡ hex_digits xs ++ hex_digits ys
-digits_append [] ys = refl
-digits_append (x ∷ xs) ys = ap (λ t. digit (x / 16) ∷ digit (x % 16) ∷ t) (digits_append xs ys)
-
--- the digits of the last byte go before those that there are
-pub last_digits : (left front : List ℕ) (b : ℕ) (two piece next all : List ℕ) → left ≡ front ++ b ∷ [] → two ≡ digit (b / 16) ∷ digit (b % 16) ∷ []
-    → next ≡ two ++ piece → hex_digits left ++ piece ≡ all → hex_digits front ++ next ≡ all
-last_digits left front b two piece next all split is more h =
-    ap (λ t. hex_digits front ++ t) (more ∙ ap (λ t. t ++ piece) is) ∙ sym (append_assoc (hex_digits front) (hex_digits (b ∷ [])) piece)
-    ∙ ap (λ t. t ++ piece) (sym (ap hex_digits split ∙ digits_append front (b ∷ []))) ∙ h
-
-pub next_spaced : {X : Type 0} (f : X → List ℕ) (xs : List X) (i : ℕ) (d : X) → i < length xs
-    → spaced (map f (drop i xs)) ≡ (32 ∷ f (get_or xs i d)) ++ spaced (map f (drop (i + 1) xs))
-next_spaced f xs i d h = ap (λ xs. spaced (map f xs)) (drop-cons xs i d h ∙ ap (λ k. get_or xs i d ∷ drop k xs) (sym (add-one i)))
-
 line_spaced : (w : List ℕ) (ws : List (List ℕ)) → line (w ∷ ws) ≡ w ++ (spaced ws ++ 10 ∷ [])
 line_spaced w [] = refl
 line_spaced w (x ∷ ws) = ap (λ l. w ++ 32 ∷ l) (line_spaced x ws ∙ sym (append_assoc x (spaced ws) (10 ∷ [])))
@@ -73,19 +57,6 @@ attrs_pieces depth name places attrs =
     ∙ ap (λ t. name ++ t) (sym (append_assoc (spaced places) (spaced attrs) (10 ∷ []))
     ∙ ap (λ t. t ++ 10 ∷ []) (sym (flat_map-append (λ word. 32 ∷ word) places attrs)))
     ∙ sym (line_spaced name (places ++ attrs)))
-
--- a node says what the tree says that stands there
-pub says : (src : Source) (st : Stored) (at : ℕ) (named : Option Row) (it : Row) (one : Tree) → named ≡ Some it
-    → StandsNode src st at named one → Says st it one
-says src st at named it (Node rule size attrs start end kids) is h =
-    let has = h.stands.1 in
-    let same : it ≡ has.node = let e = sym is ∙ h.is_at has.node has.is_node in cc in
-    subst (λ n. Says st n (Node rule size attrs start end kids)) (sym same) (record {
-      rule = ap (λ h. h.rule) has.is_head;
-      size = ap (λ h. h.size) has.is_head;
-      ends = ap (λ h. record { start = h.start; end = h.end }) has.is_head;
-      attrs = has.are_attrs;
-    })
 
 -- what the words of a node say is its line
 head_words : (g : Grammar) (depth at : ℕ) (one : Tree) (name : List ℕ) (to start end from_start from_end : ℕ) (attrs : List (ℕ × ℤ))

@@ -13,7 +13,7 @@ use Rattle.ipg_tree_walk.specs.Visits.{Seen, from_of}
 use Rattle.ipg_tree_walk.specs.Left.{NodeOf, StandsNode, Shows}
 use Rattle.ipg_tree.specs.Json.{many_head}
 use Rattle.ipg_tree.specs.JsonWalk.{tree_text, kid_text}
-use Rattle.ipg_tree.proofs.Visited.{IsNodeRow}
+use Rattle.ipg_tree.specs.Behind.{IsNodeRow}
 
 -- a tree stands at the node of a visit, and this is its object up to those in it
 pub record TreeSeen (src : Source) (st : Stored) (g : Grammar) (visit : Visit) (text : List ℕ) : Type 0 where

@@ -16,6 +16,7 @@ use Rattle.ipg_tree_walk.specs.Parse.{Walked, Left}
 use Rattle.ipg_outside.specs.Sink.{Output}
 use Rattle.ipg_tree.specs.Putting.{Progress, begun}
 use Rattle.ipg_tree.specs.Line.{line_of, lines_of, head_line, child_line}
+use Rattle.ipg_tree.specs.Behind.{IsNodeRow}
 
 module _ (g : Grammar) where
   mutual
@@ -49,41 +50,6 @@ module _ (g : Grammar) where
 
   pub count_lines : (one : Tree) → length (tree_lines g 0 0 one) ≡ length (visits one)
   count_lines one = ap length (all_seen one) ∙ length-map (visits one) (line_of g)
-
--- what was left began with the visit
-pub record Began (src : Source) (p next : Walked) (visit : Visit) (left : List Seen) : Type 0 where
-  pub first : Seen
-  pub more : List Seen
-  pub is : left ≡ first ∷ more
-  pub shows : Shows src p.parse.store visit first
-  pub behind : Left src next more
-
-pub began : (src : Source) (p next : Walked) (visit : Visit) (left : List Seen) → (Left src p [] → Some visit ≡ None)
-    → ((one : Seen) (more : List Seen) → Left src p (one ∷ more) → Shows src p.parse.store visit one × Left src next more)
-    → Left src p left → Began src p next visit left
-began src p next visit [] end go h = let no = end h in absurd (cc)
-began src p next visit (one ∷ more) end go h = let both = go one more h in record { first = one; more = more; is = refl; shows = both.0; behind = both.1 }
-
--- where no visit comes nothing was left
-pub ended_at : (src : Source) (p next : Walked) (left : List Seen) → ((one : Seen) (more : List Seen) → Left src p (one ∷ more) → ⊥ × Left src next more)
-    → Left src p left → left ≡ []
-ended_at src p next [] go h = refl
-ended_at src p next (one ∷ more) go h = absurd (go one more h).0
-
--- there are as many rows as children
-pub count_rows : (src : Source) (st : Stored) (at : ℕ) (rows : List Kid) (kids : Kids) → StandKids src st at rows kids → length rows ≡ count_of kids
-count_rows src st at [] no_kids h = refl
-count_rows src st at (row ∷ rows) (kid one kids) h = sym (add-one (length rows)) ∙ ap (λ n. n + 1) (count_rows src st at rows kids h.1)
-count_rows src st at [] (kid one kids) h = absurd h
-count_rows src st at (row ∷ rows) no_kids h = absurd h
-
-abbrev pub IsNodeRow : Kid → Type 0
-IsNodeRow (row.Node id from to) = ⊤
-IsNodeRow (row.Text n from to) = ⊥
-IsNodeRow (row.Number prim from to high low) = ⊥
-IsNodeRow (row.Raw from to) = ⊥
-IsNodeRow (row.Array n items) = ⊥
-IsNodeRow (row.Many n items) = ⊥
 
 -- a tree stands at the node of a visit, and this is the line of it
 pub record NodeSeen (src : Source) (st : Stored) (g : Grammar) (visit : Visit) (line : List ℕ) : Type 0 where

@@ -8,6 +8,8 @@ pub mod Words
 pub mod Shares
 -- the line of each visit
 pub mod Line
+-- what visits and words come to one behind another: for proofs here and above
+pub mod Behind
 -- the tree as a JSON text
 pub mod Json
 -- that text visit by visit: what functions inside the crate promise each other

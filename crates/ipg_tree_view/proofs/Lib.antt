@@ -1,7 +1,6 @@
 -- what is kept of a text that is put together
 pub mod Cuts
 -- what comes next of digits
-pub mod Pieces
 -- what a walk shows
 pub mod Walked
 -- places that no leaf has

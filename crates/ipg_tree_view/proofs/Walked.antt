@@ -24,58 +24,7 @@ use Rattle.ipg_tree_view.specs.Bare.{is_among, has_byte}
 use Rattle.ipg_tree.specs.Line.{Says}
 use Rattle.ipg_tree_view.specs.View.{tree_head, kid_view, piece_of, bare_line, items_text}
 use Rattle.ipg_tree.specs.Words.{spaced}
-
-pub next_spaced : {X : Type 0} (f : X → List ℕ) (xs : List X) (i : ℕ) (d : X) → i < length xs
-    → spaced (map f (drop i xs)) ≡ (32 ∷ f (get_or xs i d)) ++ spaced (map f (drop (i + 1) xs))
-next_spaced f xs i d h = ap (λ xs. spaced (map f xs)) (drop-cons xs i d h ∙ ap (λ k. get_or xs i d ∷ drop k xs) (sym (add-one i)))
-
--- a node says what the tree says that stands there
-pub says : (src : Source) (st : Stored) (at : ℕ) (named : Option Row) (it : Row) (one : Tree) → named ≡ Some it
-    → StandsNode src st at named one → Says st it one
-says src st at named it (Node rule size attrs start end kids) is h =
-    let has = h.stands.1 in
-    let same : it ≡ has.node = let e = sym is ∙ h.is_at has.node has.is_node in cc in
-    subst (λ n. Says st n (Node rule size attrs start end kids)) (sym same) (record {
-      rule = ap (λ h. h.rule) has.is_head;
-      size = ap (λ h. h.size) has.is_head;
-      ends = ap (λ h. record { start = h.start; end = h.end }) has.is_head;
-      attrs = has.are_attrs;
-    })
-
--- what was left began with the visit
-pub record Began (src : Source) (p next : Walked) (visit : Visit) (left : List Seen) : Type 0 where
-  pub first : Seen
-  pub more : List Seen
-  pub is : left ≡ first ∷ more
-  pub shows : Shows src p.parse.store visit first
-  pub behind : Left src next more
-
-pub began : (src : Source) (p next : Walked) (visit : Visit) (left : List Seen) → (Left src p [] → Some visit ≡ None)
-    → ((one : Seen) (more : List Seen) → Left src p (one ∷ more) → Shows src p.parse.store visit one × Left src next more)
-    → Left src p left → Began src p next visit left
-began src p next visit [] end go h = let no = end h in absurd (cc)
-began src p next visit (one ∷ more) end go h = let both = go one more h in record { first = one; more = more; is = refl; shows = both.0; behind = both.1 }
-
--- where no visit comes nothing was left
-pub ended_at : (src : Source) (p next : Walked) (left : List Seen) → ((one : Seen) (more : List Seen) → Left src p (one ∷ more) → ⊥ × Left src next more)
-    → Left src p left → left ≡ []
-ended_at src p next [] go h = refl
-ended_at src p next (one ∷ more) go h = absurd (go one more h).0
-
--- there are as many rows as children
-pub count_rows : (src : Source) (st : Stored) (at : ℕ) (rows : List Kid) (kids : Kids) → StandKids src st at rows kids → length rows ≡ count_of kids
-count_rows src st at [] no_kids h = refl
-count_rows src st at (row ∷ rows) (kid one kids) h = sym (add-one (length rows)) ∙ ap (λ n. n + 1) (count_rows src st at rows kids h.1)
-count_rows src st at [] (kid one kids) h = absurd h
-count_rows src st at (row ∷ rows) no_kids h = absurd h
-
-abbrev pub IsNodeRow : Kid → Type 0
-IsNodeRow (row.Node id from to) = ⊤
-IsNodeRow (row.Text n from to) = ⊥
-IsNodeRow (row.Number prim from to high low) = ⊥
-IsNodeRow (row.Raw from to) = ⊥
-IsNodeRow (row.Array n items) = ⊥
-IsNodeRow (row.Many n items) = ⊥
+use Rattle.ipg_tree.specs.Behind.{IsNodeRow}
 
 -- a tree stands at the node of a visit, and this is its line
 pub record TreeSeen (src : Source) (st : Stored) (g : Grammar) (visit : Visit) (text : List ℕ) : Type 0 where

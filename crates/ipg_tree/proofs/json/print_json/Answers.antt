@@ -6,7 +6,7 @@ use Rattle.ipg_tree.specs.JsonWalk as walk
 use Rattle.ipg_tree.specs.Shares.{Shares}
 use Rattle.ipg_tree.specs.Putting.{begun, as_left, next, exits, ended}
 use Rattle.ipg_tree.proofs.Nested.{all_said, texts_next}
-use Rattle.ipg_tree.proofs.Visited.{began, ended_at}
+use Rattle.ipg_tree.specs.Behind.{began, ended_at}
 use Rattle.ipg_tree.specs.Json.{json}
 use Rattle.ipg_tree.proofs.json.print_json.Goals as goal
 

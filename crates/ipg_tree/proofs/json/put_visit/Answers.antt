@@ -2,7 +2,7 @@ use Rattle.std.proofs.Common.{◌≡◌, refl, sym, ap, ◌∙◌, subst, Some}
 use Rattle.std.specs.Prelude.{slice_get}
 use Rattle.ipg_table.specs.Rows.{StandFor}
 use Rattle.ipg_tree.specs.Putting.{as_text}
-use Rattle.ipg_tree.proofs.Visited.{IsNodeRow}
+use Rattle.ipg_tree.specs.Behind.{IsNodeRow}
 use Rattle.ipg_tree.proofs.Seen.{IsManyRow, tree_seen, many_seen}
 use Rattle.ipg_tree.proofs.json.put_visit.Goals as goal
 

@@ -3,7 +3,7 @@ use Rattle.std.specs.Prelude.{decimal, slice_get, Some}
 use Rattle.ipg_core.specs.Lines.{line, sym_name}
 use Rattle.ipg_table.specs.Rows.{StandFor}
 use Rattle.ipg_tree.specs.Putting.{as_text}
-use Rattle.ipg_tree.proofs.Visited.{count_rows}
+use Rattle.ipg_tree.specs.Behind.{count_rows}
 use Rattle.ipg_tree.proofs.leaf.put_items.Goals as goal
 
 pub returns : goal.returns

@@ -1,6 +1,6 @@
 use Rattle.ipg_core.specs.Lines.{attr_word}
 use Rattle.ipg_tree.specs.Putting.{next, exits}
-use Rattle.ipg_tree.proofs.Pieces.{next_spaced}
+use Rattle.ipg_tree.specs.Behind.{next_spaced}
 use Rattle.ipg_tree.proofs.line.put_attrs.Goals as goal
 
 pub returns-in_err-put_next_attr : goal.returns-in_err-put_next_attr

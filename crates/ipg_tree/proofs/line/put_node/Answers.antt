@@ -1,4 +1,4 @@
-use Rattle.ipg_tree.proofs.Pieces.{says}
+use Rattle.ipg_tree.specs.Behind.{says}
 use Rattle.ipg_tree.proofs.line.put_node.Goals as goal
 
 pub returns-in-Some : goal.returns-in-Some

@@ -1,5 +1,6 @@
 use Rattle.std.proofs.Common.{◌+◌, ap, ◌∙◌, arith, length}
-use Rattle.ipg_tree.proofs.Visited.{began, ended_at, count_lines}
+use Rattle.ipg_tree.specs.Behind.{began, ended_at}
+use Rattle.ipg_tree.proofs.Visited.{count_lines}
 use Rattle.ipg_tree.proofs.printing.lines.Goals as goal
 
 pub loop-count-preserved : goal.loop-count-preserved

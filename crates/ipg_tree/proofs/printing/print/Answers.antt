@@ -5,7 +5,8 @@ use Rattle.ipg_tree_walk.specs.Visits.{visits}
 use Rattle.ipg_tree.specs.Line.{lines_of}
 use Rattle.ipg_tree.specs.Shares.{Shares}
 use Rattle.ipg_tree.specs.Putting.{next, exits, all_put}
-use Rattle.ipg_tree.proofs.Visited.{starts, began, ended_at}
+use Rattle.ipg_tree.specs.Behind.{began, ended_at}
+use Rattle.ipg_tree.proofs.Visited.{starts}
 use Rattle.ipg_tree.proofs.printing.print.Goals as goal
 
 pub loop-visit-init : goal.loop-visit-init

@@ -1,6 +1,7 @@
 use Rattle.std.proofs.Common.{sym, subst}
 use Rattle.ipg_tree.specs.Putting.{as_text}
-use Rattle.ipg_tree.proofs.Visited.{IsNodeRow, node_seen}
+use Rattle.ipg_tree.specs.Behind.{IsNodeRow}
+use Rattle.ipg_tree.proofs.Visited.{node_seen}
 use Rattle.ipg_tree.proofs.printing.put_visit.Goals as goal
 
 pub returns-in-Node : goal.returns-in-Node

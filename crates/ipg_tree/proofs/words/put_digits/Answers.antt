@@ -2,7 +2,7 @@ use Rattle.std.proofs.Common.{◌≡◌, [], ap, arith, ◌∙◌}
 use Rattle.std.proofs.lemmas.Grind.{common_steps}
 use Rattle.ipg_core.specs.Lines.{hex_digits}
 use Rattle.ipg_tree.specs.Putting.{next, exits, all_put}
-use Rattle.ipg_tree.proofs.Pieces.{digits_append}
+use Rattle.ipg_tree.specs.Behind.{digits_append}
 use Rattle.ipg_tree.proofs.words.put_digits.Goals as goal
 
 pub returns-in_err-put_some : goal.returns-in_err-put_some

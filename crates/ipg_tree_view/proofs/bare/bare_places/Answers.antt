@@ -4,7 +4,7 @@ use Rattle.ipg_mach_nodes.specs.Stored.{StandsTree}
 use Rattle.ipg_tree_walk.specs.Visits.{visits}
 use Rattle.ipg_tree_view.specs.Bare.{none_has, has_byte}
 use Rattle.ipg_tree_view.proofs.Runs.{next_struck, all_struck, same_bare, whole_new}
-use Rattle.ipg_tree_view.proofs.Walked.{began, ended_at}
+use Rattle.ipg_tree.specs.Behind.{began, ended_at}
 use Rattle.ipg_tree_view.proofs.bare.bare_places.Goals as goal
 
 pub loop-visit-init : goal.loop-visit-init

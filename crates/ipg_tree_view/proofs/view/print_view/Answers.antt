@@ -8,7 +8,7 @@ use Rattle.ipg_tree_view.specs.Bare.{runs}
 use Rattle.ipg_tree.specs.Shares.{Shares}
 use Rattle.ipg_tree_view.specs.View.{view_by, seen_view, gap_view}
 use Rattle.ipg_tree.specs.Putting.{begun, next, exits, ended, as_left, as_text}
-use Rattle.ipg_tree_view.proofs.Walked.{began, ended_at}
+use Rattle.ipg_tree.specs.Behind.{began, ended_at}
 use Rattle.ipg_tree_view.proofs.view.print_view.Goals as goal
 
 pub loop-visit-init : goal.loop-visit-init

@@ -3,7 +3,7 @@ use Rattle.std.proofs.lemmas.List.{drop_all}
 use Rattle.ipg_core.specs.Lines.{attr_word}
 use Rattle.ipg_tree.specs.Words.{spaced}
 use Rattle.ipg_tree_view.proofs.Cuts.{lacks_as}
-use Rattle.ipg_tree_view.proofs.Walked.{next_spaced}
+use Rattle.ipg_tree.specs.Behind.{next_spaced}
 use Rattle.ipg_tree_view.proofs.view.push_attrs.Goals as goal
 
 pub loop-attr-preserved : goal.loop-attr-preserved

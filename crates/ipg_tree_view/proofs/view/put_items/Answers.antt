@@ -5,7 +5,7 @@ use Rattle.ipg_core.specs.Tree.{count_of}
 use Rattle.ipg_table.specs.Rows.{StandFor}
 use Rattle.ipg_tree_view.specs.View.{indented}
 use Rattle.ipg_tree_view.proofs.Cuts.{lacks_as, lacks_none}
-use Rattle.ipg_tree_view.proofs.Walked.{count_rows}
+use Rattle.ipg_tree.specs.Behind.{count_rows}
 use Rattle.ipg_tree_view.proofs.view.put_items.Goals as goal
 
 pub returns : goal.returns

@@ -1,4 +1,4 @@
-use Rattle.ipg_tree_view.proofs.Walked.{says}
+use Rattle.ipg_tree.specs.Behind.{says}
 use Rattle.ipg_tree_view.proofs.view.put_tree.Goals as goal
 
 pub returns-in-Some : goal.returns-in-Some

@@ -3,7 +3,8 @@ use Rattle.std.specs.Prelude.{slice_get, decimal}
 use Rattle.ipg_core.specs.Lines.{primitive_name}
 use Rattle.ipg_tree_view.specs.View.{piece_of}
 use Rattle.ipg_tree.specs.Putting.{as_text}
-use Rattle.ipg_tree_view.proofs.Walked.{IsNodeRow, tree_seen, leaf_seen, array_seen, many_seen}
+use Rattle.ipg_tree.specs.Behind.{IsNodeRow}
+use Rattle.ipg_tree_view.proofs.Walked.{tree_seen, leaf_seen, array_seen, many_seen}
 use Rattle.ipg_tree_view.proofs.view.put_visit.Goals as goal
 
 pub returns-in-Node : goal.returns-in-Node

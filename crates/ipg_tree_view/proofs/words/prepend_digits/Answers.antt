@@ -1,6 +1,6 @@
 use Rattle.std.proofs.Common.{arith}
 use Rattle.std.proofs.lemmas.Grind.{common_steps}
-use Rattle.ipg_tree_view.proofs.Pieces.{last_digits}
+use Rattle.ipg_tree.specs.Behind.{last_digits}
 use Rattle.ipg_tree_view.proofs.words.prepend_digits.Goals as goal
 
 pub loop-last-preserved : goal.loop-last-preserved
