@@ -28,7 +28,7 @@ module _ (tells_once : TellsOnce) where
       let site : CallSite = record { written = g; core = core; edge = edge } in
       let part = keep core marks edge in
       let same = once (IsValueOn site part eoi) (λ n variable s t. one_value part.0 (on_length part.1 eoi) n (name_of site variable) s t) 0
-          (variables core marks edge)
+      (variables core marks edge)
       values others each all
       in
       h ∙ ap (values_line (rule_name g edge.caller)) same ∙ sym k

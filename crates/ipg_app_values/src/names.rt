@@ -114,7 +114,12 @@ fn attribute_name(core: &Core, attr: u32) -> &[u8]
     }
 }
 
-fn quantity_name(alloc: Global, site: CallSite, side: Side, of: &Quantity) -> Result<Vec<u8>, AllocError>
+fn quantity_name(
+    alloc: Global,
+    site: CallSite,
+    side: Side,
+    of: &Quantity,
+) -> Result<Vec<u8>, AllocError>
     ensures { IfOk result (λ name. name.items ≡ quantity_name (site_of site.entry) side of.now) }
 {
     match of {

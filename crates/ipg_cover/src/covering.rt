@@ -19,7 +19,12 @@ use ipg_touch::must_touch;
 use std::alloc::{AllocError, Global};
 
 /// What there is of the gap of an alternative.
-fn gap_of(alloc: Global, g: &Core, marks: &[bool], place: (u32, u32)) -> Result<LeastGap, AllocError>
+fn gap_of(
+    alloc: Global,
+    g: &Core,
+    marks: &[bool],
+    place: (u32, u32),
+) -> Result<LeastGap, AllocError>
     requires { HasAlternative g.now place.0 place.1 }
     ensures { IfOk result (TellsGap (gap_at g.now marks.now place)) }
 {
