@@ -8,7 +8,7 @@ use Rattle.std.proofs.lemmas.Fmt.{decimal_by_steps}
 use Rattle.ipg_edit_script.specs.declared.script.Edit.{Edit}
 use Rattle.ipg_edit_script.specs.declared.pos.Pos.{Pos}
 use Rattle.ipg_edit_script.specs.declared.pos.Pos.TheVariants as pos
-use Rattle.ipg_edit_script.specs.declared.pos.Turn.TheVariants.{Stuck, To, Add}
+use Rattle.ipg_edit_script.specs.declared.pos.ScriptTurn.TheVariants.{Stuck, To, Add}
 use Rattle.ipg_edit_script.specs.Scripts.{hex_digit, hex, with_text, places_text, line, script_text, IsByte, IsEdit, AreEdits, IsScript}
 use Rattle.ipg_edit_script.specs.Reader.{is_digit, is_hex, digit_value, hex_value, byte_of, grown, counted, more_from}
 use Rattle.ipg_edit_script.specs.Reader.{more_to, end_turn, State, start, taken, step}

@@ -8,7 +8,7 @@ use Rattle.std.proofs.lemmas.List.{flat_map_more}
 use Rattle.ipg_edit_script.specs.declared.script.Edit.{Edit}
 use Rattle.ipg_edit_script.specs.declared.pos.Pos.{Pos}
 use Rattle.ipg_edit_script.specs.declared.pos.Pos.TheVariants as pos
-use Rattle.ipg_edit_script.specs.declared.pos.Turn.TheVariants.{Stuck, To, Add, End}
+use Rattle.ipg_edit_script.specs.declared.pos.ScriptTurn.TheVariants.{Stuck, To, Add, End}
 use Rattle.ipg_edit_script.specs.Scripts.{hex_digit, byte_text, hex, with_text, places_text, line, script_text, IsByte, IsEdit, AreEdits}
 use Rattle.ipg_edit_script.specs.Reader.{is_digit, is_hex, digit_value, hex_value, byte_of, grown, counted, more_from, more_to, end_turn, State, taken, step}
 use Rattle.ipg_edit_script.proofs.Digits.{one_digit, small_digit, IsMore, is_more, hex_of, are_of}

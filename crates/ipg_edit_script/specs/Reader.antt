@@ -4,8 +4,8 @@ use Rattle.std.specs.Prelude.{Option, None, Some, Result, Ok, Err}
 use Rattle.ipg_edit_script.specs.declared.script.Edit.{Edit}
 use Rattle.ipg_edit_script.specs.declared.pos.Pos.{Pos}
 use Rattle.ipg_edit_script.specs.declared.pos.Pos.TheVariants as pos
-use Rattle.ipg_edit_script.specs.declared.pos.Turn.{Turn}
-use Rattle.ipg_edit_script.specs.declared.pos.Turn.TheVariants.{Stuck, To, Add, End}
+use Rattle.ipg_edit_script.specs.declared.pos.ScriptTurn.{ScriptTurn}
+use Rattle.ipg_edit_script.specs.declared.pos.ScriptTurn.TheVariants.{Stuck, To, Add, End}
 
 -- ---- digits
 
@@ -34,41 +34,41 @@ grown k value = if not (k == 0) && nat_le value (2 ^ 32 - 1) then Some value els
 
 -- ---- one byte
 
-abbrev pub counted : (ℕ → Pos) → Option ℕ → Turn
+abbrev pub counted : (ℕ → Pos) → Option ℕ → ScriptTurn
 counted at None = Stuck
 counted at (Some k) = To (at k)
 
-abbrev pub line_turn : ℕ → Turn
+abbrev pub line_turn : ℕ → ScriptTurn
 line_turn b = if is_digit b then To (pos.From (digit_value b)) else Stuck
 
-abbrev pub more_from : ℕ → ℕ → Turn
+abbrev pub more_from : ℕ → ℕ → ScriptTurn
 more_from k b = counted pos.From (grown k (k * 10 + digit_value b))
 
-abbrev pub from_turn : ℕ → ℕ → Turn
+abbrev pub from_turn : ℕ → ℕ → ScriptTurn
 from_turn k b = if is_digit b then more_from k b else (if b == 32 then To (pos.Gap k) else Stuck)
 
-abbrev pub gap_turn : ℕ → ℕ → Turn
+abbrev pub gap_turn : ℕ → ℕ → ScriptTurn
 gap_turn from b = if is_digit b then To (pos.To from (digit_value b)) else Stuck
 
-abbrev pub more_to : ℕ → ℕ → ℕ → Turn
+abbrev pub more_to : ℕ → ℕ → ℕ → ScriptTurn
 more_to from k b = counted (pos.To from) (grown k (k * 10 + digit_value b))
 
-abbrev pub to_turn : ℕ → ℕ → ℕ → Turn
+abbrev pub to_turn : ℕ → ℕ → ℕ → ScriptTurn
 to_turn from k b = if is_digit b then more_to from k b else (if b == 32 then To (pos.With from k) else Stuck)
 
-abbrev pub with_turn : ℕ → ℕ → ℕ → Turn
+abbrev pub with_turn : ℕ → ℕ → ℕ → ScriptTurn
 with_turn from to b = if is_hex b then To (pos.Half from to (hex_value b)) else (if b == 45 then To (pos.Nothing from to) else Stuck)
 
-abbrev pub end_turn : ℕ → ℕ → ℕ → Turn
+abbrev pub end_turn : ℕ → ℕ → ℕ → ScriptTurn
 end_turn from to b = if b == 10 then End from to else Stuck
 
-abbrev pub whole_turn : ℕ → ℕ → ℕ → Turn
+abbrev pub whole_turn : ℕ → ℕ → ℕ → ScriptTurn
 whole_turn from to b = if is_hex b then To (pos.Half from to (hex_value b)) else end_turn from to b
 
-abbrev pub half_turn : ℕ → ℕ → ℕ → ℕ → Turn
+abbrev pub half_turn : ℕ → ℕ → ℕ → ℕ → ScriptTurn
 half_turn from to high b = if is_hex b then Add (byte_of high (hex_value b)) (pos.Whole from to) else Stuck
 
-abbrev pub turn_at : Pos → ℕ → Turn
+abbrev pub turn_at : Pos → ℕ → ScriptTurn
 turn_at pos.Line b = line_turn b
 turn_at (pos.From k) b = from_turn k b
 turn_at (pos.Gap from) b = gap_turn from b
@@ -93,7 +93,7 @@ start = record { edits = []; with = []; at = pos.Line }
 abbrev pub closed : ℕ → ℕ → State → State
 closed from to st = record { edits = st.edits ++ (record { from = from; to = to; with = st.with }) ∷ []; with = []; at = pos.Line }
 
-abbrev pub taken : Turn → State → Option State
+abbrev pub taken : ScriptTurn → State → Option State
 taken Stuck st = None
 taken (To at) st = Some (record { edits = st.edits; with = st.with; at = at })
 taken (Add byte at) st = Some (record { edits = st.edits; with = st.with ++ byte ∷ []; at = at })

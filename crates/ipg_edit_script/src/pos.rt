@@ -25,7 +25,7 @@ pub enum Pos {
 
 /// What a byte does.
 #[derive(Clone, Copy)]
-pub enum Turn {
+pub enum ScriptTurn {
     /// No script goes on so.
     Stuck,
     To(Pos),
@@ -81,113 +81,113 @@ fn grow(number: u32, digit: u8) -> Option<u32>
     }
 }
 
-fn at_line(b: u8) -> Turn
+fn at_line(b: u8) -> ScriptTurn
     ensures { result ≡ spec.line_turn b }
 {
     if is_digit(b) {
-        Turn::To(Pos::From(u32::from(digit_value(b))))
+        ScriptTurn::To(Pos::From(u32::from(digit_value(b))))
     } else {
-        Turn::Stuck
+        ScriptTurn::Stuck
     }
 }
 
-fn more_from(number: u32, b: u8) -> Turn
+fn more_from(number: u32, b: u8) -> ScriptTurn
     ensures { result ≡ spec.more_from number b }
 {
     match grow(number, digit_value(b)) {
-        Some(value) => Turn::To(Pos::From(value)),
-        None => Turn::Stuck,
+        Some(value) => ScriptTurn::To(Pos::From(value)),
+        None => ScriptTurn::Stuck,
     }
 }
 
-fn at_from(number: u32, b: u8) -> Turn
+fn at_from(number: u32, b: u8) -> ScriptTurn
     ensures { result ≡ spec.from_turn number b }
 {
     if is_digit(b) {
         more_from(number, b)
     } else if b == b' ' {
-        Turn::To(Pos::Gap(number))
+        ScriptTurn::To(Pos::Gap(number))
     } else {
-        Turn::Stuck
+        ScriptTurn::Stuck
     }
 }
 
-fn at_gap(from: u32, b: u8) -> Turn
+fn at_gap(from: u32, b: u8) -> ScriptTurn
     ensures { result ≡ spec.gap_turn from b }
 {
     if is_digit(b) {
-        Turn::To(Pos::To(from, u32::from(digit_value(b))))
+        ScriptTurn::To(Pos::To(from, u32::from(digit_value(b))))
     } else {
-        Turn::Stuck
+        ScriptTurn::Stuck
     }
 }
 
-fn more_to(from: u32, number: u32, b: u8) -> Turn
+fn more_to(from: u32, number: u32, b: u8) -> ScriptTurn
     ensures { result ≡ spec.more_to from number b }
 {
     match grow(number, digit_value(b)) {
-        Some(value) => Turn::To(Pos::To(from, value)),
-        None => Turn::Stuck,
+        Some(value) => ScriptTurn::To(Pos::To(from, value)),
+        None => ScriptTurn::Stuck,
     }
 }
 
-fn at_to(from: u32, number: u32, b: u8) -> Turn
+fn at_to(from: u32, number: u32, b: u8) -> ScriptTurn
     ensures { result ≡ spec.to_turn from number b }
 {
     if is_digit(b) {
         more_to(from, number, b)
     } else if b == b' ' {
-        Turn::To(Pos::With(from, number))
+        ScriptTurn::To(Pos::With(from, number))
     } else {
-        Turn::Stuck
+        ScriptTurn::Stuck
     }
 }
 
-fn at_with(from: u32, to: u32, b: u8) -> Turn
+fn at_with(from: u32, to: u32, b: u8) -> ScriptTurn
     ensures { result ≡ spec.with_turn from to b }
 {
     if is_hex(b) {
-        Turn::To(Pos::Half(from, to, hex_value(b)))
+        ScriptTurn::To(Pos::Half(from, to, hex_value(b)))
     } else if b == b'-' {
-        Turn::To(Pos::Nothing(from, to))
+        ScriptTurn::To(Pos::Nothing(from, to))
     } else {
-        Turn::Stuck
+        ScriptTurn::Stuck
     }
 }
 
 /// After all of a line but its line feed.
-fn at_end(from: u32, to: u32, b: u8) -> Turn
+fn at_end(from: u32, to: u32, b: u8) -> ScriptTurn
     ensures { result ≡ spec.end_turn from to b }
 {
     if b == b'\n' {
-        Turn::End(from, to)
+        ScriptTurn::End(from, to)
     } else {
-        Turn::Stuck
+        ScriptTurn::Stuck
     }
 }
 
-fn at_whole(from: u32, to: u32, b: u8) -> Turn
+fn at_whole(from: u32, to: u32, b: u8) -> ScriptTurn
     ensures { result ≡ spec.whole_turn from to b }
 {
     if is_hex(b) {
-        Turn::To(Pos::Half(from, to, hex_value(b)))
+        ScriptTurn::To(Pos::Half(from, to, hex_value(b)))
     } else {
         at_end(from, to, b)
     }
 }
 
-fn at_half(from: u32, to: u32, high: u8, b: u8) -> Turn
+fn at_half(from: u32, to: u32, high: u8, b: u8) -> ScriptTurn
     ensures { result ≡ spec.half_turn from to high b }
 {
     if is_hex(b) {
-        Turn::Add(byte_of(high, hex_value(b)), Pos::Whole(from, to))
+        ScriptTurn::Add(byte_of(high, hex_value(b)), Pos::Whole(from, to))
     } else {
-        Turn::Stuck
+        ScriptTurn::Stuck
     }
 }
 
 /// Where a byte takes a reader at this place.
-pub fn turn_at(at: Pos, b: u8) -> Turn
+pub fn turn_at(at: Pos, b: u8) -> ScriptTurn
     ensures { result ≡ spec.turn_at at b }
 {
     match at {

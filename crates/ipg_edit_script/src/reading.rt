@@ -7,7 +7,7 @@ ghost use Rattle.ipg_edit_script.specs.Reading.{seen};
 ghost use Rattle.ipg_edit_script.specs.declared.script.Edit.{Edit as Asked};
 ghost use Rattle.ipg_edit_script.specs.declared.reading.ScriptFault.TheVariants.{Memory};
 
-use crate::pos::{Pos, Turn, turn_at};
+use crate::pos::{Pos, ScriptTurn, turn_at};
 use crate::script::Edit;
 use ipg_num::List;
 use std::alloc::{AllocError, Global};
@@ -74,17 +74,17 @@ impl Reader {
         ensures { IfOk result (λ on. step (seen self.old) b ≡ (if on then Some (seen self.new) else None)) }
     {
         match turn_at(self.at, b) {
-            Turn::Stuck => Ok(false),
-            Turn::To(at) => {
+            ScriptTurn::Stuck => Ok(false),
+            ScriptTurn::To(at) => {
                 self.at = at;
                 Ok(true)
             }
-            Turn::Add(byte, at) => {
+            ScriptTurn::Add(byte, at) => {
                 self.with.push(byte)?;
                 self.at = at;
                 Ok(true)
             }
-            Turn::End(from, to) => {
+            ScriptTurn::End(from, to) => {
                 self.close(from, to)?;
                 Ok(true)
             }

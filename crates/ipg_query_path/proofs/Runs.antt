@@ -12,7 +12,7 @@ use Rattle.ipg_query_path.specs.declared.path.Step.{Step}
 use Rattle.ipg_query_path.specs.declared.path.Step.TheVariants.{Named, Nth, Children, All}
 use Rattle.ipg_query_path.specs.declared.pos.Pos.{Pos}
 use Rattle.ipg_query_path.specs.declared.pos.Pos.TheVariants as pos
-use Rattle.ipg_query_path.specs.declared.pos.Turn.TheVariants.{Stuck, To, Add}
+use Rattle.ipg_query_path.specs.declared.pos.PathTurn.TheVariants.{Stuck, To, Add}
 use Rattle.ipg_query_path.specs.Paths.{step_text, steps_text, is_digit, IsNaming, IsName, IsStep, IsPath}
 use Rattle.ipg_query_path.specs.Reader.{digit_value, end_turn, grown, State, start, taken, step, ended}
 

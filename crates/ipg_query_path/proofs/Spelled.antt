@@ -10,7 +10,7 @@ use Rattle.ipg_query_path.specs.declared.path.Step.{Step}
 use Rattle.ipg_query_path.specs.declared.path.Step.TheVariants.{Named, Nth, Children, All}
 use Rattle.ipg_query_path.specs.declared.pos.Pos.{Pos}
 use Rattle.ipg_query_path.specs.declared.pos.Pos.TheVariants as pos
-use Rattle.ipg_query_path.specs.declared.pos.Turn.TheVariants.{Stuck, To, Add, End}
+use Rattle.ipg_query_path.specs.declared.pos.PathTurn.TheVariants.{Stuck, To, Add, End}
 use Rattle.ipg_query_path.specs.Paths.{step_text, slashed, steps_text, is_letter, is_digit, is_naming, IsNaming, IsName, IsStep}
 use Rattle.ipg_query_path.specs.Reader.{digit_value, end_turn, State, step_at, taken, step}
 

@@ -5,8 +5,8 @@ use Rattle.ipg_query_path.specs.declared.path.Step.{Step}
 use Rattle.ipg_query_path.specs.declared.path.Step.TheVariants.{Named, Nth, Children, All}
 use Rattle.ipg_query_path.specs.declared.pos.Pos.{Pos}
 use Rattle.ipg_query_path.specs.declared.pos.Pos.TheVariants as pos
-use Rattle.ipg_query_path.specs.declared.pos.Turn.{Turn}
-use Rattle.ipg_query_path.specs.declared.pos.Turn.TheVariants.{Stuck, To, Add, End}
+use Rattle.ipg_query_path.specs.declared.pos.PathTurn.{PathTurn}
+use Rattle.ipg_query_path.specs.declared.pos.PathTurn.TheVariants.{Stuck, To, Add, End}
 use Rattle.ipg_query_path.specs.Paths.{is_letter, is_digit, is_naming}
 
 -- ---- one byte
@@ -14,35 +14,35 @@ use Rattle.ipg_query_path.specs.Paths.{is_letter, is_digit, is_naming}
 abbrev pub digit_value : ℕ → ℕ
 digit_value b = b - 48
 
-abbrev pub step_turn : ℕ → Turn
+abbrev pub step_turn : ℕ → PathTurn
 step_turn b = if is_letter b then Add pos.Name else (if b == 42 then To pos.Star else Stuck)
 
-abbrev pub end_turn : ℕ → Turn
+abbrev pub end_turn : ℕ → PathTurn
 end_turn b = if b == 47 then End pos.Step else (if b == 46 then End pos.Dot else Stuck)
 
-abbrev pub name_turn : ℕ → Turn
+abbrev pub name_turn : ℕ → PathTurn
 name_turn b = if is_naming b then Add pos.Name else (if b == 40 then To pos.Open else end_turn b)
 
-abbrev pub open_turn : ℕ → Turn
+abbrev pub open_turn : ℕ → PathTurn
 open_turn b = if is_digit b then To (pos.Number (digit_value b)) else Stuck
 
 -- a number with one digit more, where it stays within its limit; 0 has none
-abbrev pub grown : ℕ → ℕ → Turn
+abbrev pub grown : ℕ → ℕ → PathTurn
 grown k value = if not (k == 0) && nat_le value (2 ^ 32 - 1) then To (pos.Number value) else Stuck
 
-abbrev pub number_turn : ℕ → ℕ → Turn
+abbrev pub number_turn : ℕ → ℕ → PathTurn
 number_turn k b = if is_digit b then grown k (k * 10 + digit_value b) else (if b == 41 then To (pos.Closed k) else Stuck)
 
-abbrev pub star_turn : ℕ → Turn
+abbrev pub star_turn : ℕ → PathTurn
 star_turn b = if b == 42 then To pos.Stars else end_turn b
 
-abbrev pub dot_turn : ℕ → Turn
+abbrev pub dot_turn : ℕ → PathTurn
 dot_turn b = if is_letter b then Add pos.Field else Stuck
 
-abbrev pub field_turn : ℕ → Turn
+abbrev pub field_turn : ℕ → PathTurn
 field_turn b = if is_naming b then Add pos.Field else Stuck
 
-abbrev pub turn_at : Pos → ℕ → Turn
+abbrev pub turn_at : Pos → ℕ → PathTurn
 turn_at pos.Step b = step_turn b
 turn_at pos.Name b = name_turn b
 turn_at pos.Open b = open_turn b
@@ -79,7 +79,7 @@ step_at name pos.Field = All
 abbrev pub at_hand : State → Step
 at_hand st = step_at st.name st.at
 
-abbrev pub taken : Turn → State → ℕ → Option State
+abbrev pub taken : PathTurn → State → ℕ → Option State
 taken Stuck st b = None
 taken (To at) st b = Some (record { steps = st.steps; name = st.name; at = at })
 taken (Add at) st b = Some (record { steps = st.steps; name = st.name ++ b ∷ []; at = at })

@@ -28,7 +28,7 @@ pub enum Pos {
 
 /// What a byte does.
 #[derive(Clone, Copy)]
-pub enum Turn {
+pub enum PathTurn {
     /// No path goes on so.
     Stuck,
     To(Pos),
@@ -63,110 +63,110 @@ fn value_of(b: u8) -> u32
     u32::from(b.saturating_sub(b'0'))
 }
 
-fn at_step(b: u8) -> Turn
+fn at_step(b: u8) -> PathTurn
     ensures { result ≡ spec.step_turn b }
 {
     if is_letter(b) {
-        Turn::Add(Pos::Name)
+        PathTurn::Add(Pos::Name)
     } else if b == b'*' {
-        Turn::To(Pos::Star)
+        PathTurn::To(Pos::Star)
     } else {
-        Turn::Stuck
+        PathTurn::Stuck
     }
 }
 
 /// After a whole step.
-fn at_end(b: u8) -> Turn
+fn at_end(b: u8) -> PathTurn
     ensures { result ≡ spec.end_turn b }
 {
     if b == b'/' {
-        Turn::End(Pos::Step)
+        PathTurn::End(Pos::Step)
     } else if b == b'.' {
-        Turn::End(Pos::Dot)
+        PathTurn::End(Pos::Dot)
     } else {
-        Turn::Stuck
+        PathTurn::Stuck
     }
 }
 
-fn at_name(b: u8) -> Turn
+fn at_name(b: u8) -> PathTurn
     ensures { result ≡ spec.name_turn b }
 {
     if is_naming(b) {
-        Turn::Add(Pos::Name)
+        PathTurn::Add(Pos::Name)
     } else if b == b'(' {
-        Turn::To(Pos::Open)
+        PathTurn::To(Pos::Open)
     } else {
         at_end(b)
     }
 }
 
-fn at_open(b: u8) -> Turn
+fn at_open(b: u8) -> PathTurn
     ensures { result ≡ spec.open_turn b }
 {
     if is_digit(b) {
-        Turn::To(Pos::Number(value_of(b)))
+        PathTurn::To(Pos::Number(value_of(b)))
     } else {
-        Turn::Stuck
+        PathTurn::Stuck
     }
 }
 
 /// One digit more, where the number stays within its limit; 0 has none.
-fn grow(number: u32, digit: u32) -> Turn
+fn grow(number: u32, digit: u32) -> PathTurn
     requires { digit ≤ 207 }
     ensures { result ≡ spec.grown number (number * 10 + digit) }
 {
     let value = u64::from(number) * 10 + u64::from(digit);
     if number != 0 && value <= u64::from(u32::MAX) {
-        Turn::To(Pos::Number(value as u32))
+        PathTurn::To(Pos::Number(value as u32))
     } else {
-        Turn::Stuck
+        PathTurn::Stuck
     }
 }
 
-fn at_number(number: u32, b: u8) -> Turn
+fn at_number(number: u32, b: u8) -> PathTurn
     ensures { result ≡ spec.number_turn number b }
 {
     if is_digit(b) {
         grow(number, value_of(b))
     } else if b == b')' {
-        Turn::To(Pos::Closed(number))
+        PathTurn::To(Pos::Closed(number))
     } else {
-        Turn::Stuck
+        PathTurn::Stuck
     }
 }
 
-fn at_star(b: u8) -> Turn
+fn at_star(b: u8) -> PathTurn
     ensures { result ≡ spec.star_turn b }
 {
     if b == b'*' {
-        Turn::To(Pos::Stars)
+        PathTurn::To(Pos::Stars)
     } else {
         at_end(b)
     }
 }
 
-fn at_dot(b: u8) -> Turn
+fn at_dot(b: u8) -> PathTurn
     ensures { result ≡ spec.dot_turn b }
 {
     if is_letter(b) {
-        Turn::Add(Pos::Field)
+        PathTurn::Add(Pos::Field)
     } else {
-        Turn::Stuck
+        PathTurn::Stuck
     }
 }
 
-fn at_field(b: u8) -> Turn
+fn at_field(b: u8) -> PathTurn
     ensures { result ≡ spec.field_turn b }
 {
     if is_naming(b) {
-        Turn::Add(Pos::Field)
+        PathTurn::Add(Pos::Field)
     } else {
-        Turn::Stuck
+        PathTurn::Stuck
     }
 }
 
 /// Where a byte takes a reader at this place.
-pub fn turn_at(at: Pos, b: u8) -> Turn
+pub fn turn_at(at: Pos, b: u8) -> PathTurn
     ensures { result ≡ spec.turn_at at b }
 {
     match at {

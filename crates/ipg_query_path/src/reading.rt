@@ -8,7 +8,7 @@ ghost use Rattle.ipg_query_path.specs.declared.reading.QueryFault.TheVariants.{M
 ghost use Rattle.std.specs.Prelude.{ℕ, List};
 
 use crate::path::{Name, Query, Step};
-use crate::pos::{Pos, Turn, turn_at};
+use crate::pos::{PathTurn, Pos, turn_at};
 use ipg_num::List;
 use std::alloc::{AllocError, Global};
 use std::mem;
@@ -87,17 +87,17 @@ impl Reader {
         ensures { IfOk result (λ on. step (seen self.old) b ≡ (if on then Some (seen self.new) else None)) }
     {
         match turn_at(self.at, b) {
-            Turn::Stuck => Ok(false),
-            Turn::To(at) => {
+            PathTurn::Stuck => Ok(false),
+            PathTurn::To(at) => {
                 self.at = at;
                 Ok(true)
             }
-            Turn::Add(at) => {
+            PathTurn::Add(at) => {
                 self.name.push(b)?;
                 self.at = at;
                 Ok(true)
             }
-            Turn::End(at) => {
+            PathTurn::End(at) => {
                 self.close()?;
                 self.at = at;
                 Ok(true)

@@ -10,7 +10,7 @@ ghost use Rattle.ipg_read.specs.Built.{parts_of};
 
 use ipg_ast::{Alt, Case, Expr, Field, Ident, Name, Place, Rule, Slot, Span, Term, What};
 use ipg_num::{Held, List};
-use ipg_read_scan::{Extent, Infix, Label, Member, Role, Row, Site, Stack};
+use ipg_read_scan::{Extent, Infix, Label, Member, ParseStack, Role, Row, Site};
 use std::alloc::{AllocError, Global};
 use std::mem::replace;
 
@@ -18,9 +18,9 @@ use std::mem::replace;
 #[derive(Drop)]
 pub struct Build {
     pub alloc: Global,
-    pub exprs: Stack<Expr>,
-    pub names: Stack<Ident>,
-    pub slots: Stack<Slot>,
+    pub exprs: ParseStack<Expr>,
+    pub names: ParseStack<Ident>,
+    pub slots: ParseStack<Slot>,
     pub cases: List<Case>,
     pub terms: List<Term>,
     pub outer: List<Term>,
@@ -45,9 +45,9 @@ fn blank(alloc: Global) -> Build
 {
     Build {
         alloc,
-        exprs: Stack::new(alloc),
-        names: Stack::new(alloc),
-        slots: Stack::new(alloc),
+        exprs: ParseStack::new(alloc),
+        names: ParseStack::new(alloc),
+        slots: ParseStack::new(alloc),
         cases: List::new(alloc),
         terms: List::new(alloc),
         outer: List::new(alloc),
@@ -92,7 +92,7 @@ fn make<'a>(build: &mut Build, row: Row<'a>) -> Result<(), AllocError>
 // expressions
 
 /// The last expression, or `EOI` where there is none.
-fn top(exprs: &mut Stack<Expr>) -> Expr
+fn top(exprs: &mut ParseStack<Expr>) -> Expr
     ensures taken { result ≡ B.top exprs.old }
     ensures left { exprs.new ≡ below exprs.old }
 {
@@ -269,7 +269,7 @@ fn placed(build: &mut Build, extent: Extent, role: Role) -> Result<(), AllocErro
     }
 }
 
-fn place(exprs: &mut Stack<Expr>, extent: Extent) -> Place
+fn place(exprs: &mut ParseStack<Expr>, extent: Extent) -> Place
     ensures taken { result ≡ B.place_of extent exprs.old }
     ensures left { exprs.new ≡ B.left_by extent exprs.old }
 {

@@ -6,7 +6,7 @@ ghost use Rattle.ipg_read.specs.Counted as C;
 ghost use Rattle.ipg_read.specs.Counted.{counts_of, over_of};
 
 use crate::limits::{Over, Seen, deeper, more, noted, noted_rule};
-use ipg_read_scan::{Role, Row, Site, Stack};
+use ipg_read_scan::{ParseStack, Role, Row, Site};
 use ipg_read_tokens::Which;
 use std::alloc::{AllocError, Global};
 
@@ -14,7 +14,7 @@ use std::alloc::{AllocError, Global};
 #[derive(Drop)]
 pub struct Count {
     pub seen: Seen,
-    pub depths: Stack<u16>,
+    pub depths: ParseStack<u16>,
     pub terms: u16,
     pub alts: u16,
     pub local_alts: u16,
@@ -28,7 +28,7 @@ pub fn first_over<'a>(alloc: Global, rows: &[Row<'a>]) -> Result<Option<Over>, A
             rules: 0,
             over: None,
         },
-        depths: Stack::new(alloc),
+        depths: ParseStack::new(alloc),
         terms: 0,
         alts: 0,
         local_alts: 0,
@@ -70,7 +70,7 @@ fn note<'a>(count: &mut Count, row: Row<'a>) -> Result<(), AllocError>
     Ok(())
 }
 
-fn top(depths: &mut Stack<u16>) -> u16
+fn top(depths: &mut ParseStack<u16>) -> u16
     ensures taken { result ≡ C.top depths.old }
     ensures left { depths.new ≡ C.below depths.old }
 {
@@ -80,14 +80,14 @@ fn top(depths: &mut Stack<u16>) -> u16
     }
 }
 
-fn one_deeper(depths: &mut Stack<u16>) -> Result<(), AllocError>
+fn one_deeper(depths: &mut ParseStack<u16>) -> Result<(), AllocError>
     ensures { OnOk result (depths.new ≡ C.one_deeper depths.old) }
 {
     let depth = top(depths);
     depths.push(deeper(depth))
 }
 
-fn two_deeper(depths: &mut Stack<u16>) -> Result<(), AllocError>
+fn two_deeper(depths: &mut ParseStack<u16>) -> Result<(), AllocError>
     ensures { OnOk result (depths.new ≡ C.two_deeper depths.old) }
 {
     let right = top(depths);
@@ -95,7 +95,7 @@ fn two_deeper(depths: &mut Stack<u16>) -> Result<(), AllocError>
     depths.push(deeper(left.max(right)))
 }
 
-fn three_deeper(depths: &mut Stack<u16>) -> Result<(), AllocError>
+fn three_deeper(depths: &mut ParseStack<u16>) -> Result<(), AllocError>
     ensures { OnOk result (depths.new ≡ C.three_deeper depths.old) }
 {
     let no = top(depths);

@@ -12,7 +12,7 @@ use crate::limits::Over;
 use crate::{Grammar, ReadFault, Token, tokens};
 use ipg_ast::Rule;
 use ipg_num::List;
-use ipg_read_scan::{Found, Row, scan};
+use ipg_read_scan::{Row, ScanEnd, scan};
 use ipg_read_syntax::laws::{reads_exactly, refused_exactly};
 use std::alloc::{AllocError, Global};
 
@@ -49,8 +49,8 @@ fn outcome_of(alloc: Global, found: &[Token]) -> Result<Outcome, AllocError>
     ensures { IfOk result (λ outcome. (text : List ℕ) → told text found.now outcome ≡ answer text found.now) }
 {
     match scan(alloc, found)? {
-        Found::Rows(rows) => of_rows(alloc, rows.as_slice()),
-        Found::Stuck(n) => Ok(Outcome::Stuck(n)),
+        ScanEnd::Rows(rows) => of_rows(alloc, rows.as_slice()),
+        ScanEnd::Stuck(n) => Ok(Outcome::Stuck(n)),
     }
 }
 

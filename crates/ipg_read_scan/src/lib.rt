@@ -10,5 +10,5 @@ mod stack;
 
 pub use lexeme::{Infix, Label};
 pub use row::{Extent, Member, Role, Row, Site};
-pub use scanning::{Found, scan};
-pub use stack::Stack;
+pub use scanning::{ScanEnd, scan};
+pub use stack::ParseStack;

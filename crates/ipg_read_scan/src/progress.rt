@@ -5,14 +5,14 @@ ghost use Rattle.ipg_read_scan.specs.Answered.{Does, rows_in, next_of};
 
 use crate::due::{Due, Next, Rows};
 use crate::row::Row;
-use crate::stack::Stack;
+use crate::stack::ParseStack;
 use std::alloc::AllocError;
 
 /// The rows so far, and what is due.
 #[derive(Drop)]
 pub struct Progress<'a> {
     pub rows: Vec<Row<'a>>,
-    pub due: Stack<Due>,
+    pub due: ParseStack<Due>,
 }
 
 /// What is due has ended before the token, or has taken it; or no grammar goes on so.
@@ -82,7 +82,7 @@ fn put_row<'a>(rows: &mut Vec<Row<'a>>, row: Row<'a>) -> Result<(), AllocError>
 
 /// The first on top.
 #[inline(always)]
-fn put_due(due: &mut Stack<Due>, next: Next) -> Result<(), AllocError>
+fn put_due(due: &mut ParseStack<Due>, next: Next) -> Result<(), AllocError>
     ensures { OnOk result (due.new ≡ next_of next ++ due.old) }
 {
     match next {

@@ -11,7 +11,7 @@ use crate::due::{Due, ask};
 use crate::lexeme::{Lexeme, lexeme_of};
 use crate::progress::{Answer, Progress};
 use crate::row::{Row, Site};
-use crate::stack::Stack;
+use crate::stack::ParseStack;
 use ipg_read_tokens::Token;
 use std::alloc::{AllocError, Global};
 
@@ -24,21 +24,21 @@ pub enum Step {
 
 /// The rows of a grammar, or the number of the first token that no grammar goes on with.
 #[derive(Drop)]
-pub enum Found<'a> {
+pub enum ScanEnd<'a> {
     Rows(Vec<Row<'a>>),
     Stuck(usize),
 }
 
 /// The rows of the grammar whose text has these tokens; where none has, the number of the first token that no grammar goes
 /// on with, which is how many tokens there are where the text ends too early. The only other answer is want of memory.
-pub fn scan<'a>(alloc: Global, tokens: &'a [Token]) -> Result<Found<'a>, AllocError>
+pub fn scan<'a>(alloc: Global, tokens: &'a [Token]) -> Result<ScanEnd<'a>, AllocError>
     ensures { IfOk result (λ found. rows_found found ≡ A.run 0 A.start (classes tokens.now)) }
 {
     let mut to = begin(alloc)?;
     for (at, token) in tokens.iter().enumerate() {
         match advance(&mut to, at, lexeme_of(token))? {
             Step::Moved => {}
-            Step::Lost => return Ok(Found::Stuck(at)),
+            Step::Lost => return Ok(ScanEnd::Stuck(at)),
         }
     }
     Ok(ended(tokens.len(), to))
@@ -48,7 +48,7 @@ pub fn scan<'a>(alloc: Global, tokens: &'a [Token]) -> Result<Found<'a>, AllocEr
 fn begin<'a>(alloc: Global) -> Result<Progress<'a>, AllocError>
     ensures { IfOk result (λ to. (to.rows.items ≡ []) × (to.due ≡ A.start)) }
 {
-    let mut due = Stack::new(alloc);
+    let mut due = ParseStack::new(alloc);
     due.push(Due::Rules)?;
     due.push(Due::Rule(Site::Global))?;
     let rows = Vec::new(alloc);
@@ -56,16 +56,16 @@ fn begin<'a>(alloc: Global) -> Result<Progress<'a>, AllocError>
 }
 
 /// A grammar ends where nothing but further rules is due.
-fn ended<'a>(at: usize, to: Progress<'a>) -> Found<'a>
+fn ended<'a>(at: usize, to: Progress<'a>) -> ScanEnd<'a>
     ensures { rows_found result ≡ A.rows_then (rows_of to.entry.rows.items) (A.ended at to.entry.due) }
 {
     let Progress { rows, mut due } = to;
     match due.pop() {
         Some(Due::Rules) => match due.pop() {
-            None => Found::Rows(rows),
-            Some(_) => Found::Stuck(at),
+            None => ScanEnd::Rows(rows),
+            Some(_) => ScanEnd::Stuck(at),
         },
-        _ => Found::Stuck(at),
+        _ => ScanEnd::Stuck(at),
     }
 }
 

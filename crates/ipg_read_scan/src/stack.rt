@@ -6,11 +6,11 @@ use std::marker::Model;
 
 /// A stack, which contracts see with its top first.
 #[derive(Drop)]
-pub struct Stack<T> {
+pub struct ParseStack<T> {
     items: Vec<T>,
 }
 
-impl<T> Model for Stack<T> {
+impl<T> Model for ParseStack<T> {
     ghost use Rattle.std.specs.Prelude.{List};
     ghost use Rattle.std.specs.Coded.{coded_list};
     ghost use Rattle.ipg_read_scan.specs.Popped.{top_first};
@@ -22,18 +22,18 @@ impl<T> Model for Stack<T> {
     ghost view = { λ s. top_first s.items.items };
 }
 
-impl<T> Stack<T> {
+impl<T> ParseStack<T> {
     /// No items, and no memory yet.
-    pub fn new(alloc: Global) -> Stack<T>
+    pub fn new(alloc: Global) -> ParseStack<T>
         ensures { result ≡ [] }
     {
-        Stack {
+        ParseStack {
             items: Vec::new(alloc),
         }
     }
 }
 
-impl<T: Drop> Stack<T> {
+impl<T: Drop> ParseStack<T> {
     /// Puts an item on top. The only other answer is want of memory.
     pub fn push(&mut self, item: T) -> Result<(), AllocError>
         ensures { OnOk result (self.new ≡ item ∷ self.old) }
