@@ -23,6 +23,7 @@ pub struct Atoms<'a> {
 }
 
 impl<'a> Atoms<'a> {
+    /// No atom, over so many variables.
     pub fn new(alloc: Global, vars: usize) -> Result<Atoms<'a>, AllocError> {
         let mut takers = Vec::new(alloc);
         for _ in 0..vars {
@@ -36,10 +37,12 @@ impl<'a> Atoms<'a> {
         })
     }
 
+    /// The atoms, by their places.
     pub fn all(&self) -> &[Atom<'a>] {
         self.atoms.as_slice()
     }
 
+    /// How many atoms there are.
     pub fn len(&self) -> usize {
         self.atoms.len()
     }
@@ -49,6 +52,7 @@ impl<'a> Atoms<'a> {
         self.sums.as_slice()
     }
 
+    /// The atom at a place.
     pub fn at(&self, place: usize) -> Option<Atom<'a>> {
         match item_at(&self.atoms, place) {
             Some(atom) => Some(*atom),
@@ -109,6 +113,7 @@ impl<'a> Atoms<'a> {
         self.at(place)
     }
 
+    /// Whether an atom waits.
     pub fn has_waiting(&self) -> bool {
         !self.waiting.is_empty()
     }

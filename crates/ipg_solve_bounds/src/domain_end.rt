@@ -13,6 +13,7 @@ pub struct DomainEnd {
 }
 
 impl DomainEnd {
+    /// The lower end.
     pub fn low(var: usize) -> DomainEnd {
         DomainEnd {
             var,
@@ -20,6 +21,7 @@ impl DomainEnd {
         }
     }
 
+    /// The upper end.
     pub fn high(var: usize) -> DomainEnd {
         DomainEnd {
             var,

@@ -66,6 +66,7 @@ pub enum Effect {
 }
 
 impl<'a> BoundTrail<'a> {
+    /// The bounds of a box, whose facts come first: of each variable its lower and then its upper one.
     pub fn new(alloc: Global, bounds: &[(i64, i64)]) -> Result<BoundTrail<'a>, AllocError> {
         let mut trail = BoundTrail {
             changes: Vec::new(alloc),
@@ -92,10 +93,12 @@ impl<'a> BoundTrail<'a> {
         Ok(place)
     }
 
+    /// How many bounds there are, those that were replaced among them.
     pub fn len(&self) -> usize {
         self.changes.len()
     }
 
+    /// The bound at a place.
     pub fn change(&self, place: usize) -> Option<BoundChange<'a>> {
         match item_at(&self.changes, place) {
             Some(change) => Some(*change),
