@@ -7,7 +7,8 @@ use Rattle.ipg_ast.specs.declared.grammar.Expr.{Expr}
 use Rattle.ipg_ast.specs.declared.grammar.Expr.TheOpen.{Expr-F}
 use Rattle.ipg_ast.specs.declared.grammar.Expr.TheFolds.{fold-Expr, fold-roll-Expr}
 use Rattle.ipg_ast.specs.declared.grammar.Expr.TheVariants.{Num, Eoi, Id, Part, Item, Group, Neg, Not, Two, Both, Either, Cond, rolls-Num}
-use Rattle.ipg_ast.specs.declared.grammar.Expr.TheVariants.{rolls-Eoi, rolls-Id, rolls-Part, rolls-Item, rolls-Group, rolls-Neg, rolls-Not, rolls-Two, rolls-Both, rolls-Either, rolls-Cond}
+use Rattle.ipg_ast.specs.declared.grammar.Expr.TheVariants.{rolls-Eoi, rolls-Id, rolls-Part, rolls-Item, rolls-Group}
+use Rattle.ipg_ast.specs.declared.grammar.Expr.TheVariants.{rolls-Neg, rolls-Not, rolls-Two, rolls-Both, rolls-Either, rolls-Cond}
 
 module _ {X : Type 0} (step : Expr-F X → X) where
   abbrev of : Expr → X
