@@ -4,6 +4,7 @@ use Rattle.std.proofs.lemmas.List.{append_assoc}
 use Rattle.ipg_ast.specs.Spelling.{place_tokens, slot_tokens, case_tokens, cases_tokens, set_tokens, test_tokens, pick_tokens, term_tokens}
 use Rattle.ipg_ast.specs.Spelling.{locals_tokens, where_tokens, alts_tokens, local_alts_tokens}
 use Rattle.ipg_ast.specs.Canonical.{tokens_text}
+use Rattle.ipg_ast.specs.declared.token.Reserved.TheVariants as reserved
 use Rattle.ipg_ast.specs.declared.token.TokenKind.TheVariants.{Word, Symbol}
 use Rattle.ipg_ast.specs.declared.grammar.Ident.{Ident}
 use Rattle.ipg_ast.specs.declared.grammar.Expr.{Expr}
@@ -51,7 +52,7 @@ pick_text cases other =
     three_parts (115 ∷ 119 ∷ 105 ∷ 116 ∷ 99 ∷ 104 ∷ 32 ∷ 123 ∷ 32 ∷ []) (101 ∷ 108 ∷ 115 ∷ 101 ∷ 32 ∷ []) (125 ∷ 32 ∷ []) (tokens_text (cases_tokens cases))
     (tokens_text (slot_tokens other))
     ∙ sym (ap (λ t. 115 ∷ 119 ∷ 105 ∷ 116 ∷ 99 ∷ 104 ∷ 32 ∷ 123 ∷ 32 ∷ t)
-    (text_append (cases_tokens cases) (Word (codes "else") ∷ (slot_tokens other ++ (Symbol (codes "}") ∷ [])))
+    (text_append (cases_tokens cases) (Word reserved.Else ∷ (slot_tokens other ++ (Symbol (codes "}") ∷ [])))
     ∙ ap (λ t. tokens_text (cases_tokens cases) ++ (101 ∷ 108 ∷ 115 ∷ 101 ∷ 32 ∷ t)) (text_append (slot_tokens other) (Symbol (codes "}") ∷ []))))
 
 where_more : (r : Rule) (rest : List Rule)

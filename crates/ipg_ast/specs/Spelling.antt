@@ -20,6 +20,7 @@ use Rattle.ipg_ast.specs.declared.grammar.Expr.TheOpen.Expr-F.{Num, Eoi, Id, Par
 use Rattle.ipg_ast.specs.declared.grammar.Expr.TheFolds.{fold-Expr}
 use Rattle.ipg_ast.specs.declared.grammar.Field.{Field}
 use Rattle.ipg_ast.specs.declared.grammar.Field.TheVariants.{Id as Attribute, Start, End}
+use Rattle.ipg_ast.specs.declared.token.Reserved.TheVariants as reserved
 use Rattle.ipg_ast.specs.declared.token.TokenKind.{TokenKind}
 use Rattle.ipg_ast.specs.declared.token.TokenKind.TheVariants.{Name, Word, Number, Text, Symbol}
 
@@ -28,8 +29,8 @@ Tokens = List TokenKind
 
 abbrev pub field_tokens : Field → Tokens
 field_tokens (Attribute i) = Name i.name ∷ []
-field_tokens Start = Word (codes "start") ∷ []
-field_tokens End = Word (codes "end") ∷ []
+field_tokens Start = Word reserved.Start ∷ []
+field_tokens End = Word reserved.End ∷ []
 
 abbrev pub sign_of : Op2 → List ℕ
 sign_of Add = codes "+"
@@ -55,7 +56,7 @@ part_tokens of f = Name of.name ∷ Symbol (codes ".") ∷ field_tokens f
 
 abbrev pub expr_step : Expr-F Tokens → Tokens
 expr_step (Num n) = Number n ∷ []
-expr_step Eoi = Word (codes "EOI") ∷ []
+expr_step Eoi = Word reserved.Eoi ∷ []
 expr_step (Id i) = Name i.name ∷ []
 expr_step (Part of f) = part_tokens of f
 expr_step (Item of e f) = Name of.name ∷ Symbol (codes "(") ∷ (e ++ (Symbol (codes ")") ∷ Symbol (codes ".") ∷ field_tokens f))
@@ -83,7 +84,7 @@ abbrev pub slot_tokens : Slot → Tokens
 slot_tokens s = what_token s.what ∷ place_tokens s.place
 
 abbrev pub case_tokens : Case → Tokens
-case_tokens c = Word (codes "case") ∷ Symbol (codes "(") ∷ (expr_tokens c.cond ++ (Symbol (codes ")") ∷ slot_tokens c.slot))
+case_tokens c = Word reserved.Case ∷ Symbol (codes "(") ∷ (expr_tokens c.cond ++ (Symbol (codes ")") ∷ slot_tokens c.slot))
 
 abbrev pub cases_tokens : List Case → Tokens
 cases_tokens [] = []
@@ -97,16 +98,16 @@ test_tokens cond = Symbol (codes "?") ∷ Symbol (codes "(") ∷ (expr_tokens co
 
 abbrev pub pick_tokens : List Case → Slot → Tokens
 pick_tokens cases other =
-    Word (codes "switch") ∷ Symbol (codes "{") ∷ (cases_tokens cases ++ (Word (codes "else") ∷ (slot_tokens other ++ (Symbol (codes "}") ∷ []))))
+    Word reserved.Switch ∷ Symbol (codes "{") ∷ (cases_tokens cases ++ (Word reserved.Else ∷ (slot_tokens other ++ (Symbol (codes "}") ∷ []))))
 
 abbrev pub term_tokens : Term → Tokens
 term_tokens (SlotTerm s) = slot_tokens s
 term_tokens (Set name value) = set_tokens name value
 term_tokens (Test at cond) = test_tokens cond
 term_tokens (Repeat var first last item from to) =
-    Word (codes "for") ∷ Name var.name ∷ Symbol (codes "=") ∷ (expr_tokens first ++ (Word (codes "to") ∷ (expr_tokens last
-    ++ (Word (codes "do") ∷ Name item.name ∷ place_tokens (Ends from to)))))
-term_tokens (Many at item place) = Word (codes "many") ∷ Name item.name ∷ place_tokens place
+    Word reserved.For ∷ Name var.name ∷ Symbol (codes "=") ∷ (expr_tokens first ++ (Word reserved.To ∷ (expr_tokens last
+    ++ (Word reserved.Do ∷ Name item.name ∷ place_tokens (Ends from to)))))
+term_tokens (Many at item place) = Word reserved.Many ∷ Name item.name ∷ place_tokens place
 term_tokens (Pick at cases other) = pick_tokens cases other
 
 abbrev pub terms_tokens : List Term → Tokens
@@ -132,7 +133,7 @@ locals_tokens (r ∷ rs) = local_tokens r ++ locals_tokens rs
 -- nothing where there are no local rules
 abbrev pub where_tokens : List Rule → Tokens
 where_tokens [] = []
-where_tokens (r ∷ rs) = Word (codes "where") ∷ Symbol (codes "{") ∷ (locals_tokens (r ∷ rs) ++ (Symbol (codes "}") ∷ []))
+where_tokens (r ∷ rs) = Word reserved.Where ∷ Symbol (codes "{") ∷ (locals_tokens (r ∷ rs) ++ (Symbol (codes "}") ∷ []))
 
 abbrev pub alt_tokens : Alt → Tokens
 alt_tokens a = terms_tokens (out-Alt a).terms ++ where_tokens (out-Alt a).locals

@@ -12,4 +12,4 @@ pub use grammar::{
 };
 pub use symbol::Symbol;
 pub use text::text_of;
-pub use token::TokenKind;
+pub use token::{Reserved, TokenKind};

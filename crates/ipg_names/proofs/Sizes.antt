@@ -1,6 +1,7 @@
 -- Terms, branches and identifiers are at most twice as many as tokens.
 use Rattle.std.proofs.Common.{ℕ, ◌*◌, ◌^◌, ◌≤◌, List, [], ◌∷◌, ◌++◌, length, ap, subst, arith, sum_by, length-append, codes}
 use Rattle.std.proofs.lemmas.List.Sums.{sum_by-cons}
+use Rattle.ipg_ast.specs.declared.token.Reserved.TheVariants as reserved
 use Rattle.ipg_ast.specs.declared.token.TokenKind.{TokenKind}
 use Rattle.ipg_ast.specs.declared.token.TokenKind.TheVariants.{Name, Word, Symbol}
 use Rattle.ipg_ast.specs.declared.grammar.Grammar.{Grammar}
@@ -110,10 +111,10 @@ term_size (SlotTerm s) = omega (arith, slot_size s)
 term_size (Set name value) = omega (arith, length-append (expr_tokens value) (Symbol (codes "}") ∷ []), expr_size value)
 term_size (Test at cond) = omega (arith, length-append (expr_tokens cond) (Symbol (codes ")") ∷ []), expr_size cond)
 term_size (Repeat var first last item from to) =
-    let item_tokens : Tokens = Word (codes "do") ∷ Name item.name ∷ place_tokens (Ends from to) in
+    let item_tokens : Tokens = Word reserved.Do ∷ Name item.name ∷ place_tokens (Ends from to) in
     omega (
       arith,
-      length-append (expr_tokens first) (Word (codes "to") ∷ (expr_tokens last ++ item_tokens)),
+      length-append (expr_tokens first) (Word reserved.To ∷ (expr_tokens last ++ item_tokens)),
       length-append
           (expr_tokens last) item_tokens,
       expr_size first,
@@ -124,7 +125,7 @@ term_size (Many at item place) = omega (arith, place_size place)
 term_size (Pick at cases other) =
     omega (
       arith,
-      length-append (cases_tokens cases) (Word (codes "else") ∷ (slot_tokens other ++ (Symbol (codes "}") ∷ []))),
+      length-append (cases_tokens cases) (Word reserved.Else ∷ (slot_tokens other ++ (Symbol (codes "}") ∷ []))),
       length-append (slot_tokens other) (Symbol (codes "}") ∷ []),
       cases_size cases,
       slot_size other,

@@ -1,22 +1,15 @@
--- The classes of words and of symbols as lists: the first that a token is found beside is its class.
+-- The classes of symbols as lists: the first that a token is found beside is its class.
 use Rattle.std.proofs.Common.{ℕ, List, [], ◌∷◌, Bool, cond, codes}
 use Rattle.ipg_num.specs.declared.op.Op2.TheVariants.{Add, Sub, Mul, Div, Mod, Shl, Shr, BitAnd, BitOr, BitXor, Eq, Ne, Lt, Le, Gt, Ge}
 use Rattle.ipg_ast.specs.declared.grammar.Span.{Span}
 use Rattle.ipg_ast.specs.declared.token.TokenKind.{TokenKind}
 use Rattle.ipg_read_syntax.specs.Classes.{either, both, op, Tok, sign, bang, question, colon, dot, comma, equals, arrow, semicolon, left_paren}
-use Rattle.ipg_read_syntax.specs.Classes.{right_paren, left_bracket, right_bracket, left_brace, right_brace, for_word, to_word, do_word, switch_word}
-use Rattle.ipg_read_syntax.specs.Classes.{case_word, else_word, where_word, start_word, end_word, eoi_word, many_word, stray}
+use Rattle.ipg_read_syntax.specs.Classes.{right_paren, left_bracket, right_bracket, left_brace, right_brace, stray}
 
 -- the token beside the first that passes the test
 abbrev pub first_of : {A : Type 0} → (A → Bool) → List (A × Tok) → Tok
 first_of test [] = stray
 first_of test (p ∷ ps) = cond (test p.0) p.1 (first_of test ps)
-
-abbrev pub words : Span → List (List ℕ × Tok)
-words at =
-    (codes "for", for_word) ∷ (codes "to", to_word) ∷ (codes "do", do_word) ∷ (codes "switch", switch_word at) ∷
-    (codes "case", case_word) ∷ (codes "else", else_word) ∷ (codes "where", where_word) ∷ (codes "start", start_word) ∷
-    (codes "end", end_word) ∷ (codes "EOI", eoi_word) ∷ (codes "many", many_word at) ∷ []
 
 abbrev pub singles : Span → List (ℕ × Tok)
 singles at =

@@ -1,15 +1,18 @@
 -- The class of a token gives its kind back; and no token of a tree is a stray one.
-use Rattle.std.proofs.Common.{◌≡◌, ℕ, List, [], ◌∷◌, ◌++◌, Result, Ok, Err, Bool, true, false, cond, map, refl, ap, ap₂, ◌∙◌, sym, subst, ◌==◌, true≢false}
-use Rattle.std.proofs.lemmas.Bool.{eqb-true, and_parts}
+use Rattle.std.proofs.Common.{◌≡◌, ℕ, List, [], ◌∷◌, ◌++◌, Result, Ok, Err, Bool, true, false, cond, map, refl, ap, ap₂, ◌∙◌, sym, subst, ◌==◌}
+use Rattle.std.specs.Prelude.{bytes_eq}
+use Rattle.std.proofs.lemmas.Bool.{eqb-true}
+use Rattle.std.proofs.lemmas.Slice.Eq.{bytes_eq-Decides}
 use Rattle.ipg_ast.specs.declared.grammar.Span.{Span}
 use Rattle.ipg_ast.specs.declared.grammar.What.{What}
 use Rattle.ipg_ast.specs.declared.grammar.What.TheVariants.{Text as TextWhat, Call}
 use Rattle.ipg_ast.specs.declared.grammar.Field.{Field}
 use Rattle.ipg_ast.specs.declared.grammar.Field.TheVariants.{Id as Attribute, Start, End}
+use Rattle.ipg_ast.specs.declared.token.Reserved.{Reserved}
+use Rattle.ipg_ast.specs.declared.token.Reserved.TheVariants as reserved
 use Rattle.ipg_ast.specs.declared.token.TokenKind.{TokenKind}
 use Rattle.ipg_ast.specs.declared.token.TokenKind.TheVariants.{Name, Word, Number, Text, Symbol}
 use Rattle.ipg_ast.specs.Spelling.{grammar_tokens}
-use Rattle.ipg_read_tokens.specs.Lexical.{is_same}
 use Rattle.ipg_read_tokens.specs.declared.token.Token.{Token}
 use Rattle.ipg_read_syntax.specs.Classes.{Tok, name, sign, question, colon, dot, comma, arrow, semicolon}
 use Rattle.ipg_read_syntax.specs.Classes.{right_paren, right_bracket, right_brace, to_word, do_word}
@@ -21,15 +24,7 @@ use Rattle.ipg_read_syntax.specs.Written.{AltTree, RuleTree, field_tok, what_tok
 use Rattle.ipg_read_syntax.specs.Written.{spell_terms, spell_local_alts, spell_local, spell_locals, spell_where, spell_alt, spell_alts, spell_rule, spell}
 use Rattle.ipg_read_canonical_laws.specs.Laws.{kinds, KeepsTokens}
 use Rattle.ipg_read_canonical_laws.proofs.Spelt.{kind_of, kinds_of, spell_kinds}
-use Rattle.ipg_read_canonical_laws.proofs.Classing.{first_or, others, first_of, words, singles, pairs}
-
-same_bytes : (a b : List ℕ) → is_same a b ≡ true → b ≡ a
-same_bytes [] [] same = refl
-same_bytes [] (b ∷ bs) same = absurd (true≢false (sym same))
-same_bytes (a ∷ rest) [] same = absurd (true≢false (sym same))
-same_bytes (a ∷ rest) (b ∷ bs) same =
-    let parts = and_parts (a == b) (is_same rest bs) same in
-    ap₂ (λ x xs. x ∷ xs) (sym (eqb-true a b parts.0)) (same_bytes rest bs parts.1)
+use Rattle.ipg_read_canonical_laws.proofs.Classing.{first_or, others, first_of, singles, pairs}
 
 -- a stray token gives nothing back, all others their kind
 abbrev BackTo : TokenKind → Tok → Type 0
@@ -51,14 +46,25 @@ first_back kind test x only (p ∷ ps) same = go (test p.0) refl (first_back kin
     go true is rest = by_kind (kind x) p.1 (ap (λ ks. first_or ks (kind p.0)) same ∙ ap kind (only p.0 is))
     go false is rest = rest
 
-word_back : (w : List ℕ) (at : Span) → BackTo (Word w) (word_class w at)
-word_back w at = first_back Word (is_same w) w (same_bytes w) (words at) refl
+word_back : (w : Reserved) (at : Span) → BackTo (Word w) (word_class w at)
+word_back reserved.For at = refl
+word_back reserved.To at = refl
+word_back reserved.Do at = refl
+word_back reserved.Switch at = refl
+word_back reserved.Case at = refl
+word_back reserved.Else at = refl
+word_back reserved.Where at = refl
+word_back reserved.Start at = refl
+word_back reserved.End at = refl
+word_back reserved.Eoi at = refl
+word_back reserved.Tok at = tt
+word_back reserved.Many at = refl
 
 single_back : (b : ℕ) (at : Span) → BackTo (Symbol (b ∷ [])) (single_class b at)
 single_back b at = first_back (λ c. Symbol (c ∷ [])) (λ c. b == c) b (λ c is. sym (eqb-true b c is)) (singles at) refl
 
 pair_back : (p : List ℕ) → BackTo (Symbol p) (pair_class p)
-pair_back p = first_back Symbol (is_same p) p (same_bytes p) pairs refl
+pair_back p = first_back Symbol (bytes_eq p) p (λ q is. sym ((bytes_eq-Decides p q).0 is)) pairs refl
 
 kind_back : (k : TokenKind) (at : Span) → BackTo k (kind_class k at)
 kind_back (Name bs) at = refl

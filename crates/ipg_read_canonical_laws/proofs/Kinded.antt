@@ -2,19 +2,20 @@
 use Rattle.std.proofs.Common.{◌≡◌, List, [], ◌∷◌, Bool, true, false, cond, map, refl, ap, ap₂, ◌∙◌, sym, subst, ◌==◌}
 use Rattle.ipg_num.specs.declared.op.Op2.TheVariants.{Add, Sub, Mul, Div, Mod, Shl, Shr, BitAnd, BitOr, BitXor, Eq, Ne, Lt, Le, Gt, Ge}
 use Rattle.ipg_ast.specs.declared.grammar.Span.{Span}
+use Rattle.ipg_ast.specs.declared.token.Reserved.{Reserved}
+use Rattle.ipg_ast.specs.declared.token.Reserved.TheVariants as reserved
 use Rattle.ipg_ast.specs.declared.token.TokenKind.{TokenKind}
 use Rattle.ipg_ast.specs.declared.token.TokenKind.TheVariants.{Name, Word, Number, Text, Symbol}
-use Rattle.ipg_read_tokens.specs.Lexical.{is_same}
 use Rattle.ipg_read_tokens.specs.declared.token.Token.{Token}
 use Rattle.ipg_read_syntax.specs.Classes.{either, both, op, Tok, name, number, text, sign, bang, question, colon, dot, comma, equals, arrow, semicolon}
 use Rattle.ipg_read_syntax.specs.Classes.{left_paren, right_paren, left_bracket, right_bracket, left_brace, right_brace, for_word, to_word, do_word}
-use Rattle.ipg_read_syntax.specs.Classes.{switch_word, case_word, else_word, where_word, start_word, end_word, eoi_word, many_word, stray, kind_class}
+use Rattle.ipg_read_syntax.specs.Classes.{switch_word, case_word, else_word, where_word, start_word, end_word, eoi_word, many_word, stray, word_class, kind_class}
 use Rattle.ipg_read_syntax.specs.Classes.{classes}
 use Rattle.ipg_read_syntax.specs.Written.{Toks}
 use Rattle.ipg_read_syntax.specs.Bare.{no_span, bare_tok, bare_toks}
 use Rattle.ipg_read_canonical_laws.specs.Laws.{kinds}
 use Rattle.ipg_read_canonical_laws.proofs.Spelt.{kind_of, kinds_of}
-use Rattle.ipg_read_canonical_laws.proofs.Classing.{first_or, others, first_of, words, singles}
+use Rattle.ipg_read_canonical_laws.proofs.Classing.{first_or, others, first_of, singles}
 
 -- of the first that passes the test, the place doesn't matter
 bare_first : {A : Type 0} (test : A → Bool) (ps : List (A × Tok)) → bare_tok (first_of test ps) ≡ first_of test (map (λ p. (p.0, bare_tok p.1)) ps)
@@ -26,10 +27,24 @@ bare_first test (p ∷ ps) = go (test p.0) (bare_first test ps)
     go true rest = refl
     go false rest = rest
 
+word_bare : (w : Reserved) (at : Span) → bare_tok (word_class w at) ≡ bare_tok (word_class w no_span)
+word_bare reserved.For at = refl
+word_bare reserved.To at = refl
+word_bare reserved.Do at = refl
+word_bare reserved.Switch at = refl
+word_bare reserved.Case at = refl
+word_bare reserved.Else at = refl
+word_bare reserved.Where at = refl
+word_bare reserved.Start at = refl
+word_bare reserved.End at = refl
+word_bare reserved.Eoi at = refl
+word_bare reserved.Tok at = refl
+word_bare reserved.Many at = refl
+
 -- a class but for the place
 kind_bare : (k : TokenKind) (at : Span) → bare_tok (kind_class k at) ≡ bare_tok (kind_class k no_span)
 kind_bare (Name bs) at = refl
-kind_bare (Word w) at = bare_first (is_same w) (words at) ∙ sym (bare_first (is_same w) (words no_span))
+kind_bare (Word w) at = word_bare w at
 kind_bare (Number z) at = refl
 kind_bare (Text bs) at = refl
 kind_bare (Symbol []) at = refl

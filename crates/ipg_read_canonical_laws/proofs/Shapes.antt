@@ -1,10 +1,11 @@
 -- The tokens of a text have the shape of tokens.
-use Rattle.std.proofs.Common.{◌≡◌, ℕ, zero, suc, ◌+◌, ◌-◌, ◌*◌, ◌≤◌, ◌^◌, List, [], ◌∷◌, Bool, true, false, cond, not, ◌&&◌, ◌||◌, ◌==◌, nat_le}
+use Rattle.std.proofs.Common.{◌≡◌, ℕ, zero, suc, ◌+◌, ◌-◌, ◌*◌, ◌≤◌, ◌^◌, List, [], ◌∷◌, Bool, true, false, cond, ◌&&◌, ◌||◌, ◌==◌, nat_le}
 use Rattle.std.proofs.Common.{nat_lt, Option, Some, None, Ok, Err, pos, take, drop, length, refl, ap, ◌∙◌, sym, subst, arith, add-one, true≢false}
 use Rattle.std.specs.List.{AllByRecursion, list_all}
-use Rattle.std.proofs.lemmas.Bool.{and_from, or_left, lt-ltb, not_from_false}
+use Rattle.std.proofs.lemmas.Bool.{and_from, or_left, lt-ltb}
 use Rattle.std.proofs.lemmas.Bool.Decides.{nat_tests}
-use Rattle.ipg_ast.specs.declared.token.TokenKind.TheVariants.{Name, Word, Symbol}
+use Rattle.ipg_ast.specs.declared.token.Reserved.{Reserved}
+use Rattle.ipg_ast.specs.declared.token.TokenKind.TheVariants.{Symbol}
 use Rattle.ipg_read_tokens.specs.declared.token.Token.{Token}
 use Rattle.ipg_read_tokens.specs.declared.fault.ReadFault.TheVariants.{TooLong, Lex, Number as TooLarge, Syntax, Limit, Memory}
 use Rattle.ipg_read_tokens.specs.declared.front.Front.{Front}
@@ -14,10 +15,10 @@ use Rattle.ipg_read_tokens.specs.declared.class.Class.TheVariants.{White, Commen
 use Rattle.ipg_read_tokens.specs.declared.string.Item.{Item}
 use Rattle.ipg_read_tokens.specs.declared.string.Item.TheVariants.{End, Byte, Bad}
 use Rattle.ipg_read_tokens.specs.Lexical.{Lexed, lexed, beginning, front_at, token_first, large_first, tokens_of, in_class, run, is_white, is_letter}
-use Rattle.ipg_read_tokens.specs.Lexical.{is_digit, is_hexadecimal, is_plain, is_single, is_pair, is_prefixed, is_one_of, reserved, digit_value, value}
+use Rattle.ipg_read_tokens.specs.Lexical.{is_digit, is_hexadecimal, is_plain, is_single, is_pair, is_prefixed, reserved_of, word_or, digit_value, value}
 use Rattle.ipg_read_tokens.specs.Lexical.{below_limit, front_of_value, decimal_front, hexadecimal_front, number_front, name_front, escape, item, Quoted}
 use Rattle.ipg_read_tokens.specs.Lexical.{after_bytes, with_item, quoted, text_front, string_front, single_front, symbol_front}
-use Rattle.ipg_read_tokens.specs.Shaped.{is_name, is_byte, IsToken}
+use Rattle.ipg_read_tokens.specs.Shaped.{is_free, is_name, is_byte, IsToken}
 use Rattle.ipg_read_canonical_laws.specs.Laws.{kinds, ReadsShaped}
 use Rattle.ipg_read_canonical_laws.proofs.Formed.{reads_formed}
 use Rattle.ipg_read_canonical_laws.proofs.Kept.{keeps_tokens}
@@ -53,8 +54,11 @@ name_token b bs is =
     let w : List ℕ = take (run Naming (b ∷ bs)) (b ∷ bs) in
     let named : is_name w ≡ true = ap is_name (letter_first b bs is) ∙ and_from (is_letter b) (list_all (in_class Naming) (take (run Naming bs) bs))
     is (run_all Naming bs) in
-    choose IsToken (is_one_of reserved w) (Word w) (Name w) (λ yes_word. yes_word)
-    (λ no_word. and_from (is_name w) (not (is_one_of reserved w)) named (not_from_false (is_one_of reserved w) no_word))
+    by w (reserved_of w) refl named
+  where
+    by : (w : List ℕ) (o : Option Reserved) → reserved_of w ≡ o → is_name w ≡ true → IsToken (word_or o w)
+    by w None e named = and_from (is_name w) (is_free (reserved_of w)) named (ap is_free e)
+    by w (Some r) e named = refl
 
 -- ---- symbols
 

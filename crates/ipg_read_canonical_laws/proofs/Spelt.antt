@@ -1,5 +1,6 @@
 -- The kinds of a tree's tokens are the tokens of its grammar.
 use Rattle.std.proofs.Common.{◌≡◌, ℕ, List, [], ◌∷◌, ◌++◌, refl, ap, ap₂, ◌∙◌, sym, codes, map}
+use Rattle.ipg_ast.specs.declared.token.Reserved.TheVariants as reserved
 use Rattle.ipg_ast.specs.declared.token.TokenKind.{TokenKind}
 use Rattle.ipg_ast.specs.declared.token.TokenKind.TheVariants.{Name, Word, Number, Text, Symbol}
 use Rattle.ipg_ast.specs.declared.grammar.Span.{Span}
@@ -49,17 +50,17 @@ kind_of left_bracket = Symbol (codes "[")
 kind_of right_bracket = Symbol (codes "]")
 kind_of left_brace = Symbol (codes "{")
 kind_of right_brace = Symbol (codes "}")
-kind_of for_word = Word (codes "for")
-kind_of to_word = Word (codes "to")
-kind_of do_word = Word (codes "do")
-kind_of (switch_word at) = Word (codes "switch")
-kind_of case_word = Word (codes "case")
-kind_of else_word = Word (codes "else")
-kind_of where_word = Word (codes "where")
-kind_of start_word = Word (codes "start")
-kind_of end_word = Word (codes "end")
-kind_of eoi_word = Word (codes "EOI")
-kind_of (many_word at) = Word (codes "many")
+kind_of for_word = Word reserved.For
+kind_of to_word = Word reserved.To
+kind_of do_word = Word reserved.Do
+kind_of (switch_word at) = Word reserved.Switch
+kind_of case_word = Word reserved.Case
+kind_of else_word = Word reserved.Else
+kind_of where_word = Word reserved.Where
+kind_of start_word = Word reserved.Start
+kind_of end_word = Word reserved.End
+kind_of eoi_word = Word reserved.Eoi
+kind_of (many_word at) = Word reserved.Many
 kind_of stray = Symbol []
 
 abbrev pub kinds_of : Toks → Tokens
@@ -143,7 +144,7 @@ slot_kinds : (s : SlotTree) → kinds_of (spell_slot s) ≡ slot_tokens (made_sl
 slot_kinds s = ap₂ (λ t ts. t ∷ ts) (what_kind s.what s.span) (place_kinds s.place)
 
 case_kinds : (c : CaseTree) → kinds_of (spell_case c) ≡ case_tokens (made_case c)
-case_kinds c = ap (λ ts. Word (codes "case") ∷ Symbol (codes "(") ∷ ts)
+case_kinds c = ap (λ ts. Word reserved.Case ∷ Symbol (codes "(") ∷ ts)
     (in_a_row (spell_expr c.test) (right_paren ∷ spell_slot c.slot) (expr_tokens (made_expr c.test))
     (Symbol (codes ")") ∷ slot_tokens (made_slot c.slot)) (expr_kinds c.test)
     (ap (λ ts. Symbol (codes ")") ∷ ts) (slot_kinds c.slot)))
@@ -159,19 +160,19 @@ term_kinds (set_term x e) = ap (λ ts. Symbol (codes "{") ∷ Name x.name ∷ Sy
 term_kinds (test_term at e) = ap (λ ts. Symbol (codes "?") ∷ Symbol (codes "(") ∷ ts)
     (in_a_row (spell_expr e) (right_paren ∷ []) (expr_tokens (made_expr e)) (Symbol (codes ")") ∷ []) (expr_kinds e) refl)
 term_kinds (repeat_term x a b i l r) =
-    let end : Tokens = Word (codes "do") ∷ Name i.name ∷ place_tokens (made_place (ends l r)) in
-    ap (λ ts. Word (codes "for") ∷ Name x.name ∷ Symbol (codes "=") ∷ ts)
+    let end : Tokens = Word reserved.Do ∷ Name i.name ∷ place_tokens (made_place (ends l r)) in
+    ap (λ ts. Word reserved.For ∷ Name x.name ∷ Symbol (codes "=") ∷ ts)
     (in_a_row (spell_expr a) (to_word ∷ (spell_expr b ++ (do_word ∷ name i ∷ spell_place (ends l r)))) (expr_tokens (made_expr a))
-    (Word (codes "to") ∷ (expr_tokens (made_expr b) ++ end)) (expr_kinds a)
-    (ap (λ ts. Word (codes "to") ∷ ts) (in_a_row (spell_expr b) (do_word ∷ name i ∷ spell_place (ends l r)) (expr_tokens (made_expr b)) end (expr_kinds b)
-    (ap (λ ts. Word (codes "do") ∷ Name i.name ∷ ts) (place_kinds (ends l r))))))
-term_kinds (many_term at i p) = ap (λ ts. Word (codes "many") ∷ Name i.name ∷ ts) (place_kinds p)
+    (Word reserved.To ∷ (expr_tokens (made_expr b) ++ end)) (expr_kinds a)
+    (ap (λ ts. Word reserved.To ∷ ts) (in_a_row (spell_expr b) (do_word ∷ name i ∷ spell_place (ends l r)) (expr_tokens (made_expr b)) end (expr_kinds b)
+    (ap (λ ts. Word reserved.Do ∷ Name i.name ∷ ts) (place_kinds (ends l r))))))
+term_kinds (many_term at i p) = ap (λ ts. Word reserved.Many ∷ Name i.name ∷ ts) (place_kinds p)
 term_kinds (pick_term at cs s) =
-    let end : Tokens = Word (codes "else") ∷ (slot_tokens (made_slot s) ++ (Symbol (codes "}") ∷ [])) in
-    ap (λ ts. Word (codes "switch") ∷ Symbol (codes "{") ∷ ts)
+    let end : Tokens = Word reserved.Else ∷ (slot_tokens (made_slot s) ++ (Symbol (codes "}") ∷ [])) in
+    ap (λ ts. Word reserved.Switch ∷ Symbol (codes "{") ∷ ts)
     (in_a_row (spell_cases cs) (else_word ∷ (spell_slot s ++ (right_brace ∷ []))) (cases_tokens (map made_case cs)) end
     (cases_kinds cs)
-    (ap (λ ts. Word (codes "else") ∷ ts) (in_a_row (spell_slot s) (right_brace ∷ []) (slot_tokens (made_slot s)) (Symbol (codes "}") ∷ [])
+    (ap (λ ts. Word reserved.Else ∷ ts) (in_a_row (spell_slot s) (right_brace ∷ []) (slot_tokens (made_slot s)) (Symbol (codes "}") ∷ [])
     (slot_kinds s) refl)))
 
 terms_kinds : (ts : List TermTree) → kinds_of (spell_terms ts) ≡ terms_tokens (map made_term ts)
@@ -204,7 +205,7 @@ locals_kinds (l ∷ ls) = in_a_row (spell_local l) (spell_locals ls) (local_toke
 
 where_kinds : (ls : List LocalTree) → kinds_of (spell_where ls) ≡ where_tokens (map made_local ls)
 where_kinds [] = refl
-where_kinds (l ∷ ls) = ap (λ toks. Word (codes "where") ∷ Symbol (codes "{") ∷ toks)
+where_kinds (l ∷ ls) = ap (λ toks. Word reserved.Where ∷ Symbol (codes "{") ∷ toks)
     (in_a_row (spell_locals (l ∷ ls)) (right_brace ∷ []) (locals_tokens (map made_local (l ∷ ls))) (Symbol (codes "}") ∷ []) (locals_kinds (l ∷ ls)) refl)
 
 alt_kinds : (a : AltTree) → kinds_of (spell_alt a) ≡ alt_tokens (made_alt a)

@@ -1,9 +1,8 @@
 ghost use Rattle.std.specs.Prelude.{◌≡◌};
 ghost use Rattle.ipg_read_syntax.specs.Classes.{class_of, word_class, symbol_class, single_class, pair_class, level, op_level};
-ghost use Rattle.ipg_read_tokens.specs.Lexical.{is_same};
 ghost use Rattle.ipg_read_scan.specs.Lexemes.{tok_of, infix_of};
 
-use ipg_ast::{Name, Span, TokenKind};
+use ipg_ast::{Name, Reserved, Span, TokenKind};
 use ipg_num::Op2;
 use ipg_read_tokens::Token;
 
@@ -64,40 +63,29 @@ pub fn lexeme_of<'a>(token: &'a Token) -> Lexeme<'a>
     let span = token.span;
     match &token.kind {
         TokenKind::Name(name) => Lexeme::Name(Label { name, span }),
-        TokenKind::Word(word) => word_lexeme(word.as_slice(), span),
+        TokenKind::Word(word) => word_lexeme(*word, span),
         TokenKind::Number(n) => Lexeme::Number(*n),
         TokenKind::Text(bytes) => Lexeme::Text(Label { name: bytes, span }),
         TokenKind::Symbol(bytes) => symbol_lexeme(bytes.as_slice(), span),
     }
 }
 
-fn word_lexeme<'a>(word: &[u8], at: Span) -> Lexeme<'a>
-    ensures { tok_of result ≡ word_class word.now at }
+fn word_lexeme<'a>(word: Reserved, at: Span) -> Lexeme<'a>
+    ensures { tok_of result ≡ word_class word at }
 {
-    if same(word, b"for") {
-        Lexeme::For
-    } else if same(word, b"to") {
-        Lexeme::To
-    } else if same(word, b"do") {
-        Lexeme::Do
-    } else if same(word, b"switch") {
-        Lexeme::Switch(at)
-    } else if same(word, b"case") {
-        Lexeme::Case
-    } else if same(word, b"else") {
-        Lexeme::Else
-    } else if same(word, b"where") {
-        Lexeme::Where
-    } else if same(word, b"start") {
-        Lexeme::Start
-    } else if same(word, b"end") {
-        Lexeme::End
-    } else if same(word, b"EOI") {
-        Lexeme::Eoi
-    } else if same(word, b"many") {
-        Lexeme::Many(at)
-    } else {
-        Lexeme::Stray
+    match word {
+        Reserved::For => Lexeme::For,
+        Reserved::To => Lexeme::To,
+        Reserved::Do => Lexeme::Do,
+        Reserved::Switch => Lexeme::Switch(at),
+        Reserved::Case => Lexeme::Case,
+        Reserved::Else => Lexeme::Else,
+        Reserved::Where => Lexeme::Where,
+        Reserved::Start => Lexeme::Start,
+        Reserved::End => Lexeme::End,
+        Reserved::Eoi => Lexeme::Eoi,
+        Reserved::Tok => Lexeme::Stray,
+        Reserved::Many => Lexeme::Many(at),
     }
 }
 
@@ -145,38 +133,17 @@ fn single_lexeme<'a>(b: u8, at: Span) -> Lexeme<'a>
 fn pair_lexeme<'a>(symbol: &[u8]) -> Lexeme<'a>
     ensures { tok_of result ≡ pair_class symbol.now }
 {
-    if same(symbol, b"->") {
-        Lexeme::Arrow
-    } else if same(symbol, b"<<") {
-        Lexeme::Sign(Infix::Op(Op2::Shl))
-    } else if same(symbol, b">>") {
-        Lexeme::Sign(Infix::Op(Op2::Shr))
-    } else if same(symbol, b"==") {
-        Lexeme::Sign(Infix::Op(Op2::Eq))
-    } else if same(symbol, b"!=") {
-        Lexeme::Sign(Infix::Op(Op2::Ne))
-    } else if same(symbol, b"<=") {
-        Lexeme::Sign(Infix::Op(Op2::Le))
-    } else if same(symbol, b">=") {
-        Lexeme::Sign(Infix::Op(Op2::Ge))
-    } else if same(symbol, b"&&") {
-        Lexeme::Sign(Infix::Both)
-    } else if same(symbol, b"||") {
-        Lexeme::Sign(Infix::Either)
-    } else {
-        Lexeme::Stray
-    }
-}
-
-fn same(a: &[u8], b: &[u8]) -> bool
-    ensures { result ≡ is_same a.now b.now }
-{
-    match a {
-        [] => b.is_empty(),
-        [x, xs @ ..] => match b {
-            [] => false,
-            [y, ys @ ..] => *x == *y && same(xs, ys),
-        },
+    match symbol {
+        b"->" => Lexeme::Arrow,
+        b"<<" => Lexeme::Sign(Infix::Op(Op2::Shl)),
+        b">>" => Lexeme::Sign(Infix::Op(Op2::Shr)),
+        b"==" => Lexeme::Sign(Infix::Op(Op2::Eq)),
+        b"!=" => Lexeme::Sign(Infix::Op(Op2::Ne)),
+        b"<=" => Lexeme::Sign(Infix::Op(Op2::Le)),
+        b">=" => Lexeme::Sign(Infix::Op(Op2::Ge)),
+        b"&&" => Lexeme::Sign(Infix::Both),
+        b"||" => Lexeme::Sign(Infix::Either),
+        _ => Lexeme::Stray,
     }
 }
 

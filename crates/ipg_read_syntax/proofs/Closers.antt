@@ -3,6 +3,8 @@ use Rattle.std.proofs.Common.{◌≡◌, ℕ, ◌+◌, ◌≤◌, List, [], ◌�
 use Rattle.ipg_ast.specs.declared.grammar.Ident.{Ident}
 use Rattle.ipg_ast.specs.declared.grammar.Span.{Span}
 use Rattle.ipg_ast.specs.declared.grammar.What.{What}
+use Rattle.ipg_ast.specs.declared.token.Reserved.{Reserved}
+use Rattle.ipg_ast.specs.declared.token.Reserved.TheVariants as reserved
 use Rattle.ipg_ast.specs.declared.token.TokenKind.{TokenKind}
 use Rattle.ipg_ast.specs.declared.token.TokenKind.TheVariants.{Name, Word, Text, Symbol}
 use Rattle.ipg_read_tokens.specs.declared.token.Token.{Token}
@@ -24,11 +26,11 @@ token kind = record { kind = kind; span = record { from = 0; to = 0 } }
 abbrev symbol : List ℕ → Token
 symbol bs = token (Symbol bs)
 
-abbrev word : List ℕ → Token
-word bs = token (Word bs)
+abbrev word : Reserved → Token
+word w = token (Word w)
 
 abbrev eoi : Token
-eoi = word (codes "EOI")
+eoi = word reserved.Eoi
 
 abbrev some_name : Token
 some_name = token (Name (codes "a"))
@@ -45,7 +47,7 @@ close_frames (neg ∷ fs) rest = close_frames fs rest
 close_frames (isnt ∷ fs) rest = close_frames fs rest
 close_frames (left i a ∷ fs) rest = close_frames fs rest
 close_frames (group ∷ fs) rest = symbol (codes ")") ∷ close_frames fs rest
-close_frames (index i ∷ fs) rest = symbol (codes ")") ∷ symbol (codes ".") ∷ word (codes "start") ∷ close_frames fs rest
+close_frames (index i ∷ fs) rest = symbol (codes ")") ∷ symbol (codes ".") ∷ word reserved.Start ∷ close_frames fs rest
 close_frames (then_of c at ∷ fs) rest = symbol (codes ":") ∷ eoi ∷ close_frames fs rest
 close_frames (else_of c at a ∷ fs) rest = close_frames fs rest
 
@@ -53,18 +55,18 @@ abbrev close_inner : Inner trees → Tokens → Tokens
 close_inner (want fs) rest = eoi ∷ close_frames fs rest
 close_inner (have fs e) rest = close_frames fs rest
 close_inner (named fs i) rest = close_frames fs rest
-close_inner (dotted fs i) rest = word (codes "start") ∷ close_frames fs rest
-close_inner (indexed fs i e) rest = symbol (codes ".") ∷ word (codes "start") ∷ close_frames fs rest
-close_inner (index_dotted fs i e) rest = word (codes "start") ∷ close_frames fs rest
+close_inner (dotted fs i) rest = word reserved.Start ∷ close_frames fs rest
+close_inner (indexed fs i e) rest = symbol (codes ".") ∷ word reserved.Start ∷ close_frames fs rest
+close_inner (index_dotted fs i e) rest = word reserved.Start ∷ close_frames fs rest
 
 -- after a slot
 abbrev close_use : SlotUse trees → Tokens → Tokens
 close_use alone rest = rest
-close_use (chosen at cs c) rest = word (codes "else") ∷ no_text ∷ symbol (codes "}") ∷ rest
+close_use (chosen at cs c) rest = word reserved.Else ∷ no_text ∷ symbol (codes "}") ∷ rest
 close_use (other at cs) rest = symbol (codes "}") ∷ rest
 
 abbrev last_case : Tokens → Tokens
-last_case rest = no_text ∷ word (codes "else") ∷ no_text ∷ symbol (codes "}") ∷ rest
+last_case rest = no_text ∷ word reserved.Else ∷ no_text ∷ symbol (codes "}") ∷ rest
 
 abbrev repeated : Tokens → Tokens
 repeated rest = symbol (codes "[") ∷ eoi ∷ symbol (codes ",") ∷ eoi ∷ symbol (codes "]") ∷ rest
@@ -74,8 +76,8 @@ close_base (Machine.length_or_left u w at) rest = symbol (codes "]") ∷ close_u
 close_base (Machine.right_of u w at l) rest = symbol (codes "]") ∷ close_use u rest
 close_base (Machine.value_of x) rest = symbol (codes "}") ∷ rest
 close_base (Machine.test_of at) rest = symbol (codes ")") ∷ rest
-close_base (Machine.first_bound x) rest = word (codes "to") ∷ eoi ∷ word (codes "do") ∷ some_name ∷ repeated rest
-close_base (Machine.last_bound x a) rest = word (codes "do") ∷ some_name ∷ repeated rest
+close_base (Machine.first_bound x) rest = word reserved.To ∷ eoi ∷ word reserved.Do ∷ some_name ∷ repeated rest
+close_base (Machine.last_bound x a) rest = word reserved.Do ∷ some_name ∷ repeated rest
 close_base (Machine.item_left x a b i) rest = symbol (codes ",") ∷ eoi ∷ symbol (codes "]") ∷ rest
 close_base (Machine.item_right x a b i l) rest = symbol (codes "]") ∷ rest
 close_base (Machine.many_length_or_left at i) rest = symbol (codes "]") ∷ rest
@@ -88,15 +90,15 @@ close_part (Machine.expr base first inner) rest = close_inner inner (close_base 
 close_part Machine.set_open rest = some_name ∷ symbol (codes "=") ∷ eoi ∷ symbol (codes "}") ∷ rest
 close_part (Machine.set_named x) rest = symbol (codes "=") ∷ eoi ∷ symbol (codes "}") ∷ rest
 close_part (Machine.test_open at) rest = symbol (codes "(") ∷ eoi ∷ symbol (codes ")") ∷ rest
-close_part Machine.repeat_open rest = some_name ∷ symbol (codes "=") ∷ eoi ∷ word (codes "to") ∷ eoi ∷ word (codes "do") ∷ some_name ∷ repeated rest
-close_part (Machine.repeat_named x) rest = symbol (codes "=") ∷ eoi ∷ word (codes "to") ∷ eoi ∷ word (codes "do") ∷ some_name ∷ repeated rest
+close_part Machine.repeat_open rest = some_name ∷ symbol (codes "=") ∷ eoi ∷ word reserved.To ∷ eoi ∷ word reserved.Do ∷ some_name ∷ repeated rest
+close_part (Machine.repeat_named x) rest = symbol (codes "=") ∷ eoi ∷ word reserved.To ∷ eoi ∷ word reserved.Do ∷ some_name ∷ repeated rest
 close_part (Machine.item_due x a b) rest = some_name ∷ repeated rest
 close_part (Machine.item_named x a b i) rest = repeated rest
 close_part (Machine.many_open at) rest = some_name ∷ rest
 close_part (Machine.many_named at i) rest = rest
-close_part (Machine.pick_open at) rest = symbol (codes "{") ∷ word (codes "case") ∷ symbol (codes "(") ∷ eoi ∷ symbol (codes ")") ∷ last_case rest
-close_part (Machine.first_case at) rest = word (codes "case") ∷ symbol (codes "(") ∷ eoi ∷ symbol (codes ")") ∷ last_case rest
-close_part (Machine.next_case at cs) rest = word (codes "else") ∷ no_text ∷ symbol (codes "}") ∷ rest
+close_part (Machine.pick_open at) rest = symbol (codes "{") ∷ word reserved.Case ∷ symbol (codes "(") ∷ eoi ∷ symbol (codes ")") ∷ last_case rest
+close_part (Machine.first_case at) rest = word reserved.Case ∷ symbol (codes "(") ∷ eoi ∷ symbol (codes ")") ∷ last_case rest
+close_part (Machine.next_case at cs) rest = word reserved.Else ∷ no_text ∷ symbol (codes "}") ∷ rest
 close_part (Machine.case_open at cs) rest = symbol (codes "(") ∷ eoi ∷ symbol (codes ")") ∷ last_case rest
 close_part (Machine.slot_due u) rest = no_text ∷ close_use u rest
 close_part (Machine.pick_close at cs s) rest = symbol (codes "}") ∷ rest

@@ -1,12 +1,13 @@
 -- What a token is to the grammar of grammars: its class, with what a grammar keeps of it.
-use Rattle.std.specs.Prelude.{ℕ, List, [], ◌∷◌, ℤ, codes, ◌==◌, if◌then◌else◌}
+use Rattle.std.specs.Prelude.{ℕ, List, [], ◌∷◌, ℤ, codes, bytes_eq, ◌==◌, if◌then◌else◌}
 use Rattle.ipg_num.specs.declared.op.Op2.{Op2}
 use Rattle.ipg_num.specs.declared.op.Op2.TheVariants.{Add, Sub, Mul, Div, Mod, Shl, Shr, BitAnd, BitOr, BitXor, Eq, Ne, Lt, Le, Gt, Ge}
 use Rattle.ipg_ast.specs.declared.grammar.Ident.{Ident}
 use Rattle.ipg_ast.specs.declared.grammar.Span.{Span}
+use Rattle.ipg_ast.specs.declared.token.Reserved.{Reserved}
+use Rattle.ipg_ast.specs.declared.token.Reserved.TheVariants as reserved
 use Rattle.ipg_ast.specs.declared.token.TokenKind.{TokenKind}
 use Rattle.ipg_ast.specs.declared.token.TokenKind.TheVariants.{Name, Word, Number, Text, Symbol}
-use Rattle.ipg_read_tokens.specs.Lexical.{is_same}
 use Rattle.ipg_read_tokens.specs.declared.token.Token.{Token}
 
 -- an operator between two operands: `||`, `&&`, or one of numbers
@@ -55,19 +56,19 @@ abbrev pub slash : Tok
 slash = sign (op Div)
 
 -- `tok` stands in no grammar
-abbrev pub word_class : List ℕ → Span → Tok
-word_class w at =
-    if is_same w (codes "for") then for_word else
-    (if is_same w (codes "to") then to_word else
-    (if is_same w (codes "do") then do_word else
-    (if is_same w (codes "switch") then switch_word at else
-    (if is_same w (codes "case") then case_word else
-    (if is_same w (codes "else") then else_word else
-    (if is_same w (codes "where") then where_word else
-    (if is_same w (codes "start") then start_word else
-    (if is_same w (codes "end") then end_word else
-    (if is_same w (codes "EOI") then eoi_word else
-    (if is_same w (codes "many") then many_word at else stray))))))))))
+abbrev pub word_class : Reserved → Span → Tok
+word_class reserved.For at = for_word
+word_class reserved.To at = to_word
+word_class reserved.Do at = do_word
+word_class reserved.Switch at = switch_word at
+word_class reserved.Case at = case_word
+word_class reserved.Else at = else_word
+word_class reserved.Where at = where_word
+word_class reserved.Start at = start_word
+word_class reserved.End at = end_word
+word_class reserved.Eoi at = eoi_word
+word_class reserved.Tok at = stray
+word_class reserved.Many at = many_word at
 
 -- symbols of one byte
 abbrev pub single_class : ℕ → Span → Tok
@@ -99,15 +100,15 @@ single_class b at =
 -- symbols of two bytes
 abbrev pub pair_class : List ℕ → Tok
 pair_class s =
-    if is_same s (codes "->") then arrow else
-    (if is_same s (codes "<<") then sign (op Shl) else
-    (if is_same s (codes ">>") then sign (op Shr) else
-    (if is_same s (codes "==") then sign (op Eq) else
-    (if is_same s (codes "!=") then sign (op Ne) else
-    (if is_same s (codes "<=") then sign (op Le) else
-    (if is_same s (codes ">=") then sign (op Ge) else
-    (if is_same s (codes "&&") then sign both else
-    (if is_same s (codes "||") then sign either else stray))))))))
+    if bytes_eq s (codes "->") then arrow else
+    (if bytes_eq s (codes "<<") then sign (op Shl) else
+    (if bytes_eq s (codes ">>") then sign (op Shr) else
+    (if bytes_eq s (codes "==") then sign (op Eq) else
+    (if bytes_eq s (codes "!=") then sign (op Ne) else
+    (if bytes_eq s (codes "<=") then sign (op Le) else
+    (if bytes_eq s (codes ">=") then sign (op Ge) else
+    (if bytes_eq s (codes "&&") then sign both else
+    (if bytes_eq s (codes "||") then sign either else stray))))))))
 
 abbrev pub symbol_class : List ℕ → Span → Tok
 symbol_class [] at = stray
@@ -116,7 +117,7 @@ symbol_class (b ∷ c ∷ bs) at = pair_class (b ∷ c ∷ bs)
 
 abbrev pub kind_class : TokenKind → Span → Tok
 kind_class (Name bs) at = name (record { name = bs; span = at })
-kind_class (Word bs) at = word_class bs at
+kind_class (Word w) at = word_class w at
 kind_class (Number z) at = number z
 kind_class (Text bs) at = text bs at
 kind_class (Symbol bs) at = symbol_class bs at

@@ -1,17 +1,18 @@
 -- A text spells at most one token.
-use Rattle.std.proofs.Common.{◌≡◌, ℕ, true, false, not, ◌==◌, List, [], ◌∷◌, ◌++◌, Option, Some, None, drop, refl, ap, ◌∙◌, sym, subst, arith, inl}
+use Rattle.std.proofs.Common.{◌≡◌, ℕ, true, false, ◌==◌, List, [], ◌∷◌, ◌++◌, Option, Some, None, drop, refl, ap, ◌∙◌, sym, subst, arith, inl}
 use Rattle.std.proofs.Common.{inr, true≢false}
 use Rattle.std.specs.Prelude.{if◌then◌else◌, codes, pos, negsuc}
 use Rattle.std.specs.List.{list_all}
 use Rattle.std.proofs.lemmas.Bool.Decides.{nat_tests}
+use Rattle.ipg_ast.specs.Canonical.{spelling}
 use Rattle.ipg_ast.specs.declared.token.TokenKind.{TokenKind}
 use Rattle.ipg_ast.specs.declared.token.TokenKind.TheVariants.{Name, Word, Number, Text, Symbol}
 use Rattle.ipg_read_tokens.specs.declared.class.Class.TheVariants.{Naming}
-use Rattle.ipg_read_tokens.specs.Lexical.{Quoted, quoted, in_class, is_letter, is_digit, is_hexadecimal, is_prefixed, is_single, is_one_of, reserved}
+use Rattle.ipg_read_tokens.specs.Lexical.{Quoted, quoted, in_class, is_letter, is_digit, is_hexadecimal, is_prefixed, is_single, reserved_of}
 use Rattle.ipg_read_tokens.specs.Lexical.{word, value}
-use Rattle.ipg_read_tokens.specs.Shaped.{is_name, is_symbol}
+use Rattle.ipg_read_tokens.specs.Shaped.{is_free, is_name, is_symbol}
 use Rattle.ipg_read_token_laws.specs.Forms.{SomeOf, Spells, SpellsOne}
-use Rattle.ipg_read_token_laws.proofs.Bytes.{both, no_mark, not_mark, not_both, pair_single, reserved_name}
+use Rattle.ipg_read_token_laws.proofs.Bytes.{both, no_mark, not_mark, free_name, pair_single, word_named, word_spelled}
 use Rattle.ipg_read_token_laws.proofs.Texts.{closes_read}
 
 abbrev number_value : List ℕ → ℕ
@@ -66,10 +67,9 @@ symbol_kind (a ∷ b ∷ c ∷ bs) is = absurd (true≢false (sym is))
 
 one_kind : (kind : TokenKind) (bs : List ℕ) → Spells kind bs → kind_of bs ≡ kind
 one_kind (Name name) bs (is, token) =
-    ap kind_of is ∙ word_kind name (both (is_name name) (not (is_one_of reserved name)) token).0
-    ∙ ap (λ c. if c then Word name else Name name) (not_both (is_name name) (is_one_of reserved name) token)
-one_kind (Word name) bs (is, token) =
-    ap kind_of is ∙ word_kind name (reserved_name name token) ∙ ap (λ c. if c then Word name else Name name) token
+    let (named, free) = both (is_name name) (is_free (reserved_of name)) token in
+    ap kind_of is ∙ word_kind name named ∙ free_name name free
+one_kind (Word w) bs is = ap kind_of is ∙ word_kind (spelling w) (word_named w) ∙ word_spelled w
 one_kind (Number (pos n)) bs (inl (digits, sum)) = decimal_kind bs digits ∙ ap (λ v. Number (pos v)) (sym sum)
 one_kind (Number (pos n)) bs (inr (ds, is, digits, sum)) =
     ap kind_of is ∙ hexadecimal_kind ds digits ∙ ap (λ v. Number (pos v)) (sym sum)

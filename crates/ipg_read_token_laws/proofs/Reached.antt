@@ -4,6 +4,7 @@ use Rattle.std.proofs.Common.{sym, subst, arith, inl, inr, true≢false}
 use Rattle.std.specs.Prelude.{ℤ, codes, pos, negsuc}
 use Rattle.std.specs.List.{list_all}
 use Rattle.std.proofs.lemmas.List.{take-append-drop, length-take-le}
+use Rattle.ipg_ast.specs.Canonical.{spelling}
 use Rattle.ipg_ast.specs.declared.token.TokenKind.TheVariants.{Name, Word, Number, Text, Symbol}
 use Rattle.ipg_read_tokens.specs.declared.front.Front.{Front}
 use Rattle.ipg_read_tokens.specs.declared.front.Front.TheVariants.{Nothing, Blank, Large, Token as Begins}
@@ -13,7 +14,7 @@ use Rattle.ipg_read_tokens.specs.Lexical.{text_front, symbol_front, front_of}
 use Rattle.ipg_read_tokens.specs.Shaped.{is_name, is_symbol}
 use Rattle.ipg_read_token_laws.specs.Forms.{SomeOf, Numeral, Closes, IsSpelled, IsBlank, NoneBeyond}
 use Rattle.ipg_read_token_laws.proofs.Bytes.{both, choose, white_front, letter_front, digit_front, single_front_at, pair_single, no_mark, not_mark}
-use Rattle.ipg_read_token_laws.proofs.Bytes.{reserved_name}
+use Rattle.ipg_read_token_laws.proofs.Bytes.{word_named}
 use Rattle.ipg_read_token_laws.proofs.Runs.{run_reaches}
 use Rattle.ipg_read_token_laws.proofs.Texts.{closes_read}
 
@@ -100,7 +101,7 @@ symbol_reaches (a ∷ b ∷ c ∷ xs) rest is = absurd (true≢false (sym is))
 
 token_reaches : (xs rest : List ℕ) → IsSpelled xs → Reaches xs rest
 token_reaches xs rest (Name name, (is, token)) = moved xs _ rest is (name_reaches name rest (both _ _ token).0)
-token_reaches xs rest (Word name, (is, token)) = moved xs _ rest is (name_reaches name rest (reserved_name name token))
+token_reaches xs rest (Word w, is) = moved xs _ rest is (name_reaches (spelling w) rest (word_named w))
 token_reaches xs rest (Number (pos n), numeral) = numeral_reaches n xs rest numeral
 token_reaches xs rest (Number (negsuc n), none) = absurd none
 token_reaches xs rest (Text bytes, (text, is, closes)) = moved xs _ rest is (text_reaches bytes text rest closes)

@@ -1,5 +1,5 @@
 -- What is written of a token begins that token.
-use Rattle.std.proofs.Common.{◌≡◌, ℕ, ◌+◌, ◌-◌, ◌*◌, ◌/◌, ◌%◌, ◌^◌, ◌<◌, ◌⊎◌, true, false, not, ◌&&◌, ◌||◌, ◌==◌, List, [], ◌∷◌, ◌++◌, Some, None}
+use Rattle.std.proofs.Common.{◌≡◌, ℕ, ◌+◌, ◌-◌, ◌*◌, ◌/◌, ◌%◌, ◌^◌, ◌<◌, ◌⊎◌, true, false, ◌&&◌, ◌||◌, ◌==◌, List, [], ◌∷◌, ◌++◌, Some, None}
 use Rattle.std.proofs.Common.{take, drop, length, cond, refl, ap, append_assoc, ◌∙◌, sym, arith, inl, inr, true≢false, decimal}
 use Rattle.std.specs.Prelude.{ℤ, pos, negsuc, if◌then◌else◌, nat_lt}
 use Rattle.std.specs.List.{list_all}
@@ -12,16 +12,16 @@ use Rattle.std.proofs.lemmas.Fmt.{decimal_nonempty, digits_decimal, digits_value
 use Rattle.std.proofs.lemmas.Str.Parse.{IsDigitsTest, FoldsDigits, IsNumeralModel, numerals_by_fold}
 use Rattle.ipg_ast.specs.declared.token.TokenKind.{TokenKind}
 use Rattle.ipg_ast.specs.declared.token.TokenKind.TheVariants.{Name, Word, Number, Text, Symbol}
-use Rattle.ipg_ast.specs.Canonical.{hex_digit, is_plain, byte_text, bytes_text, kind_text, gap, is_semicolon}
+use Rattle.ipg_ast.specs.Canonical.{spelling, hex_digit, is_plain, byte_text, bytes_text, kind_text, gap, is_semicolon}
 use Rattle.ipg_read_tokens.specs.declared.class.Class.{Class}
 use Rattle.ipg_read_tokens.specs.declared.class.Class.TheVariants.{Naming, Digit}
 use Rattle.ipg_read_tokens.specs.declared.front.Front.TheVariants.{Nothing, Token as Begins}
 use Rattle.ipg_read_tokens.specs.Lexical.{in_class, run, is_digit, is_hexadecimal, digit_value, value, below_limit, front_of_value, is_prefixed}
-use Rattle.ipg_read_tokens.specs.Lexical.{decimal_front, hexadecimal_front, is_one_of, reserved, word, text_front, single_front, front_of}
-use Rattle.ipg_read_tokens.specs.Shaped.{is_name, is_symbol, is_byte, is_literal, IsToken}
+use Rattle.ipg_read_tokens.specs.Lexical.{decimal_front, hexadecimal_front, reserved_of, word, text_front, single_front, front_of}
+use Rattle.ipg_read_tokens.specs.Shaped.{is_free, is_name, is_symbol, is_byte, is_literal, IsToken}
 use Rattle.ipg_read_token_laws.specs.Forms.{Stands, plain, escaped, coded, Closes}
-use Rattle.ipg_read_token_laws.proofs.Bytes.{both, choose, letter_front, digit_front, single_front_at, pair_single, no_pair, gap_naming, reserved_name, no_mark}
-use Rattle.ipg_read_token_laws.proofs.Bytes.{not_mark, not_both}
+use Rattle.ipg_read_token_laws.proofs.Bytes.{both, choose, letter_front, digit_front, single_front_at, pair_single, no_pair, gap_naming, no_mark}
+use Rattle.ipg_read_token_laws.proofs.Bytes.{not_mark, free_name, word_named, word_spelled}
 use Rattle.ipg_read_token_laws.proofs.Texts.{closes_read}
 
 abbrev pub IsGap : ℕ → Type 0
@@ -150,16 +150,17 @@ symbol_begins (a ∷ b ∷ c ∷ bs) g rest is ends = absurd (true≢false (sym 
 
 pub gap_is : (t : TokenKind) → IsGap (gap t)
 gap_is (Name bs) = inl refl
-gap_is (Word bs) = inl refl
+gap_is (Word w) = inl refl
 gap_is (Number z) = inl refl
 gap_is (Text bs) = inl refl
 gap_is (Symbol bs) = choose IsGap (is_semicolon bs) 10 32 (λ e. inr refl) (λ e. inl refl)
 
 pub token_begins : (t : TokenKind) (rest : List ℕ) → IsToken t → front_of (kind_text t ++ gap t ∷ rest) ≡ Begins t (length (kind_text t))
 token_begins (Name bs) rest is =
-    name_begins bs 32 rest (both (is_name bs) (not (is_one_of reserved bs)) is).0 (inl refl)
-    ∙ ap (λ c. Begins (if c then Word bs else Name bs) (length bs)) (not_both (is_name bs) (is_one_of reserved bs) is)
-token_begins (Word bs) rest is = name_begins bs 32 rest (reserved_name bs is) (inl refl) ∙ ap (λ c. Begins (if c then Word bs else Name bs) (length bs)) is
+    let (named, free) = both (is_name bs) (is_free (reserved_of bs)) is in
+    name_begins bs 32 rest named (inl refl) ∙ ap (λ kind. Begins kind (length bs)) (free_name bs free)
+token_begins (Word w) rest is =
+    name_begins (spelling w) 32 rest (word_named w) (inl refl) ∙ ap (λ kind. Begins kind (length (spelling w))) (word_spelled w)
 token_begins (Number z) rest is = number_begins z rest is
 token_begins (Text bs) rest is = text_begins bs (32 ∷ rest) is
 token_begins (Symbol bs) rest is = symbol_begins bs (gap (Symbol bs)) rest is (gap_is (Symbol bs))

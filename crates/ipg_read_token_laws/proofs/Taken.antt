@@ -4,17 +4,17 @@ use Rattle.std.proofs.Common.{length, refl, ap, ◌∙◌, sym, subst, arith, in
 use Rattle.std.specs.Prelude.{nat_lt, codes, pos}
 use Rattle.std.specs.List.{list_all}
 use Rattle.std.proofs.lemmas.Bool.{eqb-true, ltb-false}
-use Rattle.ipg_ast.specs.declared.token.TokenKind.TheVariants.{Name, Word, Text}
+use Rattle.ipg_ast.specs.declared.token.TokenKind.TheVariants.{Name, Text}
 use Rattle.ipg_read_tokens.specs.declared.front.Front.{Front}
 use Rattle.ipg_read_tokens.specs.declared.front.Front.TheVariants.{Nothing, Blank, Large, Token as Begins}
 use Rattle.ipg_read_tokens.specs.declared.class.Class.{Class}
 use Rattle.ipg_read_tokens.specs.declared.class.Class.TheVariants.{White, Comment, Naming, Digit, Hexadecimal}
 use Rattle.ipg_read_tokens.specs.Lexical.{Quoted, quoted, in_class, run, is_white, is_letter, is_digit, is_hexadecimal, is_prefixed, is_pair, is_single}
-use Rattle.ipg_read_tokens.specs.Lexical.{is_one_of, reserved, value, below_limit, front_of_value, hexadecimal_front, number_front, text_front}
+use Rattle.ipg_read_tokens.specs.Lexical.{reserved_of, value, below_limit, front_of_value, hexadecimal_front, number_front, text_front}
 use Rattle.ipg_read_tokens.specs.Lexical.{symbol_front, single_front, name_front, front_of}
-use Rattle.ipg_read_tokens.specs.Shaped.{IsToken, is_name}
+use Rattle.ipg_read_tokens.specs.Shaped.{IsToken, is_free, is_name}
 use Rattle.ipg_read_token_laws.specs.Forms.{SomeOf, Numeral, Spells, IsBlank}
-use Rattle.ipg_read_token_laws.proofs.Bytes.{both, choose}
+use Rattle.ipg_read_token_laws.proofs.Bytes.{both, choose, name_or_word}
 use Rattle.ipg_read_token_laws.proofs.Runs.{run_fits, one_run, run_all}
 use Rattle.ipg_read_token_laws.proofs.Texts.{Closed, closed, closes_bytes}
 
@@ -36,11 +36,11 @@ name_sound b bs letter =
     let named : is_name name ≡ true =
     subst (λ k. is_name (take k (b ∷ bs)) ≡ true) (one_run Naming b bs (ap (λ v. v || is_digit b) letter))
     (ap (λ v. v && list_all (in_class Naming) (take (run Naming bs) bs)) letter ∙ run_all Naming bs) in
-    choose (λ kind. IsSound (Begins kind n) (b ∷ bs)) (is_one_of reserved name) (Word name) (Name name)
-    (λ yes. (run_fits Naming (b ∷ bs), (refl, yes), yes))
-    (λ no.
-    let is : IsToken (Name name) = ap (λ v. v && not (is_one_of reserved name)) named ∙ ap not no in
+    name_or_word name (λ kind. IsSound (Begins kind n) (b ∷ bs))
+    (λ free.
+    let is : IsToken (Name name) = ap (λ v. v && is_free (reserved_of name)) named ∙ free in
     (run_fits Naming (b ∷ bs), (refl, is), is))
+    (λ w spelled. (run_fits Naming (b ∷ bs), spelled, refl))
 
 value_sound : (v n : ℕ) (bs : List ℕ) → n ≤ length bs → Numeral v (take n bs) → IsSound (front_of_value (below_limit v) n) bs
 value_sound v n bs fits numeral =

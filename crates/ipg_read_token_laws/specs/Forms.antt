@@ -1,6 +1,7 @@
 -- What the bytes of a token are, with its value, and two laws: the longest token is taken, and no text spells two.
 use Rattle.std.specs.Prelude.{◌≡◌, ◌≢◌, ◌↔◌, ℕ, ◌≤◌, ◌<◌, ◌^◌, ◌⊎◌, Bool, true, List, [], ◌∷◌, ◌++◌, take, length, codes, pos, negsuc}
 use Rattle.std.specs.List.{list_all}
+use Rattle.ipg_ast.specs.Canonical.{spelling}
 use Rattle.ipg_ast.specs.declared.token.TokenKind.{TokenKind}
 use Rattle.ipg_ast.specs.declared.token.TokenKind.TheVariants.{Name, Word, Number, Text, Symbol}
 use Rattle.ipg_read_tokens.specs.declared.front.Front.{Front}
@@ -47,7 +48,7 @@ Closes (byte ∷ bytes) text =
 -- the bytes spell the token; a number may be of any size
 abbrev pub Spells : TokenKind → List ℕ → Type 0
 Spells (Name name) bs = (bs ≡ name) × IsToken (Name name)
-Spells (Word word) bs = (bs ≡ word) × IsToken (Word word)
+Spells (Word w) bs = bs ≡ spelling w
 Spells (Number (pos n)) bs = Numeral n bs
 Spells (Number (negsuc n)) bs = ⊥
 Spells (Text bytes) bs = (text : List ℕ) × (bs ≡ quote ∷ text) × Closes bytes text

@@ -1,6 +1,9 @@
 -- The tokens of a text: what begins at a place, by longest match, and what follows it.
-use Rattle.std.specs.Prelude.{ℕ, zero, suc, ◌+◌, ◌-◌, ◌*◌, ◌^◌, Bool, true, false, not, ◌&&◌, ◌||◌, List, [], ◌∷◌, ◌++◌, take, drop}
-use Rattle.std.specs.Prelude.{length, Option, Some, None, Result, Ok, Err, ℤ, pos, nat_lt, nat_le, ◌==◌, codes, if◌then◌else◌}
+use Rattle.std.specs.Prelude.{ℕ, zero, suc, ◌+◌, ◌-◌, ◌*◌, ◌^◌, Bool, false, not, ◌&&◌, ◌||◌, List, [], ◌∷◌, ◌++◌, take, drop}
+use Rattle.std.specs.Prelude.{length, Option, Some, None, Result, Ok, Err, ℤ, pos, nat_lt, nat_le, ◌==◌, bytes_eq, if◌then◌else◌}
+use Rattle.ipg_ast.specs.Canonical.{spelling}
+use Rattle.ipg_ast.specs.declared.token.Reserved.{Reserved}
+use Rattle.ipg_ast.specs.declared.token.Reserved.TheVariants.{For, To, Do, Switch, Case, Else, Where, Start, End as EndWord, Eoi, Tok, Many}
 use Rattle.ipg_ast.specs.declared.token.TokenKind.{TokenKind}
 use Rattle.ipg_ast.specs.declared.token.TokenKind.TheVariants.{Name, Word, Number, Text, Symbol}
 use Rattle.ipg_read_tokens.specs.declared.token.Token.{Token}
@@ -79,23 +82,23 @@ number_front bs = if is_prefixed bs then hexadecimal_front (drop 2 bs) else deci
 
 -- ---- names and reserved words
 
-abbrev pub is_same : List ℕ → List ℕ → Bool
-is_same [] [] = true
-is_same [] (b ∷ bs) = false
-is_same (a ∷ rest) [] = false
-is_same (a ∷ rest) (b ∷ bs) = a == b && is_same rest bs
+abbrev pub reserved : List Reserved
+reserved = For ∷ To ∷ Do ∷ Switch ∷ Case ∷ Else ∷ Where ∷ Start ∷ EndWord ∷ Eoi ∷ Tok ∷ Many ∷ []
 
-abbrev pub is_one_of : List (List ℕ) → List ℕ → Bool
-is_one_of [] name = false
-is_one_of (word ∷ words) name = is_same word name || is_one_of words name
+-- the first of the words that is spelled so
+abbrev pub spelled : List Reserved → List ℕ → Option Reserved
+spelled [] name = None
+spelled (w ∷ ws) name = if bytes_eq name (spelling w) then Some w else spelled ws name
 
-abbrev pub reserved : List (List ℕ)
-reserved =
-    codes "for" ∷ codes "to" ∷ codes "do" ∷ codes "switch" ∷ codes "case" ∷ codes "else"
-    ∷ codes "where" ∷ codes "start" ∷ codes "end" ∷ codes "EOI" ∷ codes "tok" ∷ codes "many" ∷ []
+abbrev pub reserved_of : List ℕ → Option Reserved
+reserved_of = spelled reserved
+
+abbrev pub word_or : Option Reserved → List ℕ → TokenKind
+word_or (Some w) name = Word w
+word_or None name = Name name
 
 abbrev pub word : List ℕ → TokenKind
-word name = if is_one_of reserved name then Word name else Name name
+word name = word_or (reserved_of name) name
 
 abbrev pub name_front : List ℕ → Front
 name_front bs = Begins (word (take (run Naming bs) bs)) (run Naming bs)

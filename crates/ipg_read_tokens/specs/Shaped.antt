@@ -1,7 +1,8 @@
 -- Grammars in shape: those that a text of the language stands for.
-use Rattle.std.specs.Prelude.{◌≡◌, ℕ, ◌+◌, ◌^◌, ◌≤◌, Bool, true, false, not, ◌&&◌, nat_lt, List, [], ◌∷◌, length, ℤ, pos, negsuc}
+use Rattle.std.specs.Prelude.{◌≡◌, ℕ, ◌+◌, ◌^◌, ◌≤◌, Bool, true, false, ◌&&◌, nat_lt, List, [], ◌∷◌, length, Option, None, Some, ℤ, pos, negsuc}
 use Rattle.std.specs.List.{list_all, AllByRecursion}
 use Rattle.ipg_ast.specs.declared.grammar.Grammar.{Grammar}
+use Rattle.ipg_ast.specs.declared.token.Reserved.{Reserved}
 use Rattle.ipg_ast.specs.declared.token.TokenKind.{TokenKind}
 use Rattle.ipg_ast.specs.declared.token.TokenKind.TheVariants.{Name, Word, Number, Text, Symbol}
 use Rattle.ipg_ast.specs.Spelling.{grammar_tokens}
@@ -9,13 +10,18 @@ use Rattle.ipg_ast.specs.Canonical.{kind_text, tokens_text}
 use Rattle.ipg_ast.specs.Shape.{IsFormed}
 use Rattle.ipg_read_tokens.specs.declared.token.Token.{Token}
 use Rattle.ipg_read_tokens.specs.declared.class.Class.TheVariants.{Naming}
-use Rattle.ipg_read_tokens.specs.Lexical.{in_class, is_letter, is_one_of, reserved, is_single, is_pair}
+use Rattle.ipg_read_tokens.specs.Lexical.{in_class, is_letter, reserved_of, is_single, is_pair}
 
 -- ---- what may be a token
 
 abbrev pub is_name : List ℕ → Bool
 is_name [] = false
 is_name (b ∷ bs) = is_letter b && list_all (in_class Naming) bs
+
+-- no reserved word is spelled so
+abbrev pub is_free : Option Reserved → Bool
+is_free None = true
+is_free (Some w) = false
 
 abbrev pub is_symbol : List ℕ → Bool
 is_symbol [] = false
@@ -31,8 +37,8 @@ abbrev pub is_byte : ℕ → Bool
 is_byte b = nat_lt b 256
 
 abbrev pub is_token : TokenKind → Bool
-is_token (Name bs) = is_name bs && not (is_one_of reserved bs)
-is_token (Word bs) = is_one_of reserved bs
+is_token (Name bs) = is_name bs && is_free (reserved_of bs)
+is_token (Word w) = true
 is_token (Number z) = is_literal z
 is_token (Text bs) = list_all is_byte bs
 is_token (Symbol bs) = is_symbol bs

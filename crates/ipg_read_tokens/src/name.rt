@@ -1,7 +1,7 @@
 ghost use Rattle.std.specs.Prelude.{◌≡◌, IfOk};
-ghost use Rattle.ipg_read_tokens.specs.Lexical.{is_same, is_one_of, reserved, word};
+ghost use Rattle.ipg_read_tokens.specs.Lexical.{reserved_of, word};
 
-use ipg_ast::{Name, TokenKind};
+use ipg_ast::{Name, Reserved, TokenKind};
 use ipg_num::List;
 use std::alloc::{AllocError, Global};
 
@@ -9,11 +9,9 @@ use std::alloc::{AllocError, Global};
 pub fn word_of(alloc: Global, bytes: &[u8]) -> Result<TokenKind, AllocError>
     ensures { IfOk result (λ kind. kind ≡ word bytes.now) }
 {
-    let name = copied(alloc, bytes)?;
-    if is_reserved(bytes) {
-        Ok(TokenKind::Word(name))
-    } else {
-        Ok(TokenKind::Name(name))
+    match reserved_of(bytes) {
+        Some(reserved) => Ok(TokenKind::Word(reserved)),
+        None => Ok(TokenKind::Name(copied(alloc, bytes)?)),
     }
 }
 
@@ -23,31 +21,34 @@ pub fn copied(alloc: Global, bytes: &[u8]) -> Result<Name, AllocError>
     Ok(List::from_vec(Vec::from_slice(alloc, bytes)?))
 }
 
-fn is_reserved(bytes: &[u8]) -> bool
-    ensures { result ≡ is_one_of reserved bytes.now }
+fn reserved_of(bytes: &[u8]) -> Option<Reserved>
+    ensures { result ≡ reserved_of bytes.now }
 {
-    same(b"for", bytes)
-        || same(b"to", bytes)
-        || same(b"do", bytes)
-        || same(b"switch", bytes)
-        || same(b"case", bytes)
-        || same(b"else", bytes)
-        || same(b"where", bytes)
-        || same(b"start", bytes)
-        || same(b"end", bytes)
-        || same(b"EOI", bytes)
-        || same(b"tok", bytes)
-        || same(b"many", bytes)
-}
-
-fn same(a: &[u8], b: &[u8]) -> bool
-    ensures { result ≡ is_same a.now b.now }
-{
-    match a {
-        [] => b.is_empty(),
-        [x, xs @ ..] => match b {
-            [] => false,
-            [y, ys @ ..] => *x == *y && same(xs, ys),
-        },
+    if bytes == b"for".as_slice() {
+        Some(Reserved::For)
+    } else if bytes == b"to".as_slice() {
+        Some(Reserved::To)
+    } else if bytes == b"do".as_slice() {
+        Some(Reserved::Do)
+    } else if bytes == b"switch".as_slice() {
+        Some(Reserved::Switch)
+    } else if bytes == b"case".as_slice() {
+        Some(Reserved::Case)
+    } else if bytes == b"else".as_slice() {
+        Some(Reserved::Else)
+    } else if bytes == b"where".as_slice() {
+        Some(Reserved::Where)
+    } else if bytes == b"start".as_slice() {
+        Some(Reserved::Start)
+    } else if bytes == b"end".as_slice() {
+        Some(Reserved::End)
+    } else if bytes == b"EOI".as_slice() {
+        Some(Reserved::Eoi)
+    } else if bytes == b"tok".as_slice() {
+        Some(Reserved::Tok)
+    } else if bytes == b"many".as_slice() {
+        Some(Reserved::Many)
+    } else {
+        None
     }
 }
