@@ -1,16 +1,13 @@
 -- What `explain` says begins with what `check` says.
-use Rattle.std.proofs.Common.{◌≡◌, ℕ, inl, inr, List, [], ◌++◌, Ok, Err, Option, Some, None, refl, sym, ap, ◌∙◌, subst, append-nil}
+use Rattle.std.proofs.Common.{ℕ, inl, inr, List, [], ◌++◌, Ok, Err, Some, None, refl, sym, ap, ◌∙◌, subst, append-nil}
 use Rattle.std.specs.Prelude.{codes, flat_map, ◌∷◌}
-use Rattle.ipg_ast.specs.declared.grammar.Grammar as written
-use Rattle.ipg_core.specs.Grammar.{Grammar}
 use Rattle.ipg_app_explain.specs.Spot.{spot_lines}
 use Rattle.ipg_app_explain.specs.Why.{advice, first_word, wrong}
 use Rattle.ipg_app.specs.Said.{Said, done_line}
-use Rattle.ipg_app.specs.CoreOf.{On, grammar_in, CoreFrom, CoreOf}
-use Rattle.ipg_app.specs.Explained.{Explains, explained_said}
+use Rattle.ipg_app.specs.CoreOf.{On, CoreFrom}
 use Rattle.ipg_app.specs.Found.{Says}
-use Rattle.ipg_app.specs.Laws.{BeginsAsCheck, BeginsAs}
-use Rattle.ipg_app.specs.Reasons.{Reason, IsRefused, Judged}
+use Rattle.ipg_app.specs.Laws.{BeginsAsCheck}
+use Rattle.ipg_app.specs.Reasons.{Reason, Judged}
 use Rattle.ipg_app.specs.Reply.{core_of, check}
 use Rattle.ipg_app.proofs.OneReason.{of_text, unread, without_core}
 

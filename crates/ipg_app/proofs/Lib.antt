@@ -1,4 +1,5 @@
 pub mod Written
+pub mod Instead
 pub mod Settling
 pub mod Stages
 pub mod Replying

@@ -6,10 +6,9 @@ use Rattle.ipg_core.specs.Run.{Stop, NoTree, OutOfRange, Deep}
 use Rattle.ipg_mach_watch.specs.declared.findings.End.{End}
 use Rattle.ipg_mach_watch.specs.declared.findings.End.TheVariants as end
 use Rattle.ipg_mach_watch.specs.Laws.{OneFindings, EndIsMeant, IsEnd}
-use Rattle.ipg_app_explain.specs.Furthest.{Subject}
 use Rattle.ipg_app.specs.declared.task.Show.TheVariants.{Lines}
 use Rattle.ipg_app.specs.Said.{Said}
-use Rattle.ipg_app.specs.Followed.{Follows, found_said, status_of}
+use Rattle.ipg_app.specs.Followed.{found_said, status_of}
 use Rattle.ipg_app.specs.Reply.{ParseSays}
 use Rattle.ipg_app.specs.Laws.{OneFollowed, FollowEndsAsParse}
 

@@ -1,5 +1,5 @@
 -- Reasons and what is said for them: each is that of a refusal, and a text has one.
-use Rattle.std.proofs.Common.{◌<◌, ◌^◌, length, [], true, cond, nat_lt, arith, ◌≡◌, ℕ, ℤ, ◌⊎◌, inl, inr, List}
+use Rattle.std.proofs.Common.{◌<◌, ◌^◌, length, [], true, cond, nat_lt, arith, ◌≡◌, ℕ, ℤ, inl, inr, List}
 use Rattle.std.proofs.Common.{Option, Some, None, Result, Ok, Err, refl, sym, ap, ◌∙◌, subst, slice_get}
 use Rattle.ipg_ast.specs.declared.grammar.Grammar as written
 use Rattle.ipg_core.specs.declared.grammar.CoreRule.{CoreRule}
@@ -34,7 +34,7 @@ use Rattle.ipg_app.specs.Explained.{Explains, Refuses, explained_said}
 use Rattle.ipg_app.specs.Followed.{Cleared, Clears}
 use Rattle.ipg_app.specs.Reasons.{Reason, listed, read_reason, name_reason, cycle_places, CoreOrReason, IsCycle, IsLoose, IsRefused}
 use Rattle.ipg_app.specs.Reasons.{IsStuck, IsUnnamed, IsUnordered, IsUnread, Judged}
-use Rattle.ipg_app.proofs.OneCore.{not_both, orders_same, from_once}
+use Rattle.ipg_app.proofs.OneCore.{not_both, from_once}
 use Rattle.ipg_app.proofs.Stages.{from_ordered, from_unordered}
 
 said_of_name : (fault : NameFault) → (name_reason fault).said ≡ name_said fault
@@ -90,6 +90,9 @@ reason_behind g n c r is same h = inr (n, is, subst (λ x. IsUnordered g x r) sa
 
 pub of_text : (text : List ℕ) (g : written.Grammar) (answer : Answer) → grammar_in text ≡ Ok g → CoreFrom g answer → CoreOf text answer
 of_text text g answer is h = subst (λ r. On r CoreFrom answer) (sym is) h
+
+pub unreadable : (text : List ℕ) (said : Said) → grammar_in text ≡ Err said → CoreOf text (Err said)
+unreadable text said is = subst (λ r. On r CoreFrom (Err said)) (sym is) refl
 
 pub unread : (text : List ℕ) (r : Reason) → IsUnread text r → grammar_in text ≡ Err r.said
 unread text r h =

@@ -1,18 +1,16 @@
 -- Of a trial one thing is said.
-use Rattle.std.proofs.Common.{◌≡◌, ◌≢◌, ℕ, List, [], ◌++◌, length, min, ◌-◌, ◌^◌, Ok, Err, Result, sym, subst, ap, ◌∙◌}
+use Rattle.std.proofs.Common.{◌≡◌, ℕ, List, [], length, min, ◌-◌, ◌^◌, Ok, Err, Result, sym, subst, ap, ◌∙◌}
 use Rattle.ipg_core.specs.Grammar.{Grammar}
 use Rattle.ipg_core.specs.Laws.{HeightsAgree}
-use Rattle.ipg_core.specs.Lines.{tree_lines}
 use Rattle.ipg_core.specs.Run.{Stop, NoTree, OutOfRange, Deep}
 use Rattle.ipg_core.specs.Tree.{Tree}
-use Rattle.ipg_mach_moves.specs.Moves.{Key}
 use Rattle.ipg_mach_count_laws.specs.Laws.{AllWhereNoneKept, FreshAtAnyHeight, OneReach}
 use Rattle.ipg_formats.specs.declared.Kind.{Kind}
 use Rattle.ipg_formats.specs.Sample.{sample_of}
 use Rattle.ipg_app.specs.declared.measuring.Size.{Size}
 use Rattle.ipg_app.specs.Measured.{IsSize}
 use Rattle.ipg_app.specs.Said.{Said, done_line}
-use Rattle.ipg_app.specs.Trial.{IsTried, Tries, size_words}
+use Rattle.ipg_app.specs.Trial.{IsTried, size_words}
 use Rattle.ipg_app.specs.Laws.{OneTrial}
 use Rattle.ipg_app.proofs.OneParse.{one_answer}
 

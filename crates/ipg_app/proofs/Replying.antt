@@ -1,10 +1,8 @@
 -- A reply: how it is settled, and how it goes out.
-use Rattle.std.proofs.Common.{◌≡◌, ℕ, ◌⊎◌, inl, inr, List, [], Option, None, refl, sym, subst, append-nil, Result, Ok, Err, IsErrOf, Vec, Global, arith}
+use Rattle.std.proofs.Common.{◌≡◌, ℕ, ◌⊎◌, inl, inr, List, [], Option, None, refl, sym, subst, append-nil, Result, Ok, Err, IsErrAnd, arith}
 use Rattle.ipg_outside.specs.Faults.{Rose}
-use Rattle.ipg_outside.specs.Files.{Told, ReadCut, IfTooLarge}
+use Rattle.ipg_outside.specs.Files.{Told}
 use Rattle.ipg_outside.specs.Sink.{Output, HandsOn, Breaks, Tells}
-use Rattle.ipg_outside.specs.declared.files.FileFault.{FileFault}
-use Rattle.ipg_outside.specs.declared.files.FileFault.TheVariants as file
 use Rattle.ipg_tree.specs.Puts.{Whole}
 use Rattle.ipg_core.specs.Grammar.{Grammar}
 use Rattle.ipg_core.specs.Meaning.{Means}
@@ -14,29 +12,46 @@ use Rattle.ipg_app.specs.declared.task.Show.{Show}
 use Rattle.ipg_app.specs.Answered.{Fails}
 use Rattle.ipg_app.specs.declared.answering.AnswerFault.{AnswerFault}
 use Rattle.ipg_app.specs.declared.answering.AnswerFault.TheVariants as fault
-use Rattle.ipg_app.specs.Said.{Said, done, too_large}
+use Rattle.ipg_app.specs.Said.{Said, done}
 use Rattle.ipg_app.specs.Shown.{Shows, Misses, gap_said}
-use Rattle.ipg_app.specs.Order.{Order, reads, have}
-use Rattle.ipg_app.specs.Reply.{Parses, ParseSays, input_in, max_input, order_of}
+use Rattle.ipg_app.specs.Order.{Order}
+use Rattle.ipg_app.specs.Reply.{Parses, ParseSays, order_of}
 use Rattle.ipg_app.specs.Run.{Outside, Settles, Writes, Runs, OutOfMemory, Replied, RepliesWithoutFault, Surely}
 use Rattle.ipg_app.specs.Lines.{said_of}
-use Rattle.ipg_app.specs.Settled.{IsSettled, IsDue, IsUnread, MaySay, GoesOut, Replies, fault_status}
+use Rattle.ipg_app.specs.Early.{SaysSo}
+use Rattle.ipg_app.specs.Settled.{IsReplied, IsSettled, IsDue, MaySay, GoesOut, Replies, fault_status}
+use Rattle.ipg_app.specs.declared.early.Early.{Early}
 use Rattle.ipg_app.specs.declared.reply.Reply.{Reply}
 use Rattle.ipg_app.specs.declared.reply.Reply.TheVariants.{Text, Parse, Edits}
+use Rattle.ipg_app.specs.declared.said.Settled.{Settled}
 use Rattle.ipg_app.specs.declared.status.Status.{Status}
-use Rattle.ipg_app.proofs.Settling.{goes_on, settles_by, input_too_long}
+use Rattle.ipg_app.proofs.Instead.{answers_on, exits_on}
 use Rattle.ipg_app.proofs.Written.{Progress, all-out, broken}
 
 -- ---- what is settled
 
 module _ (told : List ℕ → Told) (before after : List ℕ → ℕ) (order : Order) where
   -- a reply that another order settles
-  pub settled_on : (then : List ℕ → Told) (from to : List ℕ → ℕ) (other : Order) (reply : Reply)
+  settled_on : (then : List ℕ → Told) (from to : List ℕ → ℕ) (other : Order) (reply : Reply)
       → ((said : Said) → Settles then from to other said → Settles told before after order said)
       → IsSettled then from to other reply → IsSettled told before after order reply
   settled_on then from to other (Text settled) f h = f (said_of settled) h
   settled_on then from to other (Parse due) f h = (h.0, λ said parses. f said (h.1 said parses))
   settled_on then from to other (Edits due) f h = (h.0, λ said is. f said (h.1 said is))
+
+  -- the same where that may be said in its stead
+  pub replied_on : (then : List ℕ → Told) (from to : List ℕ → ℕ) (other : Order) (r : Result Reply (Early Settled))
+      → ((said : Said) → Settles then from to other said → Settles told before after order said)
+      → IsReplied then from to other r → IsReplied told before after order r
+  replied_on then from to other r f h =
+      answers_on r (IsSettled then from to other) (IsSettled told before after order) (λ s. Settles then from to other (said_of s))
+      (λ s. Settles told before after order (said_of s)) (λ reply. settled_on then from to other reply f) (λ s. f (said_of s)) h
+
+  -- what is handed on in its stead
+  pub reply_exits : (r : Result Reply (Early Settled)) (e : Early Settled) (P : Said → Type 0) → IsErrAnd r (λ y. y ≡ e)
+      → ((said : Said) → P said → Settles told before after order said) → SaysSo (λ s. P (said_of s)) e → IsReplied told before after order r
+  reply_exits r e P is f h =
+      exits_on r e (IsSettled told before after order) (λ s. P (said_of s)) (λ s. Settles told before after order (said_of s)) is (λ s. f (said_of s)) h
 
   pub due_of : (reply : Reply) → IsSettled told before after order reply → IsDue reply
   due_of (Text settled) h = tt
@@ -47,16 +62,6 @@ module _ (told : List ℕ → Told) (before after : List ℕ → ℕ) (order : O
   said_of_reply (Text settled) said h e = subst (λ x. Settles told before after order x) (sym e) h
   said_of_reply (Parse due) said h parses = h.1 said parses
   said_of_reply (Edits due) said h is = h.1 said is
-
--- a file that was not read
-pub unread_on : (told : List ℕ → Told) (before after : List ℕ → ℕ) (name : List ℕ) (next : List ℕ → Order) (f : FileFault) (said : Said)
-    → IfTooLarge f (ReadCut (told name) max_input) → (IsErrOf {T = Vec ℕ Global} (Err f) file.Failed → Rose (before name) (after name)) → IsUnread f said
-    → Settles told before after (reads name (λ b. have (input_in b) next)) said
-unread_on told before after name next file.Failed said cut rose e = inr (record { name = name; turn = inl refl; rose = rose refl; is = e })
-unread_on told before after name next (file.TooLarge front) said cut rose e =
-    goes_on told before after name _ said cut.whole cut.contents
-    (settles_by told before after (input_in cut.whole) next said too_large (input_too_long cut.whole cut.longer) e)
-unread_on told before after name next file.Memory said cut rose e = absurd e
 
 -- ---- what goes out
 

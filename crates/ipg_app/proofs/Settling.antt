@@ -1,19 +1,19 @@
 -- What is settled, step by step.
-use Rattle.std.proofs.Common.{◌≡◌, ℕ, ◌≤◌, ◌<◌, inl, inr, List, length, true, false, cond, nat_le, Result, Ok, Err, Option, Some, None, refl, sym}
+use Rattle.std.proofs.Common.{◌≡◌, ℕ, ◌≤◌, ◌<◌, ◌^◌, inl, inr, List, length, true, false, cond, nat_le, Result, Ok, Err, Option, Some, None, refl, sym}
 use Rattle.std.proofs.Common.{subst, ap, ◌∙◌, arith}
 use Rattle.std.proofs.lemmas.Bool.Decides.{nat_tests}
 use Rattle.ipg_outside.specs.Files.{Told, MayHold}
 use Rattle.ipg_ast.specs.declared.grammar.Grammar as written
 use Rattle.ipg_app.specs.Said.{Said, too_large}
 use Rattle.ipg_core.specs.Grammar.{Grammar}
-use Rattle.ipg_app.specs.CoreOf.{Answer, On, grammar_in, CoreFrom, CoreOf}
+use Rattle.ipg_app.specs.CoreOf.{grammar_in, CoreOf}
 use Rattle.ipg_app.specs.Checks.{Checks}
 use Rattle.ipg_app.specs.Order.{Order, says, finds, reads, Answers, Turn, have}
 use Rattle.ipg_formats.specs.declared.Kind.{Kind}
 use Rattle.ipg_formats.specs.Names.{kind_of}
 use Rattle.ipg_formats.specs.Text.{text_of}
-use Rattle.ipg_app.specs.Reply.{input_in, text_by, text_under, grammar_of, core_of, grammar_under, core_under, accepted, path_in, script_in, held_in, max_input}
-use Rattle.ipg_app.specs.Reply.{cleared, explain_text, follow}
+use Rattle.ipg_app.specs.Reply.{input_in, text_by, text_under, grammar_of, core_of, accepted, path_in, script_in, held_in, max_input}
+use Rattle.ipg_app.specs.Reply.{cleared, explain_by, explain_text, follow}
 use Rattle.ipg_app.specs.Explained.{Refuses, explained_said}
 use Rattle.ipg_app.specs.Followed.{Cleared, Clears}
 use Rattle.ipg_app.specs.Reasons.{Reason}
@@ -23,14 +23,31 @@ use Rattle.ipg_app.specs.Path.{ReadsPath}
 use Rattle.ipg_edit_script.specs.declared.script.Edit.{Edit}
 use Rattle.ipg_app.specs.Editing.{ReadsScript}
 use Rattle.ipg_app.specs.Run.{Settles}
-use Rattle.ipg_app.specs.Found.{Found, FoundCore, grammar_in_file, core_in_file, silence}
+use Rattle.ipg_app.specs.declared.text.GrammarText.{GrammarText}
+use Rattle.ipg_app.specs.Found.{AreBytes, FoundBy, FoundText, IsText, bytes_of, input_in_file, silence}
 use Rattle.ipg_app.proofs.Written.{later}
 
-of_text : {told : Told} {g : written.Grammar} (found : Found told g) (answer : Answer) → CoreFrom g answer → CoreOf found.text answer
-of_text found answer h = subst (λ r. On r CoreFrom answer) (sym found.reads) h
+-- a text of so many bytes, or of too many
+pub these_bytes : (text : GrammarText) (bytes these : List ℕ) → bytes_of text ≡ Some these → IsText text bytes → bytes ≡ these
+these_bytes text bytes these e is = subst (λ o. AreBytes o bytes) e is
 
-pub found_core : {told : Told} {g : written.Grammar} (core : Grammar) → Found told g → CoreFrom g (Ok core) → FoundCore told core
-found_core core found h = record { text = found.text; held = found.held; core = of_text found (Ok core) h }
+pub too_many : (text : GrammarText) (bytes : List ℕ) → bytes_of text ≡ None → IsText text bytes → 2 ^ 20 < length bytes
+too_many text bytes e is = subst (λ o. AreBytes o bytes) e is
+
+-- the bytes of a text that was found
+abbrev bytes_by : (kind : Option Kind) (t : Told) (text : GrammarText) → FoundBy kind t text → List ℕ
+bytes_by (Some kind) t text is = text_of kind
+bytes_by None t text held = held.bytes
+
+abbrev pub found_bytes : (told : List ℕ → Told) (name : List ℕ) (text : GrammarText) → FoundText told name text → List ℕ
+found_bytes told name text found = bytes_by (kind_of name) (told name) text found
+
+is_by : (kind : Option Kind) (t : Told) (text : GrammarText) (found : FoundBy kind t text) → IsText text (bytes_by kind t text found)
+is_by (Some kind) t text is = is
+is_by None t text held = held.is
+
+pub found_is : (told : List ℕ → Told) (name : List ℕ) (text : GrammarText) (found : FoundText told name text) → IsText text (found_bytes told name text found)
+found_is told name text found = is_by (kind_of name) (told name) text found
 
 module _ (told : List ℕ → Told) (before after : List ℕ → ℕ) where
   abbrev Settled : Order → Said → Type 0
@@ -42,46 +59,55 @@ module _ (told : List ℕ → Told) (before after : List ℕ → ℕ) where
   goes_on name next said bytes held (inl a) = inl (inr (bytes, held, a))
   goes_on name next said bytes held (inr f) = inr (record { name = f.name; turn = inr (bytes, held, f.turn); rose = f.rose; is = f.is })
 
-  by_text : (k m : Option Kind) → m ≡ k → (name : List ℕ) (next : List ℕ → Order) (said : Said) → Settled (text_by k name next) said
-      → Settled (text_by m name next) said
-  by_text k m e name next said h = subst (λ k. Settled (text_by k name next) said) (sym e) h
+  -- the text under a name leads on
+  pub text_on : (name : List ℕ) (next : List ℕ → Order) (said : Said) (text : GrammarText) (found : FoundText told name text)
+      → Settled (next (found_bytes told name text found)) said → Settled (text_under name next) said
+  text_on name next said text found h = by (kind_of name) found h
+    where
+      by : (kind : Option Kind) (found : FoundBy kind (told name) text) → Settled (next (bytes_by kind (told name) text found)) said
+          → Settled (text_by kind name next) said
+      by (Some kind) is h = h
+      by None held h = goes_on name next said held.bytes held.held h
 
-  -- the text under a name is that of the grammar that has the name
-  pub named_on : (kind : Kind) (name : List ℕ) (next : Grammar → Order) (said : Said) → kind_of name ≡ Some kind
-      → Settled (core_of (text_of kind) next) said → Settled (core_under name next) said
-  named_on kind name next said e h = by_text (Some kind) (kind_of name) e name (λ text. core_of text next) said h
+  -- what is said before any of a file is read
+  unread_on : (name : List ℕ) (next : List ℕ → Order) (said : Said) → Settled (reads name (λ bytes. silence)) said → Settled (reads name next) said
+  unread_on name next said (inl (inl a)) = inl (inl a)
+  unread_on name next said (inl (inr (bytes, held, a))) = absurd a
+  unread_on name next said (inr f) = by f.turn
+    where
+      by : Turn told (reads name (λ bytes. silence)) f.name → Settled (reads name next) said
+      by (inl e) = inr (record { name = f.name; turn = inl e; rose = f.rose; is = f.is })
+      by (inr (bytes, held, t)) = absurd t
 
-  -- of a name that none has it is a file's
-  pub file_on : (name : List ℕ) (next : Grammar → Order) (said : Said) → kind_of name ≡ None → Settled (core_in_file name next) said
-      → Settled (core_under name next) said
-  file_on name next said e h = by_text None (kind_of name) e name (λ text. core_of text next) said h
-
-  pub named_grammar_on : (kind : Kind) (name : List ℕ) (next : written.Grammar → Order) (said : Said) → kind_of name ≡ Some kind
-      → Settled (grammar_of (text_of kind) next) said → Settled (grammar_under name next) said
-  named_grammar_on kind name next said e h = by_text (Some kind) (kind_of name) e name (λ text. grammar_of text next) said h
-
-  pub file_grammar_on : (name : List ℕ) (next : written.Grammar → Order) (said : Said) → kind_of name ≡ None → Settled (grammar_in_file name next) said
-      → Settled (grammar_under name next) said
-  file_grammar_on name next said e h = by_text None (kind_of name) e name (λ text. grammar_of text next) said h
-
-  pub named_text_on : (kind : Kind) (name : List ℕ) (next : List ℕ → Order) (said : Said) → kind_of name ≡ Some kind → Settled (next (text_of kind)) said
+  -- what is said before it is read
+  pub no_text_on : (name : List ℕ) (next : List ℕ → Order) (said : Said) → Settled (text_under name (λ text. silence)) said
       → Settled (text_under name next) said
-  named_text_on kind name next said e h = by_text (Some kind) (kind_of name) e name next said h
+  no_text_on name next said = by (kind_of name)
+    where
+      by : (kind : Option Kind) → Settled (text_by kind name (λ text. silence)) said → Settled (text_by kind name next) said
+      by (Some kind) (inl a) = absurd a
+      by (Some kind) (inr f) = absurd f.turn
+      by None h = unread_on name next said h
 
-  pub file_text_on : (name : List ℕ) (next : List ℕ → Order) (said : Said) → kind_of name ≡ None → Settled (reads name next) said
-      → Settled (text_under name next) said
-  file_text_on name next said e h = by_text None (kind_of name) e name next said h
+  -- what is said before an input is there
+  pub no_input_on : (name : List ℕ) (next : List ℕ → Order) (said : Said) → Settled (input_in_file name (λ input. silence)) said
+      → Settled (input_in_file name next) said
+  no_input_on name next said (inl (inl a)) = inl (inl a)
+  no_input_on name next said (inl (inr (bytes, held, a))) = by (input_in bytes) refl a
+    where
+      by : (r : Result (List ℕ) Said) → input_in bytes ≡ r → Answers told (have r (λ input. silence)) said → Settled (input_in_file name next) said
+      by (Ok b) e a = absurd a
+      by (Err x) e a = inl (inr (bytes, held, subst (λ r. Answers told (have r next) said) (sym e) a))
+  no_input_on name next said (inr f) = by f.turn
+    where
+      none : (r : Result (List ℕ) Said) (n : List ℕ) → Turn told (have r (λ input. silence)) n → ⊥
+      none (Ok g) n t = t
+      none (Err x) n t = t
 
-  -- the core grammar of a text leads on
-  pub core_goes_on : (text : List ℕ) (next : Grammar → Order) (said : Said) (g : Grammar) → CoreOf text (Ok g) → Settled (next g) said
-      → Settled (core_of text next) said
-  core_goes_on text next said g h (inl a) = inl (Ok g, h, a)
-  core_goes_on text next said g h (inr f) = inr (record { name = f.name; turn = (Ok g, h, f.turn); rose = f.rose; is = f.is })
+      by : Turn told (input_in_file name (λ input. silence)) f.name → Settled (input_in_file name next) said
+      by (inl e) = inr (record { name = f.name; turn = inl e; rose = f.rose; is = f.is })
+      by (inr (bytes, held, t)) = absurd (none (input_in bytes) f.name t)
 
-  pub core_refused : (text : List ℕ) (next : Grammar → Order) (said : Said) → CoreOf text (Err said) → Settled (core_of text next) said
-  core_refused text next said h = inl (Err said, h, refl)
-
-  -- a text that has a core grammar by which parsing ends leads on
   pub cleared_on : (name text : List ℕ) (next : Cleared → Order) (said : Said) (made : Cleared) → Clears text (Ok made) → Settled (next made) said
       → Settled (cleared name text next) said
   cleared_on name text next said made h (inl a) = inl (Ok made, h, a)
@@ -91,8 +117,13 @@ module _ (told : List ℕ → Told) (before after : List ℕ → ℕ) where
       → said ≡ explained_said name text (Some reason) → Settled (cleared name text next) said
   not_cleared name text next said reason h is = inl (Err reason, h, is)
 
-  pub refused_text : (name input text : List ℕ) (said : Said) → Refuses name text said → Settled (explain_text name input text) said
+  refused_text : (name input text : List ℕ) (said : Said) → Refuses name text said → Settled (explain_text name input text) said
   refused_text name input text said (reason, h, is) = not_cleared name text (follow name text input) said reason h is
+
+  pub refused_by : (name : List ℕ) (input : Option (List ℕ)) (text : List ℕ) (said : Said) → Refuses name text said
+      → Settled (explain_by name input text) said
+  refused_by name None text said (reason, h, is) = inl (Some reason, h, is)
+  refused_by name (Some input) text said h = refused_text name input text said h
 
   -- the path of a text leads on
   pub path_goes_on : (text : List ℕ) (next : Query → Order) (said : Said) (path : Query) → ReadsPath text (Ok path) → Settled (next path) said
@@ -126,37 +157,22 @@ module _ (told : List ℕ → Told) (before after : List ℕ → ℕ) where
   settles_by (Ok a) next said x e f = absurd (cc)
   settles_by (Err y) next said x e f = inl (let same : said ≡ y = cc in same)
 
-  -- the core grammar found leads on
-  pub core_on : (name : List ℕ) (next : Grammar → Order) (said : Said) (g : Grammar) → FoundCore (told name) g → Settled (next g) said
-      → Settled (core_in_file name next) said
-  core_on name next said g found (inl a) = inl (inr (found.text, found.held, (Ok g, found.core, a)))
-  core_on name next said g found (inr f) = inr (record {
-    name = f.name;
-    turn = inr (found.text, found.held, (Ok g, found.core, f.turn));
-    rose = f.rose;
-    is = f.is;
-  })
+  -- the grammar of a text leads on
+  pub grammar_on : (text : List ℕ) (next : written.Grammar → Order) (said : Said) (g : written.Grammar) → grammar_in text ≡ Ok g → Settled (next g) said
+      → Settled (grammar_of text next) said
+  grammar_on text next said g is h = subst (λ r. Settled (have r next) said) (sym is) h
 
-  silent : (r : Answer) (n : List ℕ) → Turn told (have r (λ g. silence)) n → ⊥
-  silent (Ok g) n t = t
-  silent (Err x) n t = t
+  pub no_grammar_on : (text : List ℕ) (next : written.Grammar → Order) (said : Said) → grammar_in text ≡ Err said → Settled (grammar_of text next) said
+  no_grammar_on text next said is = settles_by (grammar_in text) next said said is refl
 
-  -- what is said before there is one
-  pub no_core_on : (name : List ℕ) (next : Grammar → Order) (said : Said) → Settled (core_in_file name (λ g. silence)) said
-      → Settled (core_in_file name next) said
-  no_core_on name next said (inl (inl a)) = inl (inl a)
-  no_core_on name next said (inl (inr (bytes, held, (Ok g, core, a)))) = absurd a
-  no_core_on name next said (inl (inr (bytes, held, (Err x, core, a)))) = inl (inr (bytes, held, (Err x, core, a)))
-  no_core_on name next said (inr f) = by f.turn
-    where
-      by : Turn told (core_in_file name (λ g. silence)) f.name → Settled (core_in_file name next) said
-      by (inl e) = inr (record { name = f.name; turn = inl e; rose = f.rose; is = f.is })
-      by (inr (bytes, held, (answer, core, t))) = absurd (silent answer f.name t)
+  -- the core grammar of a text leads on
+  pub core_on : (text : List ℕ) (next : Grammar → Order) (said : Said) (g : Grammar) → CoreOf text (Ok g) → Settled (next g) said
+      → Settled (core_of text next) said
+  core_on text next said g is (inl a) = inl (Ok g, is, a)
+  core_on text next said g is (inr f) = inr (record { name = f.name; turn = (Ok g, is, f.turn); rose = f.rose; is = f.is })
 
-  -- a text whose grammar has no core grammar
-  pub refused_core : (name : List ℕ) (next : Grammar → Order) (said : Said) (g : written.Grammar) → Found (told name) g → CoreFrom g (Err said)
-      → Settled (core_in_file name next) said
-  refused_core name next said g found h = inl (inr (found.text, found.held, (Err said, of_text found (Err said) h, refl)))
+  pub no_core_on : (text : List ℕ) (next : Grammar → Order) (said : Said) → CoreOf text (Err said) → Settled (core_of text next) said
+  no_core_on text next said is = inl (Err said, is, refl)
 
   -- parsing ends by the grammar
   pub accepted_on : (g same : Grammar) (next : Grammar → Order) (said : Said) → Checks g (Ok same) → Settled (next same) said
@@ -166,25 +182,6 @@ module _ (told : List ℕ → Told) (before after : List ℕ → ℕ) where
 
   pub not_accepted : (g : Grammar) (next : Grammar → Order) (said : Said) → Checks g (Err said) → Settled (accepted g next) said
   not_accepted g next said h = inl (Err said, h, refl)
-
-  -- what a text that is no grammar settles
-  pub refused_on : (name : List ℕ) (next : Grammar → Order) (said : Said) → Settled (grammar_in_file name (λ g. silence)) said
-      → Settled (core_in_file name next) said
-  refused_on name next said (inl (inl a)) = inl (inl a)
-  refused_on name next said (inl (inr (bytes, held, a))) = by (grammar_in bytes) refl a
-    where
-      by : (r : Result written.Grammar Said) → grammar_in bytes ≡ r → Answers told (have r (λ g. silence)) said → Settled (core_in_file name next) said
-      by (Ok g) e a = absurd a
-      by (Err x) e a = inl (inr (bytes, held, (Err x, subst (λ r. On r CoreFrom (Err x)) (sym e) refl, a)))
-  refused_on name next said (inr f) = by f.turn
-    where
-      none : (r : Result written.Grammar Said) (n : List ℕ) → Turn told (have r (λ g. silence)) n → ⊥
-      none (Ok g) n t = t
-      none (Err x) n t = t
-
-      by : Turn told (grammar_in_file name (λ g. silence)) f.name → Settled (core_in_file name next) said
-      by (inl e) = inr (record { name = f.name; turn = inl e; rose = f.rose; is = f.is })
-      by (inr (bytes, held, t)) = absurd (none (grammar_in bytes) f.name t)
 
 -- what is told stays, and no count falls
 module _ (told then : List ℕ → Told) (same : (n : List ℕ) → then n ≡ told n) where
@@ -211,8 +208,15 @@ module _ (told then : List ℕ → Told) (same : (n : List ℕ) → then n ≡ t
       inr (record { name = f.name; turn = turn_then order f.name f.turn; rose = later _ _ _ (counts f.name) f.rose; is = f.is })
 
 -- an input that is too long
-pub input_too_long : (bytes : List ℕ) → max_input < length bytes → input_in bytes ≡ Err too_large
+input_too_long : (bytes : List ℕ) → max_input < length bytes → input_in bytes ≡ Err too_large
 input_too_long bytes h = ap (λ b. cond b (Ok bytes) (Err too_large)) (let e : nat_le (length bytes) max_input ≡ false = grind (arith, nat_tests) in e)
+
+-- a file that is longer than an input may be
+pub too_large_on : (told : List ℕ → Told) (before after : List ℕ → ℕ) (name : List ℕ) (next : List ℕ → Order) (said : Said) (bytes : List ℕ)
+    → MayHold (told name) bytes → max_input < length bytes → said ≡ too_large → Settles told before after (input_in_file name next) said
+too_large_on told before after name next said bytes held longer is =
+    goes_on told before after name (λ b. have (input_in b) next) said bytes held
+    (settles_by told before after (input_in bytes) next said too_large (input_too_long bytes longer) is)
 
 -- an input that isn't
 input_fits : (bytes : List ℕ) → length bytes ≤ max_input → input_in bytes ≡ Ok bytes
@@ -221,12 +225,12 @@ input_fits bytes h = ap (λ b. cond b (Ok bytes) (Err too_large)) (let e : nat_l
 -- what a file holds that isn't too long leads on
 pub read_goes_on : (told : List ℕ → Told) (before after : List ℕ → ℕ) (name : List ℕ) (next : List ℕ → Order) (said : Said) (bytes : List ℕ)
     → MayHold (told name) bytes → length bytes ≤ max_input → Settles told before after (next bytes) said
-    → Settles told before after (reads name (λ b. have (input_in b) next)) said
+    → Settles told before after (input_in_file name next) said
 read_goes_on told before after name next said bytes held fits h =
     goes_on told before after name (λ b. have (input_in b) next) said bytes held
     (subst (λ r. Settles told before after (have r next) said) (sym (input_fits bytes fits)) h)
 
 pub read_on : (told : List ℕ → Told) (before after : List ℕ → ℕ) (name : List ℕ) (next : List ℕ → Order) (said : Said) (bytes : List ℕ)
     → MayHold (told name) bytes → length bytes ≤ max_input → Answers told (next bytes) said
-    → Settles told before after (reads name (λ b. have (input_in b) next)) said
+    → Settles told before after (input_in_file name next) said
 read_on told before after name next said bytes held fits a = read_goes_on told before after name next said bytes held fits (inl a)

@@ -1,6 +1,5 @@
 -- The stages of a core grammar, one after another.
-use Rattle.std.proofs.Common.{◌≡◌, ℕ, zero, suc, List, [], ◌∷◌, map, Some, Result, Ok, Err, refl, ap, ◌∙◌, slice_get}
-use Rattle.std.specs.Prelude.{IfOk, MatchResult}
+use Rattle.std.proofs.Common.{◌≡◌, ℕ, zero, suc, List, [], ◌∷◌, map, Some, Ok, Err, refl, ap, ◌∙◌, slice_get}
 use Rattle.ipg_complete.specs.declared.completed.CompletedRule.{CompletedRule}
 use Rattle.ipg_complete.specs.Unordered.{Unordered, rule_of, core_of}
 use Rattle.ipg_core.specs.declared.grammar.CoreRule.{CoreRule}
@@ -13,13 +12,6 @@ use Rattle.ipg_app_explain.specs.declared.why.Why.TheVariants as why
 use Rattle.ipg_app_explain.specs.Terms.{term_place}
 use Rattle.ipg_app.specs.CoreOf.{Answer, Circles, Orders, Touches, OrdersAndTouches}
 use Rattle.ipg_app.specs.Reasons.{Reason, listed, IsStuck}
-
--- more is known of a value, or of what is said
-pub if_match : {A S E : Type 0} (r : Result (Result A S) E) (P R : A → Type 0) (Q T : S → Type 0) → ((a : A) → P a → R a) → ((s : S) → Q s → T s)
-    → IfOk r (λ made. MatchResult made P Q) → IfOk r (λ made. MatchResult made R T)
-if_match (Ok (Ok a)) P R Q T f g h = f a h
-if_match (Ok (Err s)) P R Q T f g h = g s h
-if_match (Err e) P R Q T f g h = tt
 
 pub from_ordered : (c : Unordered) (g : Grammar) (answer : Answer) → Orders c (Ok g) → Touches g answer → OrdersAndTouches c answer
 from_ordered c g answer h k = record { ordered = Ok g; orders = h; touches = k }

@@ -25,7 +25,6 @@ use Rattle.ipg_app.specs.declared.telling.Told.{Told}
 use Rattle.ipg_app.specs.declared.telling.EditsFault.{EditsFault}
 use Rattle.ipg_app.specs.declared.telling.EditsFault.TheVariants.{OutOfInput, Memory}
 use Rattle.ipg_app.specs.Editing.{Edits, EditsSay, Allows, words_of, counted, answer_line, tree_of, kept_behind, kept_by, edited_by, before}
-use Rattle.ipg_app.specs.Editing.{edits_said}
 use Rattle.ipg_app.specs.Settled.{Replies}
 use Rattle.ipg_app.specs.Telling.{Ready, IsTold, IsShown, GoesOn, Steps, AreTold, TellsAll, words_by}
 use Rattle.ipg_app.proofs.Meant.{meant}

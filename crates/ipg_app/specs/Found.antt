@@ -1,45 +1,53 @@
--- A grammar that was read from a file, as a step of its own.
-use Rattle.std.specs.Prelude.{◌≡◌, ℕ, List, Ok}
-use Rattle.ipg_ast.specs.declared.grammar.Grammar as written
-use Rattle.ipg_core.specs.Grammar.{Grammar}
+-- What is found under a name, as a step of its own.
+use Rattle.std.specs.Prelude.{◌≡◌, ℕ, ◌<◌, ◌^◌, List, length, Option, None, Some}
+use Rattle.ipg_formats.specs.declared.Kind.{Kind}
+use Rattle.ipg_formats.specs.Names.{kind_of}
+use Rattle.ipg_formats.specs.Text.{text_of}
 use Rattle.ipg_outside.specs.Files.{Told, MayHold}
+use Rattle.ipg_app.specs.declared.text.GrammarText.{GrammarText}
+use Rattle.ipg_app.specs.declared.text.GrammarText.TheVariants as text
 use Rattle.ipg_app.specs.Said.{Said}
-use Rattle.ipg_app.specs.CoreOf.{grammar_in, CoreOf}
-use Rattle.ipg_app.specs.Order.{Order, Step, says, Answers, contents, ◌>>=◌}
-use Rattle.ipg_app.specs.Reply.{grammar_of, core_of, explain_text}
-use Rattle.ipg_app.specs.Explained.{Explains}
+use Rattle.ipg_app.specs.Order.{Order, Step, says, Answers, contents, have, ◌>>=◌}
+use Rattle.ipg_app.specs.Reply.{input_in}
 
-abbrev pub grammar_in_file : List ℕ → Step written.Grammar
-grammar_in_file name next = do
-  text ← contents name
-  grammar_of text next
+-- ---- texts
 
-abbrev pub core_in_file : List ℕ → Step Grammar
-core_in_file name next = do
-  text ← contents name
-  core_of text next
+abbrev pub bytes_of : GrammarText → Option (List ℕ)
+bytes_of (text.BuiltIn kind) = Some (text_of kind)
+bytes_of (text.Read bytes) = Some bytes.items
+bytes_of text.TooLong = None
 
-abbrev pub explain_in_file : List ℕ → Order
-explain_in_file name = do
-  text ← contents name
-  says (Explains name text)
+abbrev pub AreBytes : Option (List ℕ) → List ℕ → Type 0
+AreBytes (Some these) bytes = bytes ≡ these
+AreBytes None bytes = 2 ^ 20 < length bytes
 
-abbrev pub explain_input_in_file : (name input : List ℕ) → Order
-explain_input_in_file name input = do
-  text ← contents name
-  explain_text name input text
+-- it is that of these bytes; of too many none is kept
+abbrev pub IsText : GrammarText → List ℕ → Type 0
+IsText text bytes = AreBytes (bytes_of text) bytes
 
--- a name of which this is told may hold a text of the grammar
-pub record Found (told : Told) (g : written.Grammar) : Type 0 where
-  pub text : List ℕ
-  pub held : MayHold told text
-  pub reads : grammar_in text ≡ Ok g
+-- a name of which this is told may hold the text
+pub record HeldText (told : Told) (text : GrammarText) : Type 0 where
+  pub bytes : List ℕ
+  pub held : MayHold told bytes
+  pub is : IsText text bytes
 
--- a name of which this is told may hold a text that has the core grammar
-pub record FoundCore (told : Told) (g : Grammar) : Type 0 where
-  pub text : List ℕ
-  pub held : MayHold told text
-  pub core : CoreOf text (Ok g)
+abbrev pub FoundBy : Option Kind → Told → GrammarText → Type 0
+FoundBy (Some kind) told text = IsText text (text_of kind)
+FoundBy None told text = HeldText told text
+
+-- the text is a built-in one by its name, or a file's
+abbrev pub FoundText : (List ℕ → Told) → List ℕ → GrammarText → Type 0
+FoundText told name text = FoundBy (kind_of name) (told name) text
+
+-- ---- inputs
+
+abbrev pub input_in_file : List ℕ → Step (List ℕ)
+input_in_file name next = do
+  bytes ← contents name
+  input ← have (input_in bytes)
+  next input
+
+-- ---- what is said
 
 -- nothing is said from here on
 abbrev pub silence : Order

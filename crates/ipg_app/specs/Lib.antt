@@ -35,6 +35,7 @@ pub mod Run
 pub mod Laws
 -- what functions inside the crate promise each other
 pub mod Lines
+pub mod Early
 pub mod Seen
 pub mod Telling
 pub mod Found

@@ -220,12 +220,6 @@ fmt grammar = do
   g ← grammar_under grammar
   formatted g
 
--- G1 to G14 with their places, for a person
-abbrev pub explain_grammar : List ℕ → Order
-explain_grammar name = do
-  text ← text_under name
-  says (Explains name text)
-
 -- ---- the command that tells where an input stopped being what a grammar wants
 
 -- the same of a text, where it is refused
@@ -246,15 +240,15 @@ explain_text name input text = do
   made ← cleared name text
   follow name text input made
 
-abbrev pub explain_input : (name input : List ℕ) → Order
-explain_input name input = do
-  text ← text_under name
-  explain_text name input text
+-- G1 to G14 with their places, for a person; or what an input comes to
+abbrev pub explain_by : (name : List ℕ) → (input : Option (List ℕ)) → (text : List ℕ) → Order
+explain_by name None text = says (Explains name text)
+explain_by name (Some input) text = explain_text name input text
 
--- the grammar alone, or what an input comes to by it
 abbrev pub explain : (name : List ℕ) → (input : Option (List ℕ)) → Order
-explain name None = explain_grammar name
-explain name (Some input) = explain_input name input
+explain name input = do
+  text ← text_under name
+  explain_by name input text
 
 -- ---- words
 

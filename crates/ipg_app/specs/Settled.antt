@@ -1,19 +1,20 @@
 -- What functions promise each other of a reply: that it is settled, and that it goes out.
-use Rattle.std.specs.Prelude.{◌≡◌, ℕ, ◌≤◌, ◌⊎◌, ⊤, List, length, Option}
+use Rattle.std.specs.Prelude.{◌≡◌, ℕ, ◌≤◌, ◌⊎◌, ⊤, List, length, Option, Result}
 use Rattle.ipg_outside.specs.Faults.{Rose}
 use Rattle.ipg_outside.specs.Files.{Told}
 use Rattle.ipg_outside.specs.Sink.{Output, Breaks, Tells}
-use Rattle.ipg_outside.specs.declared.files.FileFault.{FileFault}
-use Rattle.ipg_outside.specs.declared.files.FileFault.TheVariants as file
 use Rattle.ipg_app.specs.declared.answering.AnswerFault.{AnswerFault}
 use Rattle.ipg_app.specs.declared.answering.AnswerFault.TheVariants as fault
-use Rattle.ipg_app.specs.Said.{Said, read_fault, too_large}
+use Rattle.ipg_app.specs.Said.{Said}
 use Rattle.ipg_app.specs.Order.{Order}
 use Rattle.ipg_app.specs.Reply.{Parses, max_input, Task, Parse, Check, Cert, Verify, Table, Cover, Edit}
 use Rattle.ipg_edit_script.specs.Scripts.{AreEdits}
 use Rattle.ipg_app.specs.Editing.{Edits}
 use Rattle.ipg_app.specs.Run.{Settles, Writes}
+use Rattle.ipg_app.specs.Early.{AnswersOrSays}
 use Rattle.ipg_app.specs.Lines.{said_of}
+use Rattle.ipg_app.specs.declared.early.Early.{Early}
+use Rattle.ipg_app.specs.declared.said.Settled.{Settled}
 use Rattle.ipg_app.specs.declared.reply.Reply.{Reply}
 use Rattle.ipg_app.specs.declared.reply.Reply.TheVariants as reply
 use Rattle.ipg_app.specs.declared.task.Task as code
@@ -63,11 +64,10 @@ IsSettled told before after order (reply.Edits due) =
     ((length due.input.items ≤ max_input) × AreEdits due.edits)
     × ((said : Said) → Edits due.grammar due.input.items due.edits said → Settles told before after order said)
 
--- what is said of a file that was not read; nothing, for want of memory
-abbrev pub IsUnread : FileFault → Said → Type 0
-IsUnread file.Failed said = said ≡ read_fault
-IsUnread (file.TooLarge front) said = said ≡ too_large
-IsUnread file.Memory said = ⊥
+-- the reply is settled, or what is said in its stead is
+abbrev pub IsReplied : (List ℕ → Told) → (List ℕ → ℕ) → (List ℕ → ℕ) → Order → Result Reply (Early Settled) → Type 0
+IsReplied told before after order result =
+    AnswersOrSays result (IsSettled told before after order) (λ settled. Settles told before after order (said_of settled))
 
 -- ---- what goes out
 

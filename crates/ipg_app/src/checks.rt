@@ -1,5 +1,5 @@
 //! Checks that parsing by a core grammar ends.
-ghost use Rattle.std.specs.Prelude.{◌≡◌, Ok, Err, IfOk, MatchResult};
+ghost use Rattle.std.specs.Prelude.{◌≡◌, Ok, Err, IfOk};
 ghost use Rattle.std.specs.List.{AllByRecursion};
 ghost use Rattle.ipg_store_body.specs.Fits.{NestsRule};
 ghost use Rattle.ipg_proof.specs.Proves.{Proves};
@@ -9,8 +9,10 @@ ghost use Rattle.ipg_app.specs.Said.{done};
 ghost use Rattle.ipg_app.specs.Checks.{Checks, IsLoop};
 ghost use Rattle.ipg_app.specs.Reply.{check, cert, table};
 ghost use Rattle.ipg_app.specs.Found.{Says};
+ghost use Rattle.ipg_app.specs.Early.{AnswersOrSays, IsSaid};
 ghost use Rattle.ipg_app.specs.Lines.{said_of};
 
+use crate::early::Early;
 use crate::looping::may_loop;
 use crate::said::{Settled, line};
 use crate::status::Status;
@@ -22,16 +24,13 @@ use ipg_term::{TermFault, TermWhy, check};
 use std::alloc::{AllocError, Global};
 
 /// The grammar, by which parsing ends, with a certificate that proves it; or what is said of its first cycle, G13.
-pub fn accepted(
-    alloc: Global,
-    core: Core,
-) -> Result<Result<(Checked, Certificate), Settled>, AllocError>
-    ensures checks { IfOk result (λ made. MatchResult made (λ made. Checks core (Ok made.0)) (λ settled. Checks core (Err (said_of settled)))) }
-    ensures proved { IfOk result (λ made. IfOk made (λ made. Proves made.0 made.1)) }
+pub fn accepted(alloc: Global, core: Core) -> Result<(Checked, Certificate), Early<Settled>>
+    ensures checks { AnswersOrSays result (λ made. Checks core (Ok made.0)) (λ settled. Checks core (Err (said_of settled))) }
+    ensures proved { IfOk result (λ made. Proves made.0 made.1) }
 {
     match check(alloc, core) {
-        Ok(made) => Ok(Ok(made)),
-        Err(TermFault { grammar, why }) => Ok(Err(refused(alloc, &grammar, &why)?)),
+        Ok(made) => Ok(made),
+        Err(TermFault { grammar, why }) => Err(Early::Said(refused(alloc, &grammar, &why)?)),
     }
 }
 
@@ -48,41 +47,29 @@ fn refused(alloc: Global, g: &Core, why: &TermWhy) -> Result<Settled, AllocError
 }
 
 /// What `check` says.
-pub fn say_check(alloc: Global, core: Core) -> Result<Settled, AllocError>
-    ensures { IfOk result (λ settled. Says (check core) (said_of settled)) }
+pub fn say_check(alloc: Global, core: Core) -> Result<Settled, Early<Settled>>
+    ensures { IsSaid result (Says (check core)) }
 {
-    match accepted(alloc, core)? {
-        Ok(_) => line(alloc, Status::Done, b"accepted"),
-        Err(settled) => Ok(settled),
-    }
+    accepted(alloc, core)?;
+    Ok(line(alloc, Status::Done, b"accepted")?)
 }
 
 /// What `cert` says.
-pub fn say_cert(alloc: Global, core: Core) -> Result<Settled, AllocError>
-    ensures { IfOk result (λ settled. Says (cert core) (said_of settled)) }
+pub fn say_cert(alloc: Global, core: Core) -> Result<Settled, Early<Settled>>
+    ensures { IsSaid result (Says (cert core)) }
 {
-    match accepted(alloc, core)? {
-        Ok((grammar, certificate)) => {
-            is_speakable(&grammar, &certificate);
-            let text = cert_text(alloc, &certificate)?;
-            written(alloc, text)
-        }
-        Err(settled) => Ok(settled),
-    }
+    let (grammar, certificate) = accepted(alloc, core)?;
+    is_speakable(&grammar, &certificate);
+    Ok(written(cert_text(alloc, &certificate)?))
 }
 
 /// What `table` says of a grammar whose expressions a table file can hold.
-pub fn say_table(alloc: Global, core: Core) -> Result<Settled, AllocError>
+pub fn say_table(alloc: Global, core: Core) -> Result<Settled, Early<Settled>>
     requires { AllByRecursion NestsRule core.rules }
-    ensures { IfOk result (λ settled. Says (table core) (said_of settled)) }
+    ensures { IsSaid result (Says (table core)) }
 {
-    match accepted(alloc, core)? {
-        Ok((grammar, certificate)) => {
-            let file = save(alloc, &grammar, &certificate)?;
-            written(alloc, file)
-        }
-        Err(settled) => Ok(settled),
-    }
+    let (grammar, certificate) = accepted(alloc, core)?;
+    Ok(written(save(alloc, &grammar, &certificate)?))
 }
 
 /// Texts can say a certificate that proves a grammar.
@@ -94,11 +81,11 @@ fn is_speakable(grammar: &Checked, certificate: &Certificate)
     proves_is_speakable();
 }
 
-fn written(alloc: Global, text: Vec<u8>) -> Result<Settled, AllocError>
-    ensures { IfOk result (λ settled. said_of settled ≡ done text.items) }
+fn written(text: Vec<u8>) -> Settled
+    ensures { said_of result ≡ done text.items }
 {
-    Ok(Settled {
+    Settled {
         status: Status::Done,
         text,
-    })
+    }
 }

@@ -1,10 +1,11 @@
 //! The core grammar of a grammar as it is written.
-ghost use Rattle.std.specs.Prelude.{◌≡◌, [], Ok, Err, IfOk, MatchResult, map, slice_get};
+ghost use Rattle.std.specs.Prelude.{◌≡◌, [], Ok, Err, IfOk, map, slice_get};
 ghost use Rattle.ipg_complete.specs.Completion.{completed};
 ghost use Rattle.ipg_core.specs.Grammar.{name_at};
 ghost use Rattle.ipg_core.specs.Good.{Good};
 ghost use Rattle.ipg_names.specs.Readable.{IsReadable};
 ghost use Rattle.ipg_app.specs.CoreOf.{CoreOf, resolved, Orders, Touches, OrdersAndTouches, CoreFrom, name_of};
+ghost use Rattle.ipg_app.specs.Early.{AnswersOrSays};
 ghost use Rattle.ipg_app.specs.Lines.{said_of, line_bytes};
 ghost use Rattle.ipg_app.specs.Reasons.{CoreOrReason, IsLoose, IsStuck, IsUnnamed, IsUnordered};
 ghost use Rattle.ipg_app.specs.Reasons.{listed};
@@ -13,6 +14,7 @@ ghost use Rattle.ipg_app.specs.Seen.{reason_of};
 ghost use Rattle.ipg_app_explain.specs.Terms as explain;
 ghost use Rattle.ipg_app_explain.specs.declared.why.Why.TheVariants as why;
 
+use crate::early::Early;
 use crate::grammar::grammar_in;
 use crate::reasons::{Reason, name_reason, reason_at};
 use crate::refusal::{TermPlace, circular, no_touch};
@@ -31,25 +33,21 @@ use ipg_touch::{loose, must_touch};
 use std::alloc::{AllocError, Global};
 
 /// The core grammar of a grammar, or what is said of the first of its faults: G6 to G12, then G14.
-pub fn core_of(alloc: Global, g: &Grammar) -> Result<Result<Core, Settled>, AllocError>
+pub fn core_of(alloc: Global, g: &Grammar) -> Result<Core, Early<Settled>>
     requires { IsReadable g.now }
-    ensures { IfOk result (λ made. MatchResult made (λ core. CoreFrom g.now (Ok core)) (λ settled. CoreFrom g.now (Err (said_of settled)))) }
+    ensures { AnswersOrSays result (λ core. CoreFrom g.now (Ok core)) (λ settled. CoreFrom g.now (Err (said_of settled))) }
 {
-    match core_or_reason(alloc, g)? {
-        Ok(core) => Ok(Ok(core)),
-        Err(reason) => Ok(Err(reason.said)),
-    }
+    Ok(core_or_reason(alloc, g)?)
 }
 
 /// The core grammar of a grammar, or why it has none.
-pub fn core_or_reason(alloc: Global, g: &Grammar) -> Result<Result<Core, Reason>, AllocError>
+pub fn core_or_reason(alloc: Global, g: &Grammar) -> Result<Core, Early<Reason>>
     requires { IsReadable g.now }
-    ensures { IfOk result (λ made. MatchResult made (λ core. CoreOrReason g.now (Ok core)) (λ reason. CoreOrReason g.now (Err (reason_of reason)))) }
+    ensures { AnswersOrSays result (λ core. CoreOrReason g.now (Ok core)) (λ reason. CoreOrReason g.now (Err (reason_of reason))) }
 {
-    match named_in(alloc, g)? {
-        Ok(named) => core_in(alloc, g, completed_in(alloc, named)?),
-        Err(reason) => Ok(Err(reason)),
-    }
+    let named = named_in(alloc, g)?;
+    let whole = completed_in(alloc, named)?;
+    core_in(alloc, g, whole)
 }
 
 /// The grammar with its intervals written out, unless that takes too much.
@@ -63,49 +61,46 @@ fn completed_in(alloc: Global, named: NamedGrammar) -> Result<Completed, AllocEr
 }
 
 /// The core grammar of a text, or what is said of a text that has none.
-pub fn core_in_text(alloc: Global, text: &[u8]) -> Result<Result<Core, Settled>, AllocError>
-    ensures { IfOk result (λ made. MatchResult made (λ core. CoreOf text.now (Ok core)) (λ settled. CoreOf text.now (Err (said_of settled)))) }
+pub fn core_in_text(alloc: Global, text: &[u8]) -> Result<Core, Early<Settled>>
+    ensures { AnswersOrSays result (λ core. CoreOf text.now (Ok core)) (λ settled. CoreOf text.now (Err (said_of settled))) }
 {
-    match grammar_in(alloc, text)? {
-        Ok(g) => core_of(alloc, &g),
-        Err(settled) => Ok(Err(settled)),
-    }
+    let g = grammar_in(alloc, text)?;
+    core_of(alloc, &g)
 }
 
-fn named_in(alloc: Global, g: &Grammar) -> Result<Result<NamedGrammar, Reason>, AllocError>
+fn named_in(alloc: Global, g: &Grammar) -> Result<NamedGrammar, Early<Reason>>
     requires { IsReadable g.now }
-    ensures { IfOk result (λ made. MatchResult made (λ named. resolved g.now ≡ Ok named) (λ reason. IsUnnamed g.now (reason_of reason))) }
+    ensures { AnswersOrSays result (λ named. resolved g.now ≡ Ok named) (λ reason. IsUnnamed g.now (reason_of reason)) }
 {
     match resolve(alloc, g) {
-        Ok(named) => Ok(Ok(named)),
-        Err(NameFault::Memory) => Err(AllocError),
-        Err(fault) => Ok(Err(name_reason(alloc, fault)?)),
+        Ok(named) => Ok(named),
+        Err(NameFault::Memory) => Err(Early::Memory),
+        Err(fault) => Err(Early::Said(name_reason(alloc, fault)?)),
     }
 }
 
-fn core_in(alloc: Global, g: &Grammar, c: Completed) -> Result<Result<Core, Reason>, AllocError>
-    ensures { IfOk result (λ made. MatchResult made (λ core. OrdersAndTouches c (Ok core)) (λ reason. IsUnordered g.now c (reason_of reason))) }
+fn core_in(alloc: Global, g: &Grammar, c: Completed) -> Result<Core, Early<Reason>>
+    ensures { AnswersOrSays result (λ core. OrdersAndTouches c (Ok core)) (λ reason. IsUnordered g.now c (reason_of reason)) }
 {
-    match ordered_in(alloc, g, c)? {
-        Ok(core) => touching(alloc, g, core),
-        Err(reason) => Ok(Err(reason)),
-    }
+    let core = ordered_in(alloc, g, c)?;
+    touching(alloc, g, core)
 }
 
-fn ordered_in(alloc: Global, g: &Grammar, c: Completed) -> Result<Result<Core, Reason>, AllocError>
-    ensures { IfOk result (λ made. MatchResult made (λ core. Orders c (Ok core)) (λ reason. IsStuck g.now c (reason_of reason))) }
+fn ordered_in(alloc: Global, g: &Grammar, c: Completed) -> Result<Core, Early<Reason>>
+    ensures { AnswersOrSays result (λ core. Orders c (Ok core)) (λ reason. IsStuck g.now c (reason_of reason)) }
 {
     let heads = heads(alloc, c.rules())?;
     match order(alloc, c) {
         Ok(core) => {
             good(&core);
-            Ok(Ok(core))
+            Ok(core)
         }
         Err(OrderFault::Circular { rule, alt, term }) => {
             let name = head_at(&heads, rule);
-            Ok(Err(stuck(alloc, g, name, TermAt { rule, alt, term })?))
+            let reason = stuck(alloc, g, name, TermAt { rule, alt, term })?;
+            Err(Early::Said(reason))
         }
-        Err(OrderFault::Memory) => Err(AllocError),
+        Err(OrderFault::Memory) => Err(Early::Memory),
     }
 }
 
@@ -151,15 +146,16 @@ fn head_at(heads: &[Vec<u8>], rule: u32) -> &[u8]
 }
 
 /// The grammar, or the reason of its first loose repetition.
-fn touching(alloc: Global, g: &Grammar, core: Core) -> Result<Result<Core, Reason>, AllocError>
-    ensures { IfOk result (λ made. MatchResult made (λ same. Touches core (Ok same)) (λ reason. IsLoose g.now core (reason_of reason))) }
+fn touching(alloc: Global, g: &Grammar, core: Core) -> Result<Core, Early<Reason>>
+    ensures { AnswersOrSays result (λ same. Touches core (Ok same)) (λ reason. IsLoose g.now core (reason_of reason)) }
 {
     let marks = must_touch(alloc, &core)?;
     match loose(&core, &marks) {
-        None => Ok(Ok(core)),
+        None => Ok(core),
         Some((rule, alt, term)) => {
             let name = rule_name(core.rules(), rule);
-            Ok(Err(without_touch(alloc, g, name, TermAt { rule, alt, term })?))
+            let reason = without_touch(alloc, g, name, TermAt { rule, alt, term })?;
+            Err(Early::Said(reason))
         }
     }
 }

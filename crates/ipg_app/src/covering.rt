@@ -5,11 +5,13 @@ ghost use Rattle.ipg_app.specs.Covering.{CoverSays, place_words, at_words, eoi_w
 ghost use Rattle.ipg_app.specs.declared.status.Status.TheVariants.{Refused};
 ghost use Rattle.ipg_app.specs.Said.{line_said};
 ghost use Rattle.ipg_app.specs.Found.{Says};
+ghost use Rattle.ipg_app.specs.Early.{IsSaid};
 ghost use Rattle.ipg_app.specs.Lines.{said_of};
 ghost use Rattle.ipg_app.specs.Reply.{cover};
 
 use crate::checks::accepted;
 use crate::core_of::rule_name;
+use crate::early::Early;
 use crate::said::{Settled, line};
 use crate::status::Status;
 use ipg_core::accepted::{Checked, Core};
@@ -18,13 +20,11 @@ use itoa::Buffer;
 use std::alloc::{AllocError, Global};
 
 /// What `cover` says.
-pub fn say_cover(alloc: Global, core: Core) -> Result<Settled, AllocError>
-    ensures { IfOk result (λ settled. Says (cover core) (said_of settled)) }
+pub fn say_cover(alloc: Global, core: Core) -> Result<Settled, Early<Settled>>
+    ensures { IsSaid result (Says (cover core)) }
 {
-    match accepted(alloc, core)? {
-        Ok((grammar, _)) => covered(alloc, &grammar),
-        Err(settled) => Ok(settled),
-    }
+    let (grammar, _) = accepted(alloc, core)?;
+    Ok(covered(alloc, &grammar)?)
 }
 
 /// What is said of a grammar by which parsing ends.

@@ -1,8 +1,9 @@
 //! Where and why a grammar is refused, for a person.
-ghost use Rattle.std.specs.Prelude.{◌≡◌, ◌++◌, Ok, Err, Some, IfOk, MatchResult, OnOk};
+ghost use Rattle.std.specs.Prelude.{◌≡◌, ◌++◌, Ok, Err, Some, IfOk, OnOk};
 ghost use Rattle.std.specs.Option.{option_map, option_copied};
 ghost use Rattle.ipg_names.specs.Readable.{IsReadable};
 ghost use Rattle.ipg_term.specs.Loops.{IsReason, Loops};
+ghost use Rattle.ipg_app.specs.Early.{AnswersOrSays};
 ghost use Rattle.ipg_app.specs.Explained.{Explains, explained_said};
 ghost use Rattle.ipg_app.specs.Followed.{Clears};
 ghost use Rattle.ipg_app.specs.Lines.{said_of};
@@ -11,6 +12,7 @@ ghost use Rattle.ipg_app_explain.specs.Terms.{call_place};
 ghost use Rattle.ipg_app.specs.Seen.{ClearsCore, ClearsGrammar, reason_of};
 
 use crate::core_of::core_or_reason;
+use crate::early::Early;
 use crate::looping::{length_of, may_loop};
 use crate::reasons::{Reason, read_reason};
 use crate::said::{Settled, line};
@@ -59,9 +61,10 @@ pub fn told(alloc: Global, name: &str, text: &[u8], reason: &Reason) -> Result<S
 fn judged(alloc: Global, text: &[u8]) -> Result<Option<Reason>, AllocError>
     ensures { IfOk result (λ reason. Judged text.now (option_map reason_of reason)) }
 {
-    match clear(alloc, text)? {
+    match clear(alloc, text) {
         Ok(_) => Ok(None),
-        Err(reason) => Ok(Some(reason)),
+        Err(Early::Said(reason)) => Ok(Some(reason)),
+        Err(Early::Memory) => Err(AllocError),
     }
 }
 
@@ -73,33 +76,32 @@ pub struct Cleared {
 }
 
 /// The grammar of a text and its core grammar, by which parsing ends; or the reason against it.
-pub fn clear(alloc: Global, text: &[u8]) -> Result<Result<Cleared, Reason>, AllocError>
-    ensures { IfOk result (λ made. MatchResult made (λ made. Clears text.now (Ok (made.grammar, made.core)))
-        (λ reason. Clears text.now (Err (reason_of reason)))) }
+pub fn clear(alloc: Global, text: &[u8]) -> Result<Cleared, Early<Reason>>
+    ensures { AnswersOrSays result (λ made. Clears text.now (Ok (made.grammar, made.core))) (λ reason. Clears text.now (Err (reason_of reason))) }
 {
     match texts::grammar_in(alloc, text) {
         Ok(g) => clear_grammar(alloc, g),
-        Err(ReadFault::Memory) => Err(AllocError),
-        Err(fault) => Ok(Err(read_reason(alloc, &fault)?)),
+        Err(ReadFault::Memory) => Err(Early::Memory),
+        Err(fault) => Err(Early::Said(read_reason(alloc, &fault)?)),
     }
 }
 
-fn clear_grammar(alloc: Global, g: Grammar) -> Result<Result<Cleared, Reason>, AllocError>
+fn clear_grammar(alloc: Global, g: Grammar) -> Result<Cleared, Early<Reason>>
     requires { IsReadable g }
-    ensures { IfOk result (λ made. MatchResult made (λ made. ClearsGrammar g made.grammar made.core) (λ reason. IsRefused g (reason_of reason))) }
+    ensures { AnswersOrSays result (λ made. ClearsGrammar g made.grammar made.core) (λ reason. IsRefused g (reason_of reason)) }
 {
-    match core_or_reason(alloc, &g)? {
-        Ok(core) => clear_core(alloc, g, core),
-        Err(reason) => Ok(Err(reason)),
-    }
+    let core = core_or_reason(alloc, &g)?;
+    clear_core(alloc, g, core)
 }
 
-fn clear_core(alloc: Global, g: Grammar, core: Core) -> Result<Result<Cleared, Reason>, AllocError>
-    ensures { IfOk result (λ made. MatchResult made (λ made. ClearsCore g core made.grammar made.core) (λ reason. IsCycle g core (reason_of reason))) }
+fn clear_core(alloc: Global, g: Grammar, core: Core) -> Result<Cleared, Early<Reason>>
+    ensures { AnswersOrSays result (λ made. ClearsCore g core made.grammar made.core) (λ reason. IsCycle g core (reason_of reason)) }
 {
     match check(alloc, core) {
-        Ok((core, _)) => Ok(Ok(Cleared { grammar: g, core })),
-        Err(TermFault { grammar, why }) => Ok(Err(cycle_reason(alloc, &g, &grammar, &why)?)),
+        Ok((core, _)) => Ok(Cleared { grammar: g, core }),
+        Err(TermFault { grammar, why }) => {
+            Err(Early::Said(cycle_reason(alloc, &g, &grammar, &why)?))
+        }
     }
 }
 

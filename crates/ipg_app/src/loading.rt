@@ -1,8 +1,10 @@
 //! The grammar of a table file.
-ghost use Rattle.std.specs.Prelude.{◌≡◌, Some, Ok, Err, IfOk, MatchResult};
+ghost use Rattle.std.specs.Prelude.{◌≡◌, Some, Ok, Err, IfOk};
+ghost use Rattle.ipg_app.specs.Early.{AnswersOrSays};
 ghost use Rattle.ipg_app.specs.Lines.{said_of};
 ghost use Rattle.ipg_app.specs.Tables.{Loads, load_said};
 
+use crate::early::Early;
 use crate::said::{Settled, line};
 use crate::status::Status;
 use crate::verifying::bad_proof;
@@ -11,12 +13,12 @@ use ipg_store::{LoadFault, loaded};
 use std::alloc::{AllocError, Global};
 
 /// The grammar that a table file holds, or what is said of a file that holds none.
-pub fn held_in(alloc: Global, file: &[u8]) -> Result<Result<Checked, Settled>, AllocError>
-    ensures { IfOk result (λ made. MatchResult made (λ g. Loads file.now (Ok g)) (λ settled. Loads file.now (Err (said_of settled)))) }
+pub fn held_in(alloc: Global, file: &[u8]) -> Result<Checked, Early<Settled>>
+    ensures { AnswersOrSays result (λ g. Loads file.now (Ok g)) (λ settled. Loads file.now (Err (said_of settled))) }
 {
     match loaded(alloc, file) {
-        Ok(grammar) => Ok(Ok(grammar)),
-        Err(fault) => Ok(Err(refused(alloc, fault)?)),
+        Ok(grammar) => Ok(grammar),
+        Err(fault) => Err(Early::Said(refused(alloc, fault)?)),
     }
 }
 

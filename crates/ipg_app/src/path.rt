@@ -1,8 +1,10 @@
 //! The path of a text.
-ghost use Rattle.std.specs.Prelude.{◌≡◌, Ok, Err, IfOk, MatchResult};
+ghost use Rattle.std.specs.Prelude.{◌≡◌, Ok, Err, IfOk};
+ghost use Rattle.ipg_app.specs.Early.{AnswersOrSays};
 ghost use Rattle.ipg_app.specs.Lines.{said_of};
 ghost use Rattle.ipg_app.specs.Path.{ReadsPath, query_syntax};
 
+use crate::early::Early;
 use crate::said::{Settled, line};
 use crate::status::Status;
 use ipg_query_path::{Query, QueryFault, read};
@@ -20,12 +22,12 @@ fn syntax(alloc: Global, at: u64) -> Result<Settled, AllocError>
 }
 
 /// The path that a text is, or what is said of one that is none.
-pub fn path_in(alloc: Global, text: &str) -> Result<Result<Query, Settled>, AllocError>
-    ensures { IfOk result (λ made. MatchResult made (λ query. ReadsPath text.now (Ok query)) (λ settled. ReadsPath text.now (Err (said_of settled)))) }
+pub fn path_in(alloc: Global, text: &str) -> Result<Query, Early<Settled>>
+    ensures { AnswersOrSays result (λ query. ReadsPath text.now (Ok query)) (λ settled. ReadsPath text.now (Err (said_of settled))) }
 {
     match read(alloc, text.as_bytes()) {
-        Ok(query) => Ok(Ok(query)),
-        Err(QueryFault::QuerySyntax { at }) => Ok(Err(syntax(alloc, at)?)),
-        Err(QueryFault::Memory) => Err(AllocError),
+        Ok(query) => Ok(query),
+        Err(QueryFault::QuerySyntax { at }) => Err(Early::Said(syntax(alloc, at)?)),
+        Err(QueryFault::Memory) => Err(Early::Memory),
     }
 }

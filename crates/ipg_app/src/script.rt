@@ -1,8 +1,10 @@
 //! The edits of a script.
-ghost use Rattle.std.specs.Prelude.{◌≡◌, Ok, Err, IfOk, MatchResult};
+ghost use Rattle.std.specs.Prelude.{◌≡◌, Ok, Err, IfOk};
+ghost use Rattle.ipg_app.specs.Early.{AnswersOrSays};
 ghost use Rattle.ipg_app.specs.Lines.{said_of};
 ghost use Rattle.ipg_app.specs.Editing.{ReadsScript, edit_text};
 
+use crate::early::Early;
 use crate::said::{Settled, line};
 use crate::status::Status;
 use ipg_edit_script::{Edit, ScriptFault, read};
@@ -21,12 +23,12 @@ fn no_script(alloc: Global, at: u64) -> Result<Settled, AllocError>
 }
 
 /// The edits that a text is a script of, or what is said of one that is none.
-pub fn script_in(alloc: Global, text: &[u8]) -> Result<Result<List<Edit>, Settled>, AllocError>
-    ensures { IfOk result (λ made. MatchResult made (λ edits. ReadsScript text.now (Ok edits)) (λ settled. ReadsScript text.now (Err (said_of settled)))) }
+pub fn script_in(alloc: Global, text: &[u8]) -> Result<List<Edit>, Early<Settled>>
+    ensures { AnswersOrSays result (λ edits. ReadsScript text.now (Ok edits)) (λ settled. ReadsScript text.now (Err (said_of settled))) }
 {
     match read(alloc, text) {
-        Ok(edits) => Ok(Ok(edits)),
-        Err(ScriptFault::EditText { at }) => Ok(Err(no_script(alloc, at)?)),
-        Err(ScriptFault::Memory) => Err(AllocError),
+        Ok(edits) => Ok(edits),
+        Err(ScriptFault::EditText { at }) => Err(Early::Said(no_script(alloc, at)?)),
+        Err(ScriptFault::Memory) => Err(Early::Memory),
     }
 }

@@ -1,59 +1,47 @@
 //! What is to be said, settled before anything is written.
-ghost use Rattle.std.specs.Prelude.{◌≡◌, ◌<◌, ◌≤◌, ◌^◌, ℕ, List, length, map, None, option_map, Ok, Err, IfOk, MatchResult};
+ghost use Rattle.std.specs.Prelude.{◌≡◌, ◌<◌, ◌≤◌, ◌^◌, ℕ, List, length, map, option_map, IfOk};
 ghost use Rattle.std.specs.String.{string_bytes};
 ghost use Rattle.std.specs.List.{AllByRecursion};
-ghost use Rattle.ipg_ast.specs.Shape.{IsFlat};
-ghost use Rattle.ipg_names.specs.Readable.{IsReadable};
-ghost use Rattle.ipg_formats.specs.Text.{text_of};
-ghost use Rattle.ipg_app.specs.CoreOf.{CoreOf};
-ghost use Rattle.ipg_store_body.specs.Fits.{NestsRule};
-ghost use Rattle.ipg_app.specs.Reply.{grammar_of, core_of, formatted, parse_input, parse, verify, fmt, query, view, picked_view, load};
-ghost use Rattle.ipg_app.specs.Reply.{load_in, use_order, order_by, order_of, task_of};
-ghost use Rattle.ipg_app.specs.Reply.{edit, edit_file, edit_input, edits_of, explain, explain_grammar, explain_input, explain_text, follow};
+ghost use Rattle.ipg_app.specs.Early.{IsSaid};
 ghost use Rattle.ipg_app.specs.Explained.{Refuses};
 ghost use Rattle.ipg_app.specs.Followed.{Follows, subject};
-ghost use Rattle.ipg_app.specs.Run.{Settles};
-ghost use Rattle.ipg_app_words.specs.Seen as words;
-ghost use Rattle.ipg_app.specs.Found.{Found, FoundCore, Says, explain_in_file, explain_input_in_file, grammar_in_file, core_in_file, silence};
 ghost use Rattle.ipg_app.specs.Lines.{said_of};
+ghost use Rattle.ipg_app.specs.Reply.{parse_input, parse, verify, fmt, query, view, picked_view, load, load_in, use_order, order_by, order_of, task_of, Parse};
+ghost use Rattle.ipg_app.specs.Reply.{edit, edit_file, edit_input, edits_of, explain, explain_by, explain_text, follow};
+ghost use Rattle.ipg_app.specs.Run.{Settles};
+ghost use Rattle.ipg_app.specs.Settled.{IsReplied, IsSettled, remember_of, task_seen};
+ghost use Rattle.ipg_app_words.specs.Seen as words;
 ghost use Rattle.ipg_outside.specs.Files.{Told};
-ghost use Rattle.ipg_app.specs.Settled.{IsSettled, IsUnread, remember_of, task_seen};
+ghost use Rattle.ipg_store_body.specs.Fits.{NestsRule};
 
 use crate::answering::Room;
 use crate::checks::{accepted, say_cert, say_check, say_table};
-use crate::core_of::{core_in_text, core_of};
 use crate::covering::say_cover;
+use crate::early::Early;
 use crate::editing::DueEdits;
 use crate::explaining::{Cleared, clear, explain_text, told};
 use crate::following::follow;
 use crate::formatting::format;
-use crate::grammar::grammar_in;
 use crate::helping::{say_help, say_version};
+use crate::input::input_in_file;
 use crate::loading::held_in;
 use crate::path::path_in;
 use crate::reasons::read_reason;
-use crate::refusal::refusal;
 use crate::reply::{Due, Reply};
-use crate::said::{Settled, line, usage};
+use crate::said::{Settled, usage};
 use crate::script::script_in;
-use crate::status::Status;
 use crate::task::{Show, Task};
+use crate::text::{core_of_text, grammar_of, text_under};
 use crate::trial::trial;
 use crate::verifying::judge;
 use ipg_app_explain::{Source, Subject};
 use ipg_app_words::{Asked, Memo, Wanted, request};
-use ipg_ast::Grammar;
 use ipg_core::accepted::{Checked, Core};
-use ipg_formats::{Kind, kind_named, text};
 use ipg_mach::Remember;
-use ipg_outside::{FileFault, Files};
+use ipg_outside::Files;
 use ipg_read_tokens::ReadFault;
 use ipg_store_depth_laws::laws::text_is_shallow;
 use std::alloc::{AllocError, Global};
-
-const MAX_TEXT: u64 = 1 << 20;
-
-const MAX_INPUT: u64 = 1 << 30;
 
 /// Where the words say nothing of the memo and the heap.
 const TREE_ROOM: Room = Room {
@@ -64,6 +52,21 @@ const TREE_ROOM: Room = Room {
 /// Answers in order: to the words, to the grammar, and then what the grammar is wanted for.
 pub fn settle<F: Files>(alloc: Global, words: &[String], files: &mut F) -> Result<Reply, AllocError>
     ensures settled { IfOk result (IsSettled (F.told files.old) (F.faults files.old) (F.faults files.new) (order_of (map string_bytes words.now))) }
+    ensures told { (n : List ℕ) → F.told files.new n ≡ F.told files.old n }
+{
+    match settle_words(alloc, words, files) {
+        Ok(reply) => Ok(reply),
+        Err(Early::Said(settled)) => Ok(Reply::Text(settled)),
+        Err(Early::Memory) => Err(AllocError),
+    }
+}
+
+fn settle_words<F: Files>(
+    alloc: Global,
+    words: &[String],
+    files: &mut F,
+) -> Result<Reply, Early<Settled>>
+    ensures settled { IsReplied (F.told files.old) (F.faults files.old) (F.faults files.new) (order_of (map string_bytes words.now)) result }
     ensures told { (n : List ℕ) → F.told files.new n ≡ F.told files.old n }
 {
     match request(alloc, words)? {
@@ -107,22 +110,25 @@ fn task_of(task: Wanted<'_>) -> Task<'_>
             },
             show: Show::Lines,
         },
-        Wanted::Rebuild { input } => Task::Parse {
-            input,
-            room: TREE_ROOM,
-            show: Show::Bytes,
-        },
-        Wanted::Json { input } => Task::Parse {
-            input,
-            room: TREE_ROOM,
-            show: Show::Json,
-        },
+        Wanted::Rebuild { input } => shown(input, Show::Bytes),
+        Wanted::Json { input } => shown(input, Show::Json),
         Wanted::Check => Task::Check,
         Wanted::Cert => Task::Cert,
         Wanted::Verify { certificate } => Task::Verify { certificate },
         Wanted::Table => Task::Table,
         Wanted::Cover => Task::Cover,
         Wanted::Edit { input, script } => Task::Edit { input, script },
+    }
+}
+
+/// A parse of which this is shown.
+fn shown(input: &str, show: Show) -> Task<'_>
+    ensures { task_seen result ≡ Parse show input.now }
+{
+    Task::Parse {
+        input,
+        room: TREE_ROOM,
+        show,
     }
 }
 
@@ -133,21 +139,12 @@ fn settle_query<F: Files>(
     input: &str,
     path: &str,
     files: &mut F,
-) -> Result<Reply, AllocError>
-    ensures settled { IfOk result (IsSettled (F.told files.old) (F.faults files.old) (F.faults files.new) (query grammar.now input.now path.now)) }
+) -> Result<Reply, Early<Settled>>
+    ensures settled { IsReplied (F.told files.old) (F.faults files.old) (F.faults files.new) (query grammar.now input.now path.now) result }
     ensures told { (n : List ℕ) → F.told files.new n ≡ F.told files.old n }
 {
-    match path_in(alloc, path)? {
-        Ok(path) => {
-            let task = Task::Parse {
-                input,
-                room: TREE_ROOM,
-                show: Show::Picked(path),
-            };
-            settle_use(alloc, grammar, task, files)
-        }
-        Err(settled) => Ok(Reply::Text(settled)),
-    }
+    let path = path_in(alloc, path)?;
+    settle_use(alloc, grammar, shown(input, Show::Picked(path)), files)
 }
 
 fn settle_view<F: Files>(
@@ -156,32 +153,15 @@ fn settle_view<F: Files>(
     input: &str,
     path: Option<&str>,
     files: &mut F,
-) -> Result<Reply, AllocError>
-    ensures settled { IfOk result (IsSettled (F.told files.old) (F.faults files.old) (F.faults files.new)
-        (view grammar.now input.now (option_map (λ text. text.now) path.entry))) }
+) -> Result<Reply, Early<Settled>>
+    ensures settled { IsReplied (F.told files.old) (F.faults files.old) (F.faults files.new)
+        (view grammar.now input.now (option_map (λ text. text.now) path.entry)) result }
     ensures told { (n : List ℕ) → F.told files.new n ≡ F.told files.old n }
 {
     match path {
-        None => settle_whole_view(alloc, grammar, input, files),
+        None => settle_use(alloc, grammar, shown(input, Show::View), files),
         Some(path) => settle_picked_view(alloc, grammar, input, path, files),
     }
-}
-
-fn settle_whole_view<F: Files>(
-    alloc: Global,
-    grammar: &str,
-    input: &str,
-    files: &mut F,
-) -> Result<Reply, AllocError>
-    ensures settled { IfOk result (IsSettled (F.told files.old) (F.faults files.old) (F.faults files.new) (view grammar.now input.now None)) }
-    ensures told { (n : List ℕ) → F.told files.new n ≡ F.told files.old n }
-{
-    let task = Task::Parse {
-        input,
-        room: TREE_ROOM,
-        show: Show::View,
-    };
-    settle_use(alloc, grammar, task, files)
 }
 
 /// The path is read before the grammar.
@@ -191,21 +171,12 @@ fn settle_picked_view<F: Files>(
     input: &str,
     path: &str,
     files: &mut F,
-) -> Result<Reply, AllocError>
-    ensures settled { IfOk result (IsSettled (F.told files.old) (F.faults files.old) (F.faults files.new) (picked_view grammar.now input.now path.now)) }
+) -> Result<Reply, Early<Settled>>
+    ensures settled { IsReplied (F.told files.old) (F.faults files.old) (F.faults files.new) (picked_view grammar.now input.now path.now) result }
     ensures told { (n : List ℕ) → F.told files.new n ≡ F.told files.old n }
 {
-    match path_in(alloc, path)? {
-        Ok(path) => {
-            let task = Task::Parse {
-                input,
-                room: TREE_ROOM,
-                show: Show::PickedView(path),
-            };
-            settle_use(alloc, grammar, task, files)
-        }
-        Err(settled) => Ok(Reply::Text(settled)),
-    }
+    let path = path_in(alloc, path)?;
+    settle_use(alloc, grammar, shown(input, Show::PickedView(path)), files)
 }
 
 fn settle_load<F: Files>(
@@ -213,14 +184,12 @@ fn settle_load<F: Files>(
     table: &str,
     input: &str,
     files: &mut F,
-) -> Result<Reply, AllocError>
-    ensures settled { IfOk result (IsSettled (F.told files.old) (F.faults files.old) (F.faults files.new) (load table.now input.now)) }
+) -> Result<Reply, Early<Settled>>
+    ensures settled { IsReplied (F.told files.old) (F.faults files.old) (F.faults files.new) (load table.now input.now) result }
     ensures told { (n : List ℕ) → F.told files.new n ≡ F.told files.old n }
 {
-    match files.read_all(alloc, table, MAX_INPUT) {
-        Ok(file) => load_in(alloc, &file, input, files),
-        Err(fault) => Ok(Reply::Text(unread(alloc, fault)?)),
-    }
+    let file = input_in_file(alloc, table, files)?;
+    load_in(alloc, &file, input, files)
 }
 
 /// An input is parsed by the grammar of a table file.
@@ -229,14 +198,12 @@ fn load_in<F: Files>(
     file: &[u8],
     input: &str,
     files: &mut F,
-) -> Result<Reply, AllocError>
-    ensures settled { IfOk result (IsSettled (F.told files.old) (F.faults files.old) (F.faults files.new) (load_in input.now file.now)) }
+) -> Result<Reply, Early<Settled>>
+    ensures settled { IsReplied (F.told files.old) (F.faults files.old) (F.faults files.new) (load_in input.now file.now) result }
     ensures told { (n : List ℕ) → F.told files.new n ≡ F.told files.old n }
 {
-    match held_in(alloc, file)? {
-        Ok(grammar) => parse_input(alloc, grammar, input, TREE_ROOM, Show::Lines, files),
-        Err(settled) => Ok(Reply::Text(settled)),
-    }
+    let grammar = held_in(alloc, file)?;
+    parse_input(alloc, grammar, input, TREE_ROOM, Show::Lines, files)
 }
 
 fn settle_use<F: Files>(
@@ -244,78 +211,27 @@ fn settle_use<F: Files>(
     grammar: &str,
     task: Task<'_>,
     files: &mut F,
-) -> Result<Reply, AllocError>
-    ensures settled { IfOk result (IsSettled (F.told files.old) (F.faults files.old) (F.faults files.new) (use_order grammar.now (task_seen task.entry))) }
-    ensures told { (n : List ℕ) → F.told files.new n ≡ F.told files.old n }
-{
-    match kind_named(grammar) {
-        Some(kind) => use_built_in(alloc, kind, task, files),
-        None => use_file(alloc, grammar, task, files),
-    }
-}
-
-fn use_built_in<F: Files>(
-    alloc: Global,
-    kind: Kind,
-    task: Task<'_>,
-    files: &mut F,
-) -> Result<Reply, AllocError>
-    ensures settled { IfOk result (IsSettled (F.told files.old) (F.faults files.old) (F.faults files.new)
-        (core_of (text_of kind) (order_by (task_seen task.entry)))) }
+) -> Result<Reply, Early<Settled>>
+    ensures settled { IsReplied (F.told files.old) (F.faults files.old) (F.faults files.new) (use_order grammar.now (task_seen task.entry)) result }
     ensures told { (n : List ℕ) → F.told files.new n ≡ F.told files.old n }
 {
     text_is_shallow();
-    match core_in_text(alloc, text(kind))? {
-        Ok(core) => settle_task(alloc, core, task, files),
-        Err(settled) => Ok(Reply::Text(settled)),
-    }
+    let text = text_under(alloc, grammar, files)?;
+    let core = core_of_text(alloc, &text)?;
+    settle_task(alloc, core, task, files)
 }
 
-fn use_file<F: Files>(
+fn settle_fmt<F: Files>(
     alloc: Global,
-    name: &str,
-    task: Task<'_>,
+    grammar: &str,
     files: &mut F,
-) -> Result<Reply, AllocError>
-    ensures settled { IfOk result (IsSettled (F.told files.old) (F.faults files.old) (F.faults files.new)
-        (core_in_file name.now (order_by (task_seen task.entry)))) }
+) -> Result<Settled, Early<Settled>>
+    ensures settled { IsSaid result (Settles (F.told files.old) (F.faults files.old) (F.faults files.new) (fmt grammar.now)) }
     ensures told { (n : List ℕ) → F.told files.new n ≡ F.told files.old n }
 {
-    text_is_shallow();
-    match core_in_file(alloc, name, files)? {
-        Ok(core) => settle_task(alloc, core, task, files),
-        Err(settled) => Ok(Reply::Text(settled)),
-    }
-}
-
-fn settle_fmt<F: Files>(alloc: Global, grammar: &str, files: &mut F) -> Result<Settled, AllocError>
-    ensures settled { IfOk result (λ settled. Settles (F.told files.old) (F.faults files.old) (F.faults files.new) (fmt grammar.now) (said_of settled)) }
-    ensures told { (n : List ℕ) → F.told files.new n ≡ F.told files.old n }
-{
-    match kind_named(grammar) {
-        Some(kind) => fmt_built_in(alloc, kind),
-        None => fmt_file(alloc, grammar, files),
-    }
-}
-
-fn fmt_built_in(alloc: Global, kind: Kind) -> Result<Settled, AllocError>
-    ensures { IfOk result (λ settled. Says (grammar_of (text_of kind) formatted) (said_of settled)) }
-{
-    match grammar_in(alloc, text(kind))? {
-        Ok(g) => format(alloc, &g),
-        Err(settled) => Ok(settled),
-    }
-}
-
-fn fmt_file<F: Files>(alloc: Global, name: &str, files: &mut F) -> Result<Settled, AllocError>
-    ensures settled { IfOk result (λ settled. Settles (F.told files.old) (F.faults files.old) (F.faults files.new) (grammar_in_file name.now formatted)
-        (said_of settled)) }
-    ensures told { (n : List ℕ) → F.told files.new n ≡ F.told files.old n }
-{
-    match grammar_in_file(alloc, name, files)? {
-        Ok(grammar) => format(alloc, &grammar),
-        Err(settled) => Ok(settled),
-    }
+    let text = text_under(alloc, grammar, files)?;
+    let grammar = grammar_of(alloc, &text)?;
+    Ok(format(alloc, &grammar)?)
 }
 
 fn settle_explain<F: Files>(
@@ -323,42 +239,15 @@ fn settle_explain<F: Files>(
     grammar: &str,
     input: Option<&str>,
     files: &mut F,
-) -> Result<Settled, AllocError>
-    ensures settled { IfOk result (λ settled. Settles (F.told files.old) (F.faults files.old) (F.faults files.new)
-        (explain grammar.now (option_map (λ text. text.now) input.entry)) (said_of settled)) }
+) -> Result<Settled, Early<Settled>>
+    ensures settled { IsSaid result (Settles (F.told files.old) (F.faults files.old) (F.faults files.new)
+        (explain grammar.now (option_map (λ text. text.now) input.entry))) }
     ensures told { (n : List ℕ) → F.told files.new n ≡ F.told files.old n }
 {
-    match input {
-        None => explain_grammar(alloc, grammar, files),
-        Some(input) => explain_input(alloc, grammar, input, files),
-    }
-}
-
-fn explain_grammar<F: Files>(
-    alloc: Global,
-    grammar: &str,
-    files: &mut F,
-) -> Result<Settled, AllocError>
-    ensures settled { IfOk result (λ settled. Settles (F.told files.old) (F.faults files.old) (F.faults files.new) (explain_grammar grammar.now)
-        (said_of settled)) }
-    ensures told { (n : List ℕ) → F.told files.new n ≡ F.told files.old n }
-{
-    match kind_named(grammar) {
-        Some(kind) => explain_text(alloc, grammar, text(kind)),
-        None => explain_file(alloc, grammar, files),
-    }
-}
-
-fn explain_file<F: Files>(alloc: Global, name: &str, files: &mut F) -> Result<Settled, AllocError>
-    ensures settled { IfOk result (λ settled. Settles (F.told files.old) (F.faults files.old) (F.faults files.new)
-        (explain_in_file name.now) (said_of settled)) }
-    ensures told { (n : List ℕ) → F.told files.new n ≡ F.told files.old n }
-{
-    match files.read_all(alloc, name, MAX_TEXT) {
-        Ok(text) => explain_text(alloc, name, &text),
-        Err(FileFault::Failed) => line(alloc, Status::ReadFault, b"read fault"),
-        Err(FileFault::TooLarge(_)) => explain_too_long(alloc, name),
-        Err(FileFault::Memory) => Err(AllocError),
+    let text = text_under(alloc, grammar, files)?;
+    match text.bytes() {
+        Some(text) => explain_by(alloc, grammar, text, input, files),
+        None => Ok(explain_too_long(alloc, grammar)?),
     }
 }
 
@@ -370,37 +259,21 @@ fn explain_too_long(alloc: Global, name: &str) -> Result<Settled, AllocError>
     told(alloc, name, b"", &reason)
 }
 
-fn explain_input<F: Files>(
-    alloc: Global,
-    grammar: &str,
-    input: &str,
-    files: &mut F,
-) -> Result<Settled, AllocError>
-    ensures settled { IfOk result (λ settled. Settles (F.told files.old) (F.faults files.old) (F.faults files.new)
-        (explain_input grammar.now input.now) (said_of settled)) }
-    ensures told { (n : List ℕ) → F.told files.new n ≡ F.told files.old n }
-{
-    match kind_named(grammar) {
-        Some(kind) => follow_text(alloc, grammar, text(kind), input, files),
-        None => follow_file(alloc, grammar, input, files),
-    }
-}
-
-fn follow_file<F: Files>(
+/// What is said of a text under a name, or of an input by its grammar.
+fn explain_by<F: Files>(
     alloc: Global,
     name: &str,
-    input: &str,
+    text: &[u8],
+    input: Option<&str>,
     files: &mut F,
-) -> Result<Settled, AllocError>
-    ensures settled { IfOk result (λ settled. Settles (F.told files.old) (F.faults files.old) (F.faults files.new)
-        (explain_input_in_file name.now input.now) (said_of settled)) }
+) -> Result<Settled, Early<Settled>>
+    ensures settled { IsSaid result (Settles (F.told files.old) (F.faults files.old) (F.faults files.new)
+        (explain_by name.now (option_map (λ text. text.now) input.entry) text.now)) }
     ensures told { (n : List ℕ) → F.told files.new n ≡ F.told files.old n }
 {
-    match files.read_all(alloc, name, MAX_TEXT) {
-        Ok(text) => follow_text(alloc, name, &text, input, files),
-        Err(FileFault::Failed) => line(alloc, Status::ReadFault, b"read fault"),
-        Err(FileFault::TooLarge(_)) => explain_too_long(alloc, name),
-        Err(FileFault::Memory) => Err(AllocError),
+    match input {
+        None => Ok(explain_text(alloc, name, text)?),
+        Some(input) => follow_text(alloc, name, text, input, files),
     }
 }
 
@@ -411,15 +284,14 @@ fn follow_text<F: Files>(
     text: &[u8],
     input: &str,
     files: &mut F,
-) -> Result<Settled, AllocError>
-    ensures settled { IfOk result (λ settled. Settles (F.told files.old) (F.faults files.old) (F.faults files.new)
-        (explain_text name.now input.now text.now) (said_of settled)) }
+) -> Result<Settled, Early<Settled>>
+    ensures settled { IsSaid result (Settles (F.told files.old) (F.faults files.old) (F.faults files.new) (explain_text name.now input.now text.now)) }
     ensures told { (n : List ℕ) → F.told files.new n ≡ F.told files.old n }
-    ensures counts { (n : List ℕ) → F.faults files.old n ≤ F.faults files.new n }
 {
-    match clear(alloc, text)? {
+    match clear(alloc, text) {
         Ok(made) => follow_input(alloc, name, text, &made, input, files),
-        Err(reason) => told(alloc, name, text, &reason),
+        Err(Early::Said(reason)) => Ok(told(alloc, name, text, &reason)?),
+        Err(Early::Memory) => Err(Early::Memory),
     }
 }
 
@@ -430,16 +302,13 @@ fn follow_input<F: Files>(
     made: &Cleared,
     input: &str,
     files: &mut F,
-) -> Result<Settled, AllocError>
-    ensures settled { IfOk result (λ settled. Settles (F.told files.old) (F.faults files.old) (F.faults files.new)
-        (follow name.now text.now input.now (made.now.grammar, made.now.core)) (said_of settled)) }
+) -> Result<Settled, Early<Settled>>
+    ensures settled { IsSaid result (Settles (F.told files.old) (F.faults files.old) (F.faults files.new)
+        (follow name.now text.now input.now (made.now.grammar, made.now.core))) }
     ensures told { (n : List ℕ) → F.told files.new n ≡ F.told files.old n }
-    ensures counts { (n : List ℕ) → F.faults files.old n ≤ F.faults files.new n }
 {
-    match files.read_all(alloc, input, MAX_INPUT) {
-        Ok(input) => follow_bytes(alloc, name, text, made, &input),
-        Err(fault) => unread(alloc, fault),
-    }
+    let input = input_in_file(alloc, input, files)?;
+    Ok(follow_bytes(alloc, name, text, made, &input)?)
 }
 
 fn follow_bytes(
@@ -463,52 +332,14 @@ fn follow_bytes(
     follow(alloc, subject, &made.core)
 }
 
-/// The core grammar of the text under a name, or what is said where it can't be read or has none.
-fn core_in_file<F: Files>(
-    alloc: Global,
-    name: &str,
-    files: &mut F,
-) -> Result<Result<Core, Settled>, AllocError>
-    ensures found { IfOk result (λ made. MatchResult made (λ core. FoundCore (F.told files.old name.now) core)
-        (λ settled. Settles (F.told files.old) (F.faults files.old) (F.faults files.new) (core_in_file name.now (λ g. silence)) (said_of settled))) }
-    ensures told { (n : List ℕ) → F.told files.new n ≡ F.told files.old n }
-    ensures counts { (n : List ℕ) → F.faults files.old n ≤ F.faults files.new n }
-{
-    match grammar_in_file(alloc, name, files)? {
-        Ok(grammar) => core_of(alloc, &grammar),
-        Err(settled) => Ok(Err(settled)),
-    }
-}
-
-/// The grammar under a name, or what is said where it can't be read or is none.
-fn grammar_in_file<F: Files>(
-    alloc: Global,
-    name: &str,
-    files: &mut F,
-) -> Result<Result<Grammar, Settled>, AllocError>
-    ensures found { IfOk result (λ read. MatchResult read (Found (F.told files.old name.now))
-        (λ settled. Settles (F.told files.old) (F.faults files.old) (F.faults files.new) (grammar_in_file name.now (λ g. silence)) (said_of settled))) }
-    ensures readable { IfOk result (λ read. IfOk read IsReadable) }
-    ensures flat { IfOk result (λ read. IfOk read IsFlat) }
-    ensures told { (n : List ℕ) → F.told files.new n ≡ F.told files.old n }
-    ensures counts { (n : List ℕ) → F.faults files.old n ≤ F.faults files.new n }
-{
-    match files.read_all(alloc, name, MAX_TEXT) {
-        Ok(text) => grammar_in(alloc, &text),
-        Err(FileFault::Failed) => Ok(Err(line(alloc, Status::ReadFault, b"read fault")?)),
-        Err(FileFault::TooLarge(_)) => Ok(Err(refusal(alloc, &ReadFault::TooLong)?)),
-        Err(FileFault::Memory) => Err(AllocError),
-    }
-}
-
 fn settle_task<F: Files>(
     alloc: Global,
     core: Core,
     task: Task<'_>,
     files: &mut F,
-) -> Result<Reply, AllocError>
+) -> Result<Reply, Early<Settled>>
     requires { AllByRecursion NestsRule core.rules }
-    ensures settled { IfOk result (IsSettled (F.told files.old) (F.faults files.old) (F.faults files.new) (order_by (task_seen task.entry) core)) }
+    ensures settled { IsReplied (F.told files.old) (F.faults files.old) (F.faults files.new) (order_by (task_seen task.entry) core) result }
     ensures told { (n : List ℕ) → F.told files.new n ≡ F.told files.old n }
 {
     match task {
@@ -540,14 +371,12 @@ fn parse_by<F: Files>(
     room: Room,
     show: Show,
     files: &mut F,
-) -> Result<Reply, AllocError>
-    ensures settled { IfOk result (IsSettled (F.told files.old) (F.faults files.old) (F.faults files.new) (parse show input.now core)) }
+) -> Result<Reply, Early<Settled>>
+    ensures settled { IsReplied (F.told files.old) (F.faults files.old) (F.faults files.new) (parse show input.now core) result }
     ensures told { (n : List ℕ) → F.told files.new n ≡ F.told files.old n }
 {
-    match accepted(alloc, core)? {
-        Ok((checked, _)) => parse_input(alloc, checked, input, room, show, files),
-        Err(settled) => Ok(Reply::Text(settled)),
-    }
+    let (checked, _) = accepted(alloc, core)?;
+    parse_input(alloc, checked, input, room, show, files)
 }
 
 fn parse_input<F: Files>(
@@ -557,19 +386,17 @@ fn parse_input<F: Files>(
     room: Room,
     show: Show,
     files: &mut F,
-) -> Result<Reply, AllocError>
-    ensures settled { IfOk result (IsSettled (F.told files.old) (F.faults files.old) (F.faults files.new) (parse_input show input.now grammar)) }
+) -> Result<Reply, Early<Settled>>
+    ensures settled { IsReplied (F.told files.old) (F.faults files.old) (F.faults files.new) (parse_input show input.now grammar) result }
     ensures told { (n : List ℕ) → F.told files.new n ≡ F.told files.old n }
 {
-    match files.read_all(alloc, input, MAX_INPUT) {
-        Ok(input) => Ok(Reply::Parse(Due {
-            grammar,
-            input,
-            room,
-            show,
-        })),
-        Err(fault) => Ok(Reply::Text(unread(alloc, fault)?)),
-    }
+    let input = input_in_file(alloc, input, files)?;
+    Ok(Reply::Parse(Due {
+        grammar,
+        input,
+        room,
+        show,
+    }))
 }
 
 fn edit_by<F: Files>(
@@ -578,14 +405,12 @@ fn edit_by<F: Files>(
     input: &str,
     script: &str,
     files: &mut F,
-) -> Result<Reply, AllocError>
-    ensures settled { IfOk result (IsSettled (F.told files.old) (F.faults files.old) (F.faults files.new) (edit input.now script.now core)) }
+) -> Result<Reply, Early<Settled>>
+    ensures settled { IsReplied (F.told files.old) (F.faults files.old) (F.faults files.new) (edit input.now script.now core) result }
     ensures told { (n : List ℕ) → F.told files.new n ≡ F.told files.old n }
 {
-    match accepted(alloc, core)? {
-        Ok((checked, _)) => edit_file(alloc, checked, input, script, files),
-        Err(settled) => Ok(Reply::Text(settled)),
-    }
+    let (checked, _) = accepted(alloc, core)?;
+    edit_file(alloc, checked, input, script, files)
 }
 
 /// The input is read before the script.
@@ -595,14 +420,12 @@ fn edit_file<F: Files>(
     input: &str,
     script: &str,
     files: &mut F,
-) -> Result<Reply, AllocError>
-    ensures settled { IfOk result (IsSettled (F.told files.old) (F.faults files.old) (F.faults files.new) (edit_file input.now script.now grammar)) }
+) -> Result<Reply, Early<Settled>>
+    ensures settled { IsReplied (F.told files.old) (F.faults files.old) (F.faults files.new) (edit_file input.now script.now grammar) result }
     ensures told { (n : List ℕ) → F.told files.new n ≡ F.told files.old n }
 {
-    match files.read_all(alloc, input, MAX_INPUT) {
-        Ok(input) => edit_input(alloc, grammar, input, script, files),
-        Err(fault) => Ok(Reply::Text(unread(alloc, fault)?)),
-    }
+    let input = input_in_file(alloc, input, files)?;
+    edit_input(alloc, grammar, input, script, files)
 }
 
 fn edit_input<F: Files>(
@@ -611,15 +434,13 @@ fn edit_input<F: Files>(
     input: Vec<u8>,
     script: &str,
     files: &mut F,
-) -> Result<Reply, AllocError>
+) -> Result<Reply, Early<Settled>>
     requires { length input.items ≤ 2 ^ 30 }
-    ensures settled { IfOk result (IsSettled (F.told files.old) (F.faults files.old) (F.faults files.new) (edit_input script.now grammar input.items)) }
+    ensures settled { IsReplied (F.told files.old) (F.faults files.old) (F.faults files.new) (edit_input script.now grammar input.items) result }
     ensures told { (n : List ℕ) → F.told files.new n ≡ F.told files.old n }
 {
-    match files.read_all(alloc, script, MAX_INPUT) {
-        Ok(text) => edits_of(alloc, grammar, input, &text),
-        Err(fault) => Ok(Reply::Text(unread(alloc, fault)?)),
-    }
+    let text = input_in_file(alloc, script, files)?;
+    edits_of(alloc, grammar, input, &text)
 }
 
 /// The edits of a script are to be made.
@@ -628,30 +449,16 @@ fn edits_of(
     grammar: Checked,
     input: Vec<u8>,
     text: &[u8],
-) -> Result<Reply, AllocError>
+) -> Result<Reply, Early<Settled>>
     requires { length input.items ≤ 2 ^ 30 }
-    ensures { IfOk result (λ reply. (told : List ℕ → Told) (before after : List ℕ → ℕ)
-        → IsSettled told before after (edits_of text.now grammar input.items) reply) }
+    ensures { (told : List ℕ → Told) (before after : List ℕ → ℕ) → IsReplied told before after (edits_of text.now grammar input.items) result }
 {
-    match script_in(alloc, text)? {
-        Ok(edits) => Ok(Reply::Edits(DueEdits {
-            grammar,
-            input,
-            edits,
-        })),
-        Err(settled) => Ok(Reply::Text(settled)),
-    }
-}
-
-/// What is said of a file that was not read.
-fn unread(alloc: Global, fault: FileFault) -> Result<Settled, AllocError>
-    ensures { IfOk result (λ settled. IsUnread fault (said_of settled)) }
-{
-    match fault {
-        FileFault::Failed => line(alloc, Status::ReadFault, b"read fault"),
-        FileFault::TooLarge(_) => line(alloc, Status::TooLarge, b"too large"),
-        FileFault::Memory => Err(AllocError),
-    }
+    let edits = script_in(alloc, text)?;
+    Ok(Reply::Edits(DueEdits {
+        grammar,
+        input,
+        edits,
+    }))
 }
 
 fn verify_by<F: Files>(
@@ -659,13 +466,10 @@ fn verify_by<F: Files>(
     core: Core,
     certificate: &str,
     files: &mut F,
-) -> Result<Settled, AllocError>
-    ensures settled { IfOk result (λ settled. Settles (F.told files.old) (F.faults files.old) (F.faults files.new)
-        (verify certificate.now core) (said_of settled)) }
+) -> Result<Settled, Early<Settled>>
+    ensures settled { IsSaid result (Settles (F.told files.old) (F.faults files.old) (F.faults files.new) (verify certificate.now core)) }
     ensures told { (n : List ℕ) → F.told files.new n ≡ F.told files.old n }
 {
-    match files.read_all(alloc, certificate, MAX_INPUT) {
-        Ok(bytes) => judge(alloc, core, &bytes),
-        Err(fault) => unread(alloc, fault),
-    }
+    let text = input_in_file(alloc, certificate, files)?;
+    judge(alloc, core, &text)
 }

@@ -3,6 +3,7 @@ ghost use Rattle.std.specs.Prelude.{◌≡◌, ◌≤◌, ◌++◌, ℕ, List, l
 ghost use Rattle.ipg_formats.specs.Sample.{sample_of};
 ghost use Rattle.ipg_formats.specs.Text.{text_of};
 ghost use Rattle.ipg_app.specs.Found.{Says};
+ghost use Rattle.ipg_app.specs.Early.{IsSaid};
 ghost use Rattle.ipg_app.specs.Lines.{said_of};
 ghost use Rattle.ipg_app.specs.Said.{done_line};
 ghost use Rattle.ipg_app.specs.Reply as spec;
@@ -10,6 +11,7 @@ ghost use Rattle.ipg_app.specs.Trial.{Tries, kind_by, or_usage, max_parts, size_
 
 use crate::checks::accepted;
 use crate::core_of::core_in_text;
+use crate::early::Early;
 use crate::measuring::{Measured, Size, measure};
 use crate::said::{Settled, line, usage};
 use crate::status::Status;
@@ -23,12 +25,12 @@ const MAX_PARTS: u32 = 10_000;
 const TRIAL_MIB: u32 = 512;
 
 /// What is said of a trial of the format with this name on a sample with so many parts.
-pub fn trial(alloc: Global, name: &str, parts: u32) -> Result<Settled, AllocError>
-    ensures { IfOk result (λ settled. Says (spec.trial name.now parts) (said_of settled)) }
+pub fn trial(alloc: Global, name: &str, parts: u32) -> Result<Settled, Early<Settled>>
+    ensures { IsSaid result (Says (spec.trial name.now parts)) }
 {
     match kind_by(name) {
         Some(kind) => trial_of(alloc, name, kind, parts),
-        None => usage(alloc),
+        None => Ok(usage(alloc)?),
     }
 }
 
@@ -44,16 +46,14 @@ fn kind_by(name: &str) -> Option<Kind>
     }
 }
 
-fn trial_of(alloc: Global, name: &str, kind: Kind, parts: u32) -> Result<Settled, AllocError>
-    ensures { IfOk result (λ settled. Says (spec.trial_of name.now parts kind) (said_of settled)) }
+fn trial_of(alloc: Global, name: &str, kind: Kind, parts: u32) -> Result<Settled, Early<Settled>>
+    ensures { IsSaid result (Says (spec.trial_of name.now parts kind)) }
 {
     if parts > MAX_PARTS {
-        return usage(alloc);
+        return Ok(usage(alloc)?);
     }
-    match core_in_text(alloc, text(kind))? {
-        Ok(core) => try_core(alloc, name, kind, core, parts),
-        Err(settled) => Ok(settled),
-    }
+    let core = core_in_text(alloc, text(kind))?;
+    try_core(alloc, name, kind, core, parts)
 }
 
 fn try_core(
@@ -62,14 +62,12 @@ fn try_core(
     kind: Kind,
     core: Core,
     parts: u32,
-) -> Result<Settled, AllocError>
+) -> Result<Settled, Early<Settled>>
     requires { parts ≤ max_parts }
-    ensures { IfOk result (λ settled. Says (spec.try_core name.now kind parts core) (said_of settled)) }
+    ensures { IsSaid result (Says (spec.try_core name.now kind parts core)) }
 {
-    match accepted(alloc, core)? {
-        Ok((checked, _)) => tried(alloc, name, kind, &checked, parts),
-        Err(settled) => Ok(settled),
-    }
+    let (checked, _) = accepted(alloc, core)?;
+    Ok(tried(alloc, name, kind, &checked, parts)?)
 }
 
 fn tried(

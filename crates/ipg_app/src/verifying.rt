@@ -1,12 +1,14 @@
 //! Verifies that a certificate proves a core grammar.
-ghost use Rattle.std.specs.Prelude.{◌≡◌, ◌++◌, decimal, Some, Ok, Err, IfOk, MatchResult};
+ghost use Rattle.std.specs.Prelude.{◌≡◌, ◌++◌, decimal, Some, Ok, Err, IfOk};
 ghost use Rattle.ipg_app.specs.declared.status.Status.TheVariants.{BadProof};
 ghost use Rattle.ipg_app.specs.Said.{line_said};
 ghost use Rattle.ipg_app.specs.Certificate.{Reads, Judges, proof_said};
 ghost use Rattle.ipg_app.specs.Reply.{judge};
 ghost use Rattle.ipg_app.specs.Found.{Says};
+ghost use Rattle.ipg_app.specs.Early.{AnswersOrSays, IsSaid};
 ghost use Rattle.ipg_app.specs.Lines.{said_of};
 
+use crate::early::Early;
 use crate::said::{Settled, line};
 use crate::status::Status;
 use ipg_core::accepted::Core;
@@ -15,22 +17,22 @@ use itoa::Buffer;
 use std::alloc::{AllocError, Global};
 
 /// What is said of a certificate's text: C1 to C3, or that it proves the grammar.
-pub fn judge(alloc: Global, core: Core, text: &[u8]) -> Result<Settled, AllocError>
-    ensures { IfOk result (λ settled. Says (judge text.now core) (said_of settled)) }
+pub fn judge(alloc: Global, core: Core, text: &[u8]) -> Result<Settled, Early<Settled>>
+    ensures { IsSaid result (Says (judge text.now core)) }
 {
-    match certificate_in(alloc, text)? {
-        Ok(certificate) => judged(alloc, core, &certificate),
-        Err(settled) => Ok(settled),
-    }
+    let certificate = certificate_in(alloc, text)?;
+    Ok(judged(alloc, core, &certificate)?)
 }
 
-fn certificate_in(alloc: Global, text: &[u8]) -> Result<Result<Certificate, Settled>, AllocError>
-    ensures { IfOk result (λ read. MatchResult read (λ c. Reads text.now (Ok c)) (λ settled. Reads text.now (Err (said_of settled)))) }
+fn certificate_in(alloc: Global, text: &[u8]) -> Result<Certificate, Early<Settled>>
+    ensures { AnswersOrSays result (λ c. Reads text.now (Ok c)) (λ settled. Reads text.now (Err (said_of settled))) }
 {
     match cert_read(alloc, text) {
-        Ok(certificate) => Ok(Ok(certificate)),
-        Err(CertFault::CertText { at }) => Ok(Err(bad_proof(alloc, b"refused C1 CertText ", at)?)),
-        Err(CertFault::Memory) => Err(AllocError),
+        Ok(certificate) => Ok(certificate),
+        Err(CertFault::CertText { at }) => {
+            Err(Early::Said(bad_proof(alloc, b"refused C1 CertText ", at)?))
+        }
+        Err(CertFault::Memory) => Err(Early::Memory),
     }
 }
 

@@ -8,7 +8,7 @@ ghost use Rattle.ipg_c_trees.specs.Given as spec;
 ghost use Rattle.ipg_c_trees.specs.Given.{IsAccepted, IsRefused};
 
 use crate::given::text_of;
-use ipg_app::{accepted, core_in_text};
+use ipg_app::{Early, accepted, core_in_text};
 use ipg_core::accepted::{Checked, Core};
 use ipg_table::tables::{Tables, compile};
 use std::alloc::{AllocError, Global};
@@ -63,9 +63,10 @@ fn compiled(alloc: Global, grammar: Checked) -> Result<Format, AllocError>
 fn of_core(alloc: Global, core: Core) -> Result<Option<Format>, AllocError>
     ensures { IfOk result (λ made. MatchOption made ((said : Said) × IsLoop core said) (λ f. (f ≡ core) × Checks core (Ok core))) }
 {
-    match accepted(alloc, core)? {
+    match accepted(alloc, core) {
         Ok((grammar, _)) => Ok(Some(compiled(alloc, grammar)?)),
-        Err(_) => Ok(None),
+        Err(Early::Said(_)) => Ok(None),
+        Err(Early::Memory) => Err(AllocError),
     }
 }
 
@@ -73,8 +74,9 @@ fn of_core(alloc: Global, core: Core) -> Result<Option<Format>, AllocError>
 pub fn format_of(alloc: Global, given: &[u8]) -> Result<Option<Format>, AllocError>
     ensures { IfOk result (λ made. MatchOption made (IsRefused (spec.text_of given.now)) (λ f. IsAccepted (spec.text_of given.now) f)) }
 {
-    match core_in_text(alloc, text_of(given))? {
+    match core_in_text(alloc, text_of(given)) {
         Ok(core) => of_core(alloc, core),
-        Err(_) => Ok(None),
+        Err(Early::Said(_)) => Ok(None),
+        Err(Early::Memory) => Err(AllocError),
     }
 }

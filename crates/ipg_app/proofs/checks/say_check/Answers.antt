@@ -1,22 +1,15 @@
-use Rattle.std.proofs.Common.{◌≡◌, Ok, Err, codes, refl}
-use Rattle.std.proofs.lemmas.Result.{IfOk-weaker}
-use Rattle.ipg_app.specs.Said.{done_line}
+use Rattle.std.proofs.Common.{Ok, Err, refl}
 use Rattle.ipg_app.specs.Checks.{Checks}
 use Rattle.ipg_app.specs.Reply.{check}
 use Rattle.ipg_app.specs.Found.{Says}
-use Rattle.ipg_app.specs.Lines.{said_of}
+use Rattle.ipg_app.proofs.Instead.{said_exits}
 use Rattle.ipg_app.proofs.checks.say_check.Goals as goal
 
-pub returns-in-Ok : goal.returns-in-Ok
-returns-in-Ok c =
+pub returns-in_err-accepted : goal.returns-in_err-accepted
+returns-in_err-accepted c =
     let core = c.args.core in
-    let same = c.in-Ok.field-0.0 in
-    let checks : Checks core (Ok same) = rw c.in-Ok.is at c.in_ok-accepted.ensures.checks in
-    IfOk-weaker c.line.result (λ s. said_of s ≡ done_line (codes "accepted")) (λ s. Says (check core) (said_of s)) (λ s e told. (Ok same, checks, e))
-    c.line.ensures
+    said_exits c.from_residual.result c.in_err-accepted.field-0.0 (λ said. Checks core (Err said)) (Says (check core)) c.from_residual.ensures.1
+    (λ said h told. (Err said, h, refl)) c.in_err-accepted.ensures.checks
 
 pub returns : goal.returns
-returns c =
-    let said = said_of c.in-Err.settled in
-    let checks : Checks c.args.core (Err said) = rw c.in-Err.is at c.in_ok-accepted.ensures.checks in
-    λ told. (Err said, checks, refl)
+returns c = λ told. (Ok c.in_ok-accepted.field-0.0, c.in_ok-accepted.ensures.checks, c.in_ok-line.ensures)

@@ -22,5 +22,5 @@ returns-in-Err-Circular c =
     let head : c.head_at-name.result.now ≡ name_at heads rule = c.head_at-name.ensures ∙ ap (λ xs. name_at (map line_bytes xs) rule) c.deref.ensures.value in
     let first : IsFirstStuck (core_of c.args.c) (rule, alt) term = rw c.in-Err-Circular.field-0-is at c.in-Err-Circular.ensures.err in
     let named : _ → Reason = λ name. record { said = circular name alt term; why = why.Circular; places = listed (term_place g rule alt term); notes = [] } in
-    stuck g c.args.c rule alt term heads (reason_of c.in_ok-stuck-in-Err-Circular.field-0) same first
-    (c.in_ok-stuck-in-Err-Circular.ensures ∙ ap named head)
+    stuck g c.args.c rule alt term heads (reason_of c.in_ok-reason-in-Err-Circular.reason) same first
+    (c.in_ok-reason-in-Err-Circular.ensures ∙ ap named head)

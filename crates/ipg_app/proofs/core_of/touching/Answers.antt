@@ -1,4 +1,4 @@
-use Rattle.std.proofs.Common.{◌≡◌, [], sym, ◌∙◌, ap, ℕ, List, slice_get}
+use Rattle.std.proofs.Common.{[], sym, ◌∙◌, ap, ℕ, List, slice_get}
 use Rattle.ipg_touch.specs.Loose.{loose}
 use Rattle.ipg_app_explain.specs.declared.why.Why.TheVariants as why
 use Rattle.ipg_app_explain.specs.Terms.{term_place}
@@ -7,8 +7,8 @@ use Rattle.ipg_app.specs.Refusal.{no_touch}
 use Rattle.ipg_app.specs.Reasons.{Reason, listed}
 use Rattle.ipg_app.proofs.core_of.touching.Goals as goal
 
-pub returns-in_ok-without_touch-in-Some : goal.returns-in_ok-without_touch-in-Some
-returns-in_ok-without_touch-in-Some c =
+pub returns-in_ok-reason-in-Some : goal.returns-in_ok-reason-in-Some
+returns-in_ok-reason-in-Some c =
     let core = c.args.core in
     let rule = c.in-Some.rule in
     let alt = c.in-Some.alt in
@@ -20,5 +20,5 @@ returns-in_ok-without_touch-in-Some c =
       limit = c.in_ok-marks.ensures.limit;
       at = (rule, alt, term);
       found = sym (c.in-Some.ensures.first ∙ ap (λ marks. loose marks core.rules) c.deref.ensures.value);
-      is = c.in_ok-without_touch-in-Some.ensures ∙ ap named (c.rule_name-name.ensures ∙ ap (λ rules. name_of (slice_get rules rule)) c.rules.ensures.rules);
+      is = c.in_ok-reason-in-Some.ensures ∙ ap named (c.rule_name-name.ensures ∙ ap (λ rules. name_of (slice_get rules rule)) c.rules.ensures.rules);
     }

@@ -1,22 +1,15 @@
 use Rattle.std.proofs.Common.{Ok, Err, refl}
-use Rattle.std.proofs.lemmas.Result.{IfOk-weaker}
 use Rattle.ipg_app.specs.Checks.{Checks}
-use Rattle.ipg_app.specs.Covering.{CoverSays}
 use Rattle.ipg_app.specs.Reply.{cover}
 use Rattle.ipg_app.specs.Found.{Says}
-use Rattle.ipg_app.specs.Lines.{said_of}
+use Rattle.ipg_app.proofs.Instead.{said_exits}
 use Rattle.ipg_app.proofs.covering.say_cover.Goals as goal
 
-pub returns-in-Ok : goal.returns-in-Ok
-returns-in-Ok c =
+pub returns-in_err-grammar : goal.returns-in_err-grammar
+returns-in_err-grammar c =
     let core = c.args.core in
-    let same = c.in-Ok.grammar in
-    let checks : Checks core (Ok same) = rw c.in-Ok.is at c.in_ok-grammar.ensures.checks in
-    IfOk-weaker c.covered.result (λ s. CoverSays same (said_of s)) (λ s. Says (cover core) (said_of s)) (λ s e told. (Ok same, checks, e))
-    c.covered.ensures
+    said_exits c.from_residual.result c.in_err-grammar.field-0.0 (λ said. Checks core (Err said)) (Says (cover core)) c.from_residual.ensures.1
+    (λ said h told. (Err said, h, refl)) c.in_err-grammar.ensures.checks
 
 pub returns : goal.returns
-returns c =
-    let said = said_of c.in-Err.settled in
-    let checks : Checks c.args.core (Err said) = rw c.in-Err.is at c.in_ok-grammar.ensures.checks in
-    λ told. (Err said, checks, refl)
+returns c = λ told. (Ok c.in_ok-grammar.grammar, c.in_ok-grammar.ensures.checks, c.in_ok-covered.ensures)

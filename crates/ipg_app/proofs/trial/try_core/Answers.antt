@@ -1,25 +1,15 @@
 use Rattle.std.proofs.Common.{Ok, Err, refl}
-use Rattle.std.proofs.lemmas.Result.{IfOk-weaker}
 use Rattle.ipg_app.specs.Checks.{Checks}
-use Rattle.ipg_app.specs.Found.{Says}
-use Rattle.ipg_app.specs.Lines.{said_of}
 use Rattle.ipg_app.specs.Reply.{try_core}
-use Rattle.ipg_app.specs.Trial.{Tries}
+use Rattle.ipg_app.specs.Found.{Says}
+use Rattle.ipg_app.proofs.Instead.{said_exits}
 use Rattle.ipg_app.proofs.trial.try_core.Goals as goal
 
-pub returns-in-Ok : goal.returns-in-Ok
-returns-in-Ok c =
-    let name = c.args.name.now in
-    let kind = c.args.kind in
-    let parts = c.args.parts in
+pub returns-in_err-checked : goal.returns-in_err-checked
+returns-in_err-checked c =
     let core = c.args.core in
-    let same = c.in-Ok.checked in
-    let checks : Checks core (Ok same) = rw c.in-Ok.is at c.in_ok-checked.ensures.checks in
-    IfOk-weaker c.tried.result (λ s. Tries name kind parts same (said_of s)) (λ s. Says (try_core name kind parts core) (said_of s))
-    (λ s h told. (Ok same, checks, h)) c.tried.ensures
+    said_exits c.from_residual.result c.in_err-checked.field-0.0 (λ said. Checks core (Err said)) (Says (try_core c.args.name.now c.args.kind c.args.parts core)) c.from_residual.ensures.1
+    (λ said h told. (Err said, h, refl)) c.in_err-checked.ensures.checks
 
 pub returns : goal.returns
-returns c =
-    let said = said_of c.in-Err.settled in
-    let checks : Checks c.args.core (Err said) = rw c.in-Err.is at c.in_ok-checked.ensures.checks in
-    λ told. (Err said, checks, refl)
+returns c = λ told. (Ok c.in_ok-checked.checked, c.in_ok-checked.ensures.checks, c.in_ok-tried.ensures)

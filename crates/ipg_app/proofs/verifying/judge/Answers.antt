@@ -1,22 +1,15 @@
 use Rattle.std.proofs.Common.{Ok, Err, refl}
-use Rattle.std.proofs.lemmas.Result.{IfOk-weaker}
-use Rattle.ipg_app.specs.Certificate.{Reads, Judges}
+use Rattle.ipg_app.specs.Certificate.{Reads}
 use Rattle.ipg_app.specs.Reply.{judge}
 use Rattle.ipg_app.specs.Found.{Says}
-use Rattle.ipg_app.specs.Lines.{said_of}
+use Rattle.ipg_app.proofs.Instead.{said_exits}
 use Rattle.ipg_app.proofs.verifying.judge.Goals as goal
 
-pub returns-in-Ok : goal.returns-in-Ok
-returns-in-Ok c =
+pub returns-in_err-certificate : goal.returns-in_err-certificate
+returns-in_err-certificate c =
     let text = c.args.text.now in
-    let core = c.args.core in
-    let certificate = c.in-Ok.certificate in
-    let reads : Reads text (Ok certificate) = rw c.in-Ok.is at c.in_ok-certificate.ensures in
-    IfOk-weaker c.judged.result (λ s. Judges core certificate (said_of s)) (λ s. Says (judge text core) (said_of s))
-    (λ s h told. (Ok certificate, reads, h)) c.judged.ensures
+    said_exits c.from_residual.result c.in_err-certificate.field-0.0 (λ said. Reads text (Err said)) (Says (judge text c.args.core)) c.from_residual.ensures.1
+    (λ said h told. (Err said, h, refl)) c.in_err-certificate.ensures
 
-pub returns-in-Err : goal.returns-in-Err
-returns-in-Err c =
-    let said = said_of c.in-Err.settled in
-    let reads : Reads c.args.text.now (Err said) = rw c.in-Err.is at c.in_ok-certificate.ensures in
-    λ told. (Err said, reads, refl)
+pub returns : goal.returns
+returns c = λ told. (Ok c.in_ok-certificate.certificate, c.in_ok-certificate.ensures, c.in_ok-judged.ensures)
