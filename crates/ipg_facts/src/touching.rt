@@ -3,6 +3,7 @@
 ghost use Rattle.std.specs.Prelude.{◌≡◌, IfOk, OnOk, ◌++◌, pos, codes};
 ghost use Rattle.ipg_facts_variables.specs.Variable as variables;
 ghost use Rattle.ipg_facts_forms.specs.Form as forms;
+ghost use Rattle.ipg_core.specs.MustTouch.{is_marked};
 ghost use Rattle.ipg_facts.specs.Members as spec;
 ghost use Rattle.ipg_facts.specs.View.{scope_of};
 
@@ -203,11 +204,12 @@ fn put_rule_touches(
     out: &mut Vec<Fact>,
     scope: &Scope,
     taken: &Taken,
-    must: bool,
+    callee: u32,
 ) -> Result<(), AllocError>
-    ensures { OnOk result (out.new.items ≡ out.old.items ++ spec.rule_touches (scope_of scope.now) taken.now.term taken.now.l.now taken.now.r.now must) }
+    ensures { OnOk result (out.new.items ≡ out.old.items ++ spec.rule_touches (scope_of scope.now) taken.now.term taken.now.l.now taken.now.r.now
+        (is_marked (scope_of scope.now).marks callee)) }
 {
-    if must {
+    if is_marked(scope.marks, callee) {
         return put_touches_some(alloc, out, scope, taken.term, taken.l, taken.r);
     }
     let mut some = Vec::new(alloc);
@@ -230,10 +232,7 @@ fn put_touches(
     match sym {
         Sym::Text(bytes) => put_text_touches(alloc, out, scope, taken, bytes.len() as u64),
         Sym::Prim(prim) => put_primitive_touches(alloc, out, scope, taken, *prim),
-        Sym::Rule(callee) => {
-            let must = is_marked(scope.marks, *callee);
-            put_rule_touches(alloc, out, scope, taken, must)
-        }
+        Sym::Rule(callee) => put_rule_touches(alloc, out, scope, taken, *callee),
     }
 }
 

@@ -10,22 +10,19 @@ use ipg_facts_variables::{Shared, Variable, same_variable};
 use ipg_num::List;
 use std::alloc::{AllocError, Global};
 
+/// No sum of forms within their limits comes to such a number.
+const PAST_128_BITS: AllocError = AllocError;
+
 fn sum(a: i128, b: i128) -> Result<i128, AllocError>
     ensures { IfOk result (λ sum. sum ≡ a +ℤ b) }
 {
-    match a.checked_add(b) {
-        Some(sum) => Ok(sum),
-        None => Err(AllocError),
-    }
+    a.checked_add(b).ok_or(PAST_128_BITS)
 }
 
 fn product(a: i128, b: i128) -> Result<i128, AllocError>
     ensures { IfOk result (λ product. product ≡ a *ℤ b) }
 {
-    match a.checked_mul(b) {
-        Some(product) => Ok(product),
-        None => Err(AllocError),
-    }
+    a.checked_mul(b).ok_or(PAST_128_BITS)
 }
 
 /// A variable that carries facts.

@@ -6,6 +6,9 @@ use ipg_lin::{Boxed, Formula, Linear};
 use ipg_num::{List, item_at};
 use std::alloc::{AllocError, Global};
 
+/// No memory holds so many variables.
+const TOO_MANY_VARIABLES: AllocError = AllocError;
+
 /// A variable's number, the others but 0 being `by` further on.
 fn moved(by: u64, variable: u64) -> Result<u64, AllocError>
     ensures { IfOk result (λ moved. moved ≡ spec.moved by variable) }
@@ -13,10 +16,7 @@ fn moved(by: u64, variable: u64) -> Result<u64, AllocError>
     if variable == 0 {
         return Ok(0);
     }
-    match variable.checked_add(by) {
-        Some(moved) => Ok(moved),
-        None => Err(AllocError),
-    }
+    variable.checked_add(by).ok_or(TOO_MANY_VARIABLES)
 }
 
 fn moved_terms(alloc: Global, by: u64, terms: &[(u64, i64)]) -> Result<Vec<(u64, i64)>, AllocError>
@@ -65,10 +65,7 @@ fn behind(before: u64, part: &(Formula, Boxed)) -> Result<u64, AllocError>
 {
     let bounds = part.1.bounds.as_slice().len() as u64;
     let own = if bounds == 0 { 0 } else { bounds - 1 };
-    match before.checked_add(own) {
-        Some(sum) => Ok(sum),
-        None => Err(AllocError),
-    }
+    before.checked_add(own).ok_or(TOO_MANY_VARIABLES)
 }
 
 fn parts_apart(alloc: Global, parts: &[(Formula, Boxed)]) -> Result<List<Formula>, AllocError>

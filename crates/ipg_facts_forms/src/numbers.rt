@@ -11,6 +11,9 @@ use ipg_lin::{Boxed, Formula, Linear};
 use ipg_num::List;
 use std::alloc::{AllocError, Global};
 
+/// A form that leaves the limits counts as want of memory: none is made.
+const PAST_LIMITS: AllocError = AllocError;
+
 /// The variables by their numbers.
 pub type Numbering<'a> = IndexSet<&'a Variable>;
 
@@ -114,13 +117,13 @@ fn numbered(
     Ok(numbered)
 }
 
-/// An atom. A form that leaves the limits answers want of memory: none is made.
+/// An atom.
 pub fn atom(alloc: Global, terms: &[(u64, i64)], constant: i64) -> Result<Formula, AllocError>
     ensures { IfOk result (λ atom. atom ≡ Formula.Atom (record { terms = terms.now; constant = constant })) }
 {
     match Linear::new(alloc, terms, constant) {
         Ok(form) => Ok(Formula::Atom(form)),
-        Err(_) => Err(AllocError),
+        Err(_) => Err(PAST_LIMITS),
     }
 }
 

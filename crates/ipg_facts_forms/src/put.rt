@@ -24,12 +24,15 @@ fn terms_of(alloc: Global, parts: &[Part]) -> Result<List<(Variable, i64)>, Allo
     Ok(List::from_vec(terms))
 }
 
+/// No form within its limits has such a factor.
+const PAST_64_BITS: AllocError = AllocError;
+
 fn narrow(value: i128) -> Result<i64, AllocError>
     ensures { IfOk result (λ narrow. narrow ≡ value) }
 {
     match i64::try_from(value) {
         Ok(value) => Ok(value),
-        Err(_) => Err(AllocError),
+        Err(_) => Err(PAST_64_BITS),
     }
 }
 

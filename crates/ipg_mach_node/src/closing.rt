@@ -52,14 +52,17 @@ fn head(call: &Closing<'_>, ends: Ends) -> Head
     }
 }
 
-/// The levels of a node whose children have so many; 2^32 count as want of memory.
+/// 2^32 levels count as want of memory.
+const TOO_DEEP: AllocError = AllocError;
+
+/// The levels of a node whose children have so many.
 fn above(levels: u64) -> Result<u32, AllocError>
     requires { levels ≤ 2 ^ 32 }
     ensures { IfOk result (λ more. more ≡ levels + 1) }
 {
     match u32::try_from(levels + 1) {
         Ok(more) => Ok(more),
-        Err(_) => Err(AllocError),
+        Err(_) => Err(TOO_DEEP),
     }
 }
 

@@ -35,13 +35,16 @@ impl<A: Allocator> Model for Store<A> {
 /// So many rows at least are asked for at once.
 const CHUNK: u32 = 256;
 
-/// A number of rows; 2^32 count as want of memory.
+/// 2^32 rows count as want of memory.
+const TOO_MANY_ROWS: AllocError = AllocError;
+
+/// A number of rows.
 fn count(rows: usize) -> Result<u32, AllocError>
     ensures { IfOk result (λ count. count ≡ rows) }
 {
     match u32::try_from(rows) {
         Ok(count) => Ok(count),
-        Err(_) => Err(AllocError),
+        Err(_) => Err(TOO_MANY_ROWS),
     }
 }
 

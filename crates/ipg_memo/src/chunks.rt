@@ -7,6 +7,9 @@ use std::marker::Model;
 /// So many chunks there are at most: places of items are numbers of 32 bits.
 const MOST_CHUNKS: usize = 1 << 19;
 
+/// More chunks count as want of memory.
+const TOO_MANY_CHUNKS: AllocError = AllocError;
+
 /// Items in chunks. One is copied only while it grows to its full size, as the first does.
 #[derive(Drop)]
 pub(crate) struct Chunks<T, A: Allocator> {
@@ -117,7 +120,7 @@ impl<T: Copy, A: Allocator + Clone + Drop> Chunks<T, A> {
             return self.chunks[chunks - 1].grow();
         }
         if chunks >= MOST_CHUNKS {
-            return Err(AllocError);
+            return Err(TOO_MANY_CHUNKS);
         }
         let chunk = self.another()?;
         self.chunks.push(chunk)?;

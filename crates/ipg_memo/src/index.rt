@@ -17,6 +17,9 @@ const SIDES: usize = 8;
 /// Places lie below this.
 const PLACES: usize = u32::MAX as usize;
 
+/// More cells or rows than there are places count as want of memory.
+const NO_PLACE: AllocError = AllocError;
+
 /// Keys with their entries, in the order in which they came.
 pub(crate) type Rows<A> = Chunks<(Key, Entry), A>;
 
@@ -188,7 +191,7 @@ impl<A: Allocator + Clone + Drop> Index<A> {
     {
         let begin = self.top.len() + self.under.len();
         if begin >= PLACES {
-            return Err(AllocError);
+            return Err(NO_PLACE);
         }
         widen(&mut self.under)?;
         self.below.set(row, Link::to(begin));
@@ -219,7 +222,7 @@ impl<A: Allocator + Clone + Drop> Index<A> {
         ensures err { OnErr result (ways.StaysParted self.old self.new) }
     {
         if row >= PLACES {
-            return Err(AllocError);
+            return Err(NO_PLACE);
         }
         match end {
             Reached::Vacant(cell) => self.link(cell, row),

@@ -10,6 +10,9 @@ use std::alloc::{AllocError, Global};
 /// How much the conditions of one edge may take, in words of 64 bits: 1.25 GiB. Past it memory is wanting.
 const MOST_ROOM: u64 = 5 << 25;
 
+/// Conditions that take more count as want of memory.
+const TOO_LARGE: AllocError = AllocError;
+
 /// What an atom or a choice takes, but for its variables.
 const ATOM: u64 = 64;
 
@@ -419,7 +422,7 @@ fn of_terms(context: &mut Context, terms: &[CoreTerm], order: &[u32]) -> Put {
 /// Whether all of it is small enough: a form stands in a handful of copies while its facts are put.
 fn has_room(put: Put) -> Result<(), AllocError> {
     if MOST_ROOM < put.stays.saturating_add(put.passes.saturating_mul(4)) {
-        Err(AllocError)
+        Err(TOO_LARGE)
     } else {
         Ok(())
     }

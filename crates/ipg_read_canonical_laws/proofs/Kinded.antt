@@ -9,7 +9,8 @@ use Rattle.ipg_ast.specs.declared.token.TokenKind.TheVariants.{Name, Word, Numbe
 use Rattle.ipg_read_tokens.specs.declared.token.Token.{Token}
 use Rattle.ipg_read_syntax.specs.Classes.{either, both, op, Tok, name, number, text, sign, bang, question, colon, dot, comma, equals, arrow, semicolon}
 use Rattle.ipg_read_syntax.specs.Classes.{left_paren, right_paren, left_bracket, right_bracket, left_brace, right_brace, for_word, to_word, do_word}
-use Rattle.ipg_read_syntax.specs.Classes.{switch_word, case_word, else_word, where_word, start_word, end_word, eoi_word, many_word, stray, word_class, kind_class}
+use Rattle.ipg_read_syntax.specs.Classes.{switch_word, case_word, else_word, where_word, start_word, end_word, eoi_word, many_word}
+use Rattle.ipg_read_syntax.specs.Classes.{stray, word_class, kind_class}
 use Rattle.ipg_read_syntax.specs.Classes.{classes}
 use Rattle.ipg_read_syntax.specs.Written.{Toks}
 use Rattle.ipg_read_syntax.specs.Bare.{no_span, bare_tok, bare_toks}

@@ -8,6 +8,9 @@ use std::marker::Model;
 /// As many items lie in a block at most: each end is a place of 32 bits.
 const MOST_ITEMS: usize = u32::MAX as usize;
 
+/// More items count as want of memory.
+const TOO_MANY_ITEMS: AllocError = AllocError;
+
 /// Runs that lie one after another. The items never move: where their room ends, a block is full.
 #[derive(Drop)]
 pub(crate) struct Block<T, A: Allocator> {
@@ -76,7 +79,7 @@ impl<T: Copy, A: Allocator + Clone + Drop> Block<T, A> {
         ensures { IfOk result (λ block. block ≡ empty_for runs items) }
     {
         if items > MOST_ITEMS {
-            return Err(AllocError);
+            return Err(TOO_MANY_ITEMS);
         }
         let again = alloc.clone()?;
         Ok(Block {

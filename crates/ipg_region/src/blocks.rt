@@ -7,6 +7,9 @@ use std::alloc::{AllocError, Allocator};
 use std::marker::Model;
 use std::mem::replace;
 
+/// More runs than a place can tell count as want of memory.
+const TOO_MANY_RUNS: AllocError = AllocError;
+
 /// Runs in blocks. Only the last block takes more, and it alone has room that counts.
 #[derive(Drop)]
 pub(crate) struct Blocks<T, A: Allocator> {
@@ -113,7 +116,7 @@ impl<T: Copy, A: Allocator + Clone + Drop> Blocks<T, A> {
     {
         let before = self.before + self.last.len();
         if before > isize::MAX as usize {
-            return Err(AllocError);
+            return Err(TOO_MANY_RUNS);
         }
         let block = self.last.larger(runs, items)?;
         if self.last.len() == 0 {

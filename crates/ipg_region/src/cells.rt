@@ -11,6 +11,9 @@ use std::mem::replace;
 /// So many chunks may be full: a place is a number of 32 bits.
 const MOST_FULL: usize = (1 << 19) - 2;
 
+/// More cells count as want of memory.
+const TOO_MANY_CELLS: AllocError = AllocError;
+
 /// Items that stay where they were put, each read by its place in the time of one step.
 #[derive(Drop)]
 pub struct Cells<T, A: Allocator> {
@@ -84,7 +87,7 @@ impl<T: Copy, A: Allocator + Clone + Drop> Cells<T, A> {
             return self.last.grow();
         }
         if self.full.len() >= MOST_FULL {
-            return Err(AllocError);
+            return Err(TOO_MANY_CELLS);
         }
         let chunk = self.last.another()?;
         self.full.reserve(1)?;

@@ -5,6 +5,9 @@ use crate::blocks::Blocks;
 use std::alloc::{AllocError, Allocator};
 use std::marker::Model;
 
+/// More than 2^32 - 1 runs count as want of memory.
+const TOO_MANY_RUNS: AllocError = AllocError;
+
 /// The place of a run in its region.
 #[derive(Clone, Copy, Debug, PartialEq, Eq)]
 pub struct RunId {
@@ -59,7 +62,7 @@ impl<T: Copy, A: Allocator + Clone + Drop> Region<T, A> {
         if runs < (u32::MAX as usize + 1) - self.blocks.len() {
             Ok(())
         } else {
-            Err(AllocError)
+            Err(TOO_MANY_RUNS)
         }
     }
 

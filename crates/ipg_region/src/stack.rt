@@ -11,6 +11,9 @@ const LEAST_ROOM: usize = 16;
 /// How many items the largest blocks have room for.
 const MOST_ROOM: usize = 1 << 12;
 
+/// More items than a place can tell count as want of memory.
+const TOO_MANY_ITEMS: AllocError = AllocError;
+
 /// A block that is full: its last item, and those below.
 #[derive(Drop)]
 pub(crate) struct Full<T, A: Allocator> {
@@ -85,7 +88,7 @@ impl<T: Copy, A: Allocator + Clone + Drop> Stack<T, A> {
     {
         let before = self.before + self.top.len();
         if before > isize::MAX as usize {
-            return Err(AllocError);
+            return Err(TOO_MANY_ITEMS);
         }
         let block = larger(self.top.allocator(), self.top.capacity())?;
         self.full.reserve(1)?;

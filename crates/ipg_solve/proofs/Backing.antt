@@ -4,8 +4,9 @@ use Rattle.std.proofs.lemmas.List.{reverse-append, length-reverse, set-set, set-
 use Rattle.ipg_cert.specs.Facts.{Fact}
 use Rattle.ipg_solve.specs.declared.domain.Domain.{Domain}
 use Rattle.ipg_solve.specs.declared.domain_cut.DomainCut.{DomainCut}
+use Rattle.ipg_solve.specs.declared.halving.HalvingTurn.TheVariants.{More}
 use Rattle.ipg_solve.specs.Domains.{no_domain}
-use Rattle.ipg_solve.specs.Cuts.{side_of, above, domains_after, facts_after, AreCuts, waiting, work_in, work_waiting, Backs}
+use Rattle.ipg_solve.specs.Cuts.{side_of, above, domains_after, facts_after, AreCuts, is_below, waiting, work_in, work_waiting, Backs}
 
 pub reverse_push : {X : Type 0} (xs : List X) (x : X) → reverse (xs ++ x ∷ []) ≡ x ∷ reverse xs
 reverse_push xs x = reverse-append xs (x ∷ [])
@@ -25,7 +26,7 @@ pub record Backing (first : ℕ) (start domains : List Domain) (entry cuts : Lis
   pub work_is : work_waiting first start (reverse entry) ≡ work_waiting first start (reverse cuts)
 
 pub taken_off : (first : ℕ) (start domains new : List Domain) (entry cuts rest : List DomainCut) (cut : DomainCut) → Backing first start domains entry cuts
-    → cuts ≡ rest ++ cut ∷ [] → cut.below ≡ false → new ≡ set domains cut.var cut.old → Backing first start new entry rest
+    → cuts ≡ rest ++ cut ∷ [] → is_below cut.side ≡ false → new ≡ set domains cut.var cut.old → Backing first start new entry rest
 taken_off first start domains new entry cuts rest cut b e upper is =
     let turned : reverse cuts ≡ cut ∷ reverse rest = ap reverse e ∙ reverse_push rest cut in
     let are : AreCuts first start (cut ∷ reverse rest) = subst (AreCuts first start) turned b.cuts_are in
@@ -41,14 +42,14 @@ taken_off first start domains new entry cuts rest cut b e upper is =
 
 pub turned_over : (first : ℕ) (start domains new : List Domain) (entry cuts rest last : List DomainCut) (cut : DomainCut)
     → Backing first start domains entry cuts
-    → cuts ≡ rest ++ cut ∷ [] → cut.below ≡ true → last ≡ rest ++ above cut ∷ []
-    → new ≡ set domains cut.var (side_of (first + length rest) (above cut)) → Backs first start new (reverse entry) (reverse last) true
+    → cuts ≡ rest ++ cut ∷ [] → is_below cut.side ≡ true → last ≡ rest ++ above cut ∷ []
+    → new ≡ set domains cut.var (side_of (first + length rest) (above cut)) → Backs first start new (reverse entry) (reverse last) More
 turned_over first start domains new entry cuts rest last cut b e lower ends is =
     let turned : reverse cuts ≡ cut ∷ reverse rest = ap reverse e ∙ reverse_push rest cut in
     let over : above cut ∷ reverse rest ≡ reverse last = sym (ap reverse ends ∙ reverse_push rest (above cut)) in
     let are : AreCuts first start (cut ∷ reverse rest) = subst (AreCuts first start) turned b.cuts_are in
     let below = domains_after first start (reverse rest) in
-    subst (λ cs. Backs first start new (reverse entry) cs true) over (
+    subst (λ cs. Backs first start new (reverse entry) cs More) over (
       is
           ∙ ap (λ ss. set ss cut.var (side_of (first + length rest) (above cut))) (b.domains_are ∙ ap (domains_after first start) turned)
           ∙ set-set below cut.var (side_of (first + length (reverse rest)) cut) (side_of (first + length rest) (above cut))

@@ -14,7 +14,7 @@ use Rattle.ipg_solve.specs.declared.domain.Domain.{Domain}
 use Rattle.ipg_solve.specs.declared.domain_cut.DomainCut.{DomainCut}
 use Rattle.ipg_solve.specs.Domains.{domain_at, no_domain, width_of, points, AreFull}
 use Rattle.ipg_solve.specs.Closes.{AreDomains, StandAt}
-use Rattle.ipg_solve.specs.Cuts.{start_domains, fact_of_cut, side_of, above, lower, domains_after, facts_after, AreCuts, work, work_in}
+use Rattle.ipg_solve.specs.Cuts.{start_domains, fact_of_cut, side_of, above, lower, domains_after, facts_after, AreCuts, is_below, work, work_in}
 use Rattle.ipg_solve.proofs.Closers.{get_append, get_behind}
 
 -- what holds of each domain, and of the one that is put in, holds of each afterwards
@@ -50,7 +50,7 @@ Stands facts x domain = (slice_get facts domain.low_at ≡ Some (at_least x doma
 side_stands : (facts : List Fact) (n : ℕ) (cut : DomainCut) → n ≡ length facts → Stands facts cut.var cut.old
     → Stands (facts ++ fact_of_cut cut ∷ []) cut.var (side_of n cut)
 side_stands facts n cut e old =
-    elim cut.below as (λ b. Stands (facts ++ cond b (at_most cut.var cut.at) (at_least cut.var (cut.at +ℤ pos 1)) ∷ []) cut.var
+    elim (is_below cut.side) as (λ b. Stands (facts ++ cond b (at_most cut.var cut.at) (at_least cut.var (cut.at +ℤ pos 1)) ∷ []) cut.var
     (cond b (record { low = cut.old.low; low_at = cut.old.low_at; high = cut.at; high_at = n })
     (record { low = cut.at +ℤ pos 1; low_at = n; high = cut.old.high; high_at = cut.old.high_at }))) [
       | true ↦ (
@@ -82,7 +82,7 @@ IsFull x domain = domain.low ≤ℤ domain.high
 
 side_full : (n : ℕ) (cut : DomainCut) → cut.old.low ≤ℤ cut.at → cut.at <ℤ cut.old.high → IsFull cut.var (side_of n cut)
 side_full n cut low high =
-    elim cut.below as (λ b. IsFull cut.var (cond b (record { low = cut.old.low; low_at = cut.old.low_at; high = cut.at; high_at = n })
+    elim (is_below cut.side) as (λ b. IsFull cut.var (cond b (record { low = cut.old.low; low_at = cut.old.low_at; high = cut.at; high_at = n })
     (record { low = cut.at +ℤ pos 1; low_at = n; high = cut.old.high; high_at = cut.old.high_at }))) [
       | true ↦ low
       | false ↦ omega (arith, ints)
@@ -101,7 +101,7 @@ LiesWithin start x domain = ((domain_at start x).low ≤ℤ domain.low) × (doma
 side_within : (start : List Domain) (n : ℕ) (cut : DomainCut) → cut.old.low ≤ℤ cut.at → cut.at <ℤ cut.old.high → LiesWithin start cut.var cut.old
     → LiesWithin start cut.var (side_of n cut)
 side_within start n cut low high old =
-    elim cut.below as (λ b. LiesWithin start cut.var (cond b (record { low = cut.old.low; low_at = cut.old.low_at; high = cut.at; high_at = n })
+    elim (is_below cut.side) as (λ b. LiesWithin start cut.var (cond b (record { low = cut.old.low; low_at = cut.old.low_at; high = cut.at; high_at = n })
     (record { low = cut.at +ℤ pos 1; low_at = n; high = cut.old.high; high_at = cut.old.high_at }))) [
       | true ↦ (old.0, omega (arith, ints, old.1))
       | false ↦ (omega (arith, ints, old.0), old.1)

@@ -1,5 +1,5 @@
 -- A turn of the halving.
-use Rattle.std.proofs.Common.{◌≡◌, ℕ, ◌+◌, ◌<◌, true, false, ◌&&◌, List, [], ◌∷◌, ◌++◌, length, set, reverse, refl, sym, ◌∙◌, ap, subst, arith, append_assoc}
+use Rattle.std.proofs.Common.{◌≡◌, ℕ, ◌+◌, ◌<◌, ◌&&◌, List, [], ◌∷◌, ◌++◌, length, set, reverse, refl, sym, ◌∙◌, ap, subst, arith, append_assoc}
 use Rattle.std.proofs.lemmas.List.{length-reverse, append-nil}
 use borrow.Author.Tests.{lt-ltb}
 use Rattle.ipg_lin.specs.declared.formula.Formula.{Formula}
@@ -10,7 +10,8 @@ use Rattle.ipg_cert.specs.declared.refutation.Step.TheVariants.{Split}
 use Rattle.std.specs.Prelude.{◌≤ℤ◌, ◌<ℤ◌}
 use Rattle.ipg_solve.specs.declared.domain.Domain.{Domain}
 use Rattle.ipg_solve.specs.declared.domain_cut.DomainCut.{DomainCut}
-use Rattle.ipg_solve.specs.declared.halving.HalvingTurn.TheVariants.{More, Refuted}
+use Rattle.ipg_solve.specs.declared.halving.HalvingTurn.{HalvingTurn}
+use Rattle.ipg_solve.specs.declared.halving.HalvingTurn.TheVariants.{More, Solved, Refuted}
 use Rattle.ipg_solve.specs.Domains.{domain_at}
 use Rattle.ipg_solve.specs.Closes.{AreDomains, ClosesFormula, CloseAll}
 use Rattle.ipg_solve.specs.Cuts.{start_domains, side_of, lower, domains_after, facts_after, waiting, work, Leads, Halved, IsCut, Backs, Turns}
@@ -46,7 +47,7 @@ closed_leads f box first n domains cuts old new h e closes more =
 pub back_turns : (f : Formula) (box : Boxed) (first n : ℕ) (domains next : List Domain) (cuts rest : List DomainCut) (old new : List Step)
     → Halved f box first domains (reverse cuts) old → n ≡ length cuts
     → ClosesFormula domains (length box.bounds + length box.bounds) (first + n) f old new
-    → Backs first (start_domains 0 box.bounds) next (reverse cuts) (reverse rest) true → Turns f box first next cuts rest new More
+    → Backs first (start_domains 0 box.bounds) next (reverse cuts) (reverse rest) More → Turns f box first next cuts rest new More
 back_turns f box first n domains next cuts rest old new h e closes backs =
     let root = root_facts f box in
     let leads = closed_leads f box first n domains (reverse cuts) old new h (e ∙ sym (length-reverse cuts)) closes in (
@@ -64,13 +65,22 @@ back_turns f box first n domains next cuts rest old new h e closes backs =
 pub refuted_turns : (f : Formula) (box : Boxed) (first n : ℕ) (domains next : List Domain) (cuts rest : List DomainCut) (old new : List Step)
     → Halved f box first domains (reverse cuts) old → n ≡ length cuts
     → ClosesFormula domains (length box.bounds + length box.bounds) (first + n) f old new
-    → Backs first (start_domains 0 box.bounds) next (reverse cuts) (reverse rest) false → Turns f box first next cuts rest new Refuted
+    → Backs first (start_domains 0 box.bounds) next (reverse cuts) (reverse rest) Refuted → Turns f box first next cuts rest new Refuted
 refuted_turns f box first n domains next cuts rest old new h e closes backs =
     let root = root_facts f box in
     let vars = length box.bounds in
     ap (λ s. refutes vars s (root ∷ [])) (sym (append-nil new))
     ∙ closed_leads f box first n domains (reverse cuts) old new h (e ∙ sym (length-reverse cuts)) closes []
     ∙ ap (refutes vars []) (backs root)
+
+-- either of them
+pub backs_turn : (f : Formula) (box : Boxed) (first n : ℕ) (domains next : List Domain) (cuts rest : List DomainCut) (old new : List Step)
+    → Halved f box first domains (reverse cuts) old → n ≡ length cuts
+    → ClosesFormula domains (length box.bounds + length box.bounds) (first + n) f old new
+    → (turn : HalvingTurn) → Backs first (start_domains 0 box.bounds) next (reverse cuts) (reverse rest) turn → Turns f box first next cuts rest new turn
+backs_turn f box first n domains next cuts rest old new h e closes More backs = back_turns f box first n domains next cuts rest old new h e closes backs
+backs_turn f box first n domains next cuts rest old new h e closes Solved none = absurd none
+backs_turn f box first n domains next cuts rest old new h e closes Refuted backs = refuted_turns f box first n domains next cuts rest old new h e closes backs
 
 -- the part at hand was cut
 pub cut_turns : (f : Formula) (box : Boxed) (first x : ℕ) (domains next : List Domain) (cuts more : List DomainCut) (old new : List Step)

@@ -8,6 +8,8 @@ use Rattle.ipg_cert.specs.Checks.{refutes, root_facts}
 use Rattle.ipg_cert.specs.declared.refutation.Step.{Step}
 use Rattle.ipg_cert.specs.declared.refutation.Step.TheVariants.{Split}
 use Rattle.ipg_solve.specs.declared.domain.Domain.{Domain}
+use Rattle.ipg_solve.specs.declared.domain_cut.CutSide.{CutSide}
+use Rattle.ipg_solve.specs.declared.domain_cut.CutSide.TheVariants.{Below, Above}
 use Rattle.ipg_solve.specs.declared.domain_cut.DomainCut.{DomainCut}
 use Rattle.ipg_solve.specs.declared.halving.HalvingTurn.{HalvingTurn}
 use Rattle.ipg_solve.specs.declared.halving.HalvingTurn.TheVariants.{More, Solved, Refuted}
@@ -19,18 +21,22 @@ abbrev pub start_domains : ℕ → List (ℤ × ℤ) → List Domain
 start_domains x [] = []
 start_domains x (bounds ∷ rest) = record { low = bounds.0; low_at = x + x; high = bounds.1; high_at = x + x + 1 } ∷ start_domains (x + 1) rest
 
+abbrev pub is_below : CutSide → Bool
+is_below Below = true
+is_below Above = false
+
 -- the fact that the side of the cut adds
 abbrev pub fact_of_cut : DomainCut → Fact
-fact_of_cut cut = if cut.below then at_most cut.var cut.at else at_least cut.var (cut.at +ℤ pos 1)
+fact_of_cut cut = if is_below cut.side then at_most cut.var cut.at else at_least cut.var (cut.at +ℤ pos 1)
 
 -- the domain of the cut's variable on its side: n is the number of the cut's fact
 abbrev pub side_of : ℕ → DomainCut → Domain
-side_of n cut = if cut.below then record { low = cut.old.low; low_at = cut.old.low_at; high = cut.at; high_at = n }
+side_of n cut = if is_below cut.side then record { low = cut.old.low; low_at = cut.old.low_at; high = cut.at; high_at = n }
     else record { low = cut.at +ℤ pos 1; low_at = n; high = cut.old.high; high_at = cut.old.high_at }
 
 -- the cut's other side
 abbrev pub above : DomainCut → DomainCut
-above cut = record { var = cut.var; at = cut.at; below = false; old = cut.old }
+above cut = record { var = cut.var; at = cut.at; side = Above; old = cut.old }
 
 -- the domains after these cuts, the last one first; first is the number of the first cut's fact
 abbrev pub domains_after : ℕ → List Domain → List DomainCut → List Domain
@@ -45,7 +51,7 @@ facts_after root (cut ∷ cuts) = facts_after root cuts ++ fact_of_cut cut ∷ [
 -- the parts that wait: behind each cut whose lower side is at hand, its upper side
 abbrev pub waiting : List Fact → List DomainCut → List (List Fact)
 waiting root [] = []
-waiting root (cut ∷ cuts) = if cut.below then facts_after root (above cut ∷ cuts) ∷ waiting root cuts else waiting root cuts
+waiting root (cut ∷ cuts) = if is_below cut.side then facts_after root (above cut ∷ cuts) ∷ waiting root cuts else waiting root cuts
 
 -- each cut lies within the domain that it cuts
 abbrev pub AreCuts : ℕ → List Domain → List DomainCut → Type 0
@@ -60,7 +66,8 @@ work_in domains = points domains + points domains - 1
 
 abbrev pub work_waiting : ℕ → List Domain → List DomainCut → ℕ
 work_waiting first start [] = 0
-work_waiting first start (cut ∷ cuts) = (if cut.below then work_in (domains_after first start (above cut ∷ cuts)) else 0) + work_waiting first start cuts
+work_waiting first start (cut ∷ cuts) =
+    (if is_below cut.side then work_in (domains_after first start (above cut ∷ cuts)) else 0) + work_waiting first start cuts
 
 -- what there is to do in the part at hand and in those that wait
 abbrev pub work : ℕ → List Domain → List DomainCut → ℕ
@@ -79,7 +86,7 @@ pub record Halved (f : Formula) (box : Boxed) (first : ℕ) (domains : List Doma
 
 -- the lower side of a cut
 abbrev pub lower : ℕ → ℤ → Domain → DomainCut
-lower x at old = record { var = x; at = at; below = true; old = old }
+lower x at old = record { var = x; at = at; side = Below; old = old }
 
 -- the part at hand was cut within the variable's domain, and its lower side is at hand
 abbrev pub IsCut : ℕ → ℕ → List Domain → List Domain → List DomainCut → List DomainCut → List Step → List Step → Type 0
@@ -90,11 +97,12 @@ IsCut first x old_domains new_domains old_cuts new_cuts old_steps new_steps =
     × (new_steps ≡ old_steps ++ Split x at ∷ [])
 
 -- the part that waits next is at hand, or none waits
-abbrev pub Backs : ℕ → List Domain → List Domain → List DomainCut → List DomainCut → Bool → Type 0
-Backs first start domains old new true =
+abbrev pub Backs : ℕ → List Domain → List Domain → List DomainCut → List DomainCut → HalvingTurn → Type 0
+Backs first start domains old new More =
     (domains ≡ domains_after first start new) × AreCuts first start new × ((root : List Fact)
     → waiting root old ≡ facts_after root new ∷ waiting root new) × (work_waiting first start old ≡ work first start new)
-Backs first start domains old new false = (root : List Fact) → waiting root old ≡ []
+Backs first start domains old new Solved = ⊥
+Backs first start domains old new Refuted = (root : List Fact) → waiting root old ≡ []
 
 -- a turn: less is to do, or a point solves the formula, or the steps refute it
 abbrev pub Turns : Formula → Boxed → ℕ → List Domain → List DomainCut → List DomainCut → List Step → HalvingTurn → Type 0

@@ -5,14 +5,14 @@ ghost use Rattle.ipg_cert.specs.Facts.{facts_of};
 use ipg_lin::Formula;
 use std::alloc::AllocError;
 
-/// The sum, which no memory is large enough to count beyond 64 bits.
+/// No memory holds so many facts.
+const TOO_MANY_FACTS: AllocError = AllocError;
+
+/// The sum.
 pub fn counted(a: u64, b: u64) -> Result<u64, AllocError>
     ensures { IfOk result (λ sum. sum ≡ a + b) }
 {
-    match a.checked_add(b) {
-        Some(sum) => Ok(sum),
-        None => Err(AllocError),
-    }
+    a.checked_add(b).ok_or(TOO_MANY_FACTS)
 }
 
 /// How many facts a formula is.

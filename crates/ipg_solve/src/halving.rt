@@ -11,7 +11,7 @@ use crate::closing::{close, push_step};
 use crate::counting::{count, counted};
 use crate::decision::Decision;
 use crate::domain::Domain;
-use crate::domain_cut::DomainCut;
+use crate::domain_cut::{CutSide, DomainCut};
 use crate::least::rules_out;
 use ipg_cert::{Refutation, Step};
 use ipg_lin::{Boxed, Formula};
@@ -20,6 +20,9 @@ use std::alloc::{AllocError, Global};
 
 /// The most steps of a refutation by halving.
 const MOST_STEPS: usize = 1 << 24;
+
+/// More steps count as want of memory.
+const TOO_MANY_STEPS: AllocError = AllocError;
 
 /// What is halved: a formula and its box, and how many facts they are at the root.
 #[derive(Clone, Copy)]
@@ -77,18 +80,17 @@ fn side_of(n: u64, cut: DomainCut) -> Domain
     requires { cut.at <ℤ cut.old.high }
     ensures { result ≡ side_of n cut }
 {
-    if cut.below {
-        Domain {
+    match cut.side {
+        CutSide::Below => Domain {
             high: cut.at,
             high_at: n,
             ..cut.old
-        }
-    } else {
-        Domain {
+        },
+        CutSide::Above => Domain {
             low: cut.at + 1,
             low_at: n,
             ..cut.old
-        }
+        },
     }
 }
 
@@ -96,7 +98,7 @@ fn above(cut: DomainCut) -> DomainCut
     ensures { result ≡ above cut }
 {
     DomainCut {
-        below: false,
+        side: CutSide::Above,
         ..cut
     }
 }
@@ -115,13 +117,13 @@ fn cut_at(
     ensures { OnOk result (IsCut first x domains.old.items domains.new.items cuts.old.items cuts.new.items steps.old.items steps.new.items) }
 {
     if MOST_STEPS <= steps.len() {
-        return Err(AllocError);
+        return Err(TOO_MANY_STEPS);
     }
     let old = domains[x];
     let cut = DomainCut {
         var: x,
         at: middle(old),
-        below: true,
+        side: CutSide::Below,
         old,
     };
     let n = counted(first, cuts.len() as u64)?;
@@ -156,25 +158,27 @@ fn go_above(
     Ok(())
 }
 
-/// Goes back to the last cut whose upper side waits, and takes that side.
+/// Goes back to the last cut whose upper side waits, and takes that side. Where none waits, every part is refuted.
 fn back(
     first: u64,
     domains: &mut Vec<Domain>,
     cuts: &mut Vec<DomainCut>,
-) -> Result<bool, AllocError>
+) -> Result<HalvingTurn, AllocError>
     ghost start: { List DomainValue }
     requires domains { domains.old.items ≡ domains_after first start (reverse cuts.old.items) }
     requires cuts { AreCuts first start (reverse cuts.old.items) }
-    ensures { IfOk result (λ on. Backs first start domains.new.items (reverse cuts.old.items) (reverse cuts.new.items) on) }
+    ensures { IfOk result (λ turn. Backs first start domains.new.items (reverse cuts.old.items) (reverse cuts.new.items) turn) }
 {
     while let Some(cut) = cuts.pop() {
-        if cut.below {
-            go_above(first, cut, domains, cuts)?;
-            return Ok(true);
+        match cut.side {
+            CutSide::Below => {
+                go_above(first, cut, domains, cuts)?;
+                return Ok(HalvingTurn::More);
+            }
+            CutSide::Above => domains[cut.var] = cut.old,
         }
-        domains[cut.var] = cut.old;
     }
-    Ok(false)
+    Ok(HalvingTurn::Refuted)
 }
 
 /// Refutes the part at hand, which the domains rule out.
@@ -214,11 +218,7 @@ fn advance(
 {
     if rules_out(domains, root.f) {
         close_part(alloc, root, domains, cuts, steps)?;
-        if back(root.facts, domains, cuts)? {
-            Ok(HalvingTurn::More)
-        } else {
-            Ok(HalvingTurn::Refuted)
-        }
+        back(root.facts, domains, cuts)
     } else {
         match widest(domains) {
             Some(x) => {

@@ -4,10 +4,13 @@ use std::alloc::AllocError;
 /// The most bytes that a refutation takes: of a larger one the search says that memory is wanting.
 const MOST_BYTES: usize = 1 << 27;
 
+/// More bytes count as want of memory.
+const TOO_LONG: AllocError = AllocError;
+
 /// Puts a number behind the others, the lowest seven bits first; all bytes but its last are 128 or more.
 pub fn put_number(bytes: &mut Vec<u8>, number: u64) -> Result<(), AllocError> {
     if MOST_BYTES <= bytes.len() {
-        return Err(AllocError);
+        return Err(TOO_LONG);
     }
     let mut left = number;
     for _ in 0..10 {

@@ -13,6 +13,9 @@ use std::alloc::{AllocError, Global};
 /// How many cuts by rounding come before an Any is opened of which two members or more are left.
 const CUTS_FIRST: usize = 4;
 
+/// A search that is told to come out too long counts as want of memory.
+const TOO_LONG: AllocError = AllocError;
+
 /// What a search found.
 #[derive(Drop)]
 pub enum SearchEnd {
@@ -127,7 +130,7 @@ pub fn seek(alloc: Global, f: &Formula, b: &Boxed) -> Result<Option<SearchEnd>, 
                 return Ok(Some(SearchEnd::Refuted(r)));
             }
             SearchTurn::Stuck => return Ok(None),
-            SearchTurn::TooLong => return Err(AllocError),
+            SearchTurn::TooLong => return Err(TOO_LONG),
         }
     }
     Ok(None)

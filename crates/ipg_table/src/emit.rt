@@ -9,23 +9,23 @@ use ipg_core::grammar::{CoreExpr, Name, Sym};
 use ipg_num::List;
 use std::alloc::{AllocError, Global};
 
+/// Tables of 2^32 rows or more count as want of memory.
+const TOO_MANY_ROWS: AllocError = AllocError;
+
 /// A place or a number of rows, where it fits 32 bits: tables past that are want of memory.
 pub(crate) fn number(count: usize) -> Result<u32, AllocError>
     ensures { IfOk result (λ n. n ≡ count) }
 {
     match u32::try_from(count) {
         Ok(number) => Ok(number),
-        Err(_) => Err(AllocError),
+        Err(_) => Err(TOO_MANY_ROWS),
     }
 }
 
 fn deeper(depth: u32) -> Result<u32, AllocError>
     ensures { IfOk result (λ n. n ≡ depth + 1) }
 {
-    match depth.checked_add(1) {
-        Some(depth) => Ok(depth),
-        None => Err(AllocError),
-    }
+    depth.checked_add(1).ok_or(TOO_MANY_ROWS)
 }
 
 fn name_of(alloc: Global, bytes: &[u8]) -> Result<Name, AllocError>

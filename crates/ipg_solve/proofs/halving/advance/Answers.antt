@@ -1,12 +1,13 @@
-use Rattle.std.proofs.Common.{◌≡◌, ℕ, ◌+◌, List, length, reverse, true, false, arith, ap, sym, ◌∙◌, subst}
+use Rattle.std.proofs.Common.{◌≡◌, ℕ, ◌+◌, List, length, reverse, arith, ap, sym, ◌∙◌, subst}
 use Rattle.ipg_lin.specs.declared.formula.Formula.{Formula}
 use Rattle.ipg_lin.specs.declared.formula.Boxed.{Boxed}
 use Rattle.ipg_cert.specs.declared.refutation.Step.{Step}
 use Rattle.ipg_solve.specs.declared.domain.Domain.{Domain}
 use Rattle.ipg_solve.specs.Domains.{AreFull, ArePoints, rules_out}
 use Rattle.ipg_solve.specs.Closes.{ClosesFormula}
-use Rattle.ipg_solve.specs.Cuts.{start_domains, Backs}
-use Rattle.ipg_solve.proofs.Turning.{back_turns, refuted_turns, cut_turns}
+use Rattle.std.proofs.lemmas.Result.{IfOk-weaker}
+use Rattle.ipg_solve.specs.Cuts.{start_domains, Backs, Turns}
+use Rattle.ipg_solve.proofs.Turning.{backs_turn, cut_turns}
 use Rattle.ipg_solve.proofs.Solved.{halved_length, halved_full, point_solves}
 use Rattle.ipg_solve.proofs.halving.advance.Goals as goal
 
@@ -44,35 +45,22 @@ widest-requires g c =
     (halved_full c.args.root.f.now g.around c.args.root.facts c.args.domains.now.items (reverse c.args.cuts.now.items) c.args.steps.now.items c.requires.1.1.1
     c.requires.1.1.0)
 
-pub returns-then-branch : goal.returns-then-branch
-returns-then-branch g c =
+pub returns-in_ok-close_part : goal.returns-in_ok-close_part
+returns-in_ok-close_part g c =
     let n : ℕ = length c.deref-then-rules_out-2.result.now in
-    let backs : Backs c.args.root.facts (start_domains 0 g.around.bounds) c.back.new.domains.items (reverse c.args.cuts.now.items)
-    (reverse c.back.new.cuts.items) true =
-    subst (Backs c.args.root.facts (start_domains 0 g.around.bounds) c.back.new.domains.items (reverse c.args.cuts.now.items) (reverse c.back.new.cuts.items))
-    c.if-branch.true c.in_ok-back.ensures in
-    back_turns c.args.root.f.now g.around c.args.root.facts n c.args.domains.now.items c.back.new.domains.items c.args.cuts.now.items c.back.new.cuts.items
-    c.args.steps.now.items c.close_part.new.steps.items c.requires.1.1.1
+    let box = g.around in
+    let entry = c.args.cuts.now.items in
+    let rest = c.back.new.cuts.items in
+    let next = c.back.new.domains.items in
+    IfOk-weaker c.back.result (Backs c.args.root.facts (start_domains 0 box.bounds) next (reverse entry) (reverse rest))
+    (Turns c.args.root.f.now box c.args.root.facts next entry rest c.close_part.new.steps.items)
+    (λ turn backs. backs_turn c.args.root.f.now box c.args.root.facts n c.args.domains.now.items next entry rest c.args.steps.now.items
+    c.close_part.new.steps.items c.requires.1.1.1
     (ap length c.deref-then-rules_out-2.ensures.value)
-    (same_closed c.args.root.f.now g.around c.args.root.b.now c.args.domains.now.items c.deref-then-rules_out.result.now (c.args.root.facts + n)
+    (same_closed c.args.root.f.now box c.args.root.b.now c.args.domains.now.items c.deref-then-rules_out.result.now (c.args.root.facts + n)
     c.args.steps.now.items
     c.close_part.new.steps.items c.requires.0 c.deref-then-rules_out.ensures.value c.in_ok-close_part.ensures)
-    backs
-
-pub returns-else-branch : goal.returns-else-branch
-returns-else-branch g c =
-    let n : ℕ = length c.deref-then-rules_out-2.result.now in
-    let backs : Backs c.args.root.facts (start_domains 0 g.around.bounds) c.back.new.domains.items (reverse c.args.cuts.now.items)
-    (reverse c.back.new.cuts.items) false =
-    subst (Backs c.args.root.facts (start_domains 0 g.around.bounds) c.back.new.domains.items (reverse c.args.cuts.now.items) (reverse c.back.new.cuts.items))
-    c.if-branch.false c.in_ok-back.ensures in
-    refuted_turns c.args.root.f.now g.around c.args.root.facts n c.args.domains.now.items c.back.new.domains.items c.args.cuts.now.items c.back.new.cuts.items
-    c.args.steps.now.items c.close_part.new.steps.items c.requires.1.1.1
-    (ap length c.deref-then-rules_out-2.ensures.value)
-    (same_closed c.args.root.f.now g.around c.args.root.b.now c.args.domains.now.items c.deref-then-rules_out.result.now (c.args.root.facts + n)
-    c.args.steps.now.items
-    c.close_part.new.steps.items c.requires.0 c.deref-then-rules_out.ensures.value c.in_ok-close_part.ensures)
-    backs
+    turn backs) c.back.ensures
 
 pub returns-in_ok-cut_at-in-Some : goal.returns-in_ok-cut_at-in-Some
 returns-in_ok-cut_at-in-Some g c =
