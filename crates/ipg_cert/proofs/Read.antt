@@ -1,24 +1,25 @@
 -- What a reader answers of bytes.
-use Rattle.std.proofs.Common.{◌≡◌, ℕ, suc, ◌+◌, ◌-◌, ◌<◌, ◌≤◌, Bool, true, false, List, [], ◌∷◌, ◌++◌, take, drop, length, Option, Some, None, Ok, Err}
-use Rattle.std.proofs.Common.{refl, ap, ◌∙◌, sym, subst, arith, inl, inr, append_assoc, append-nil, length-append, true≢false, if◌then◌else◌}
+use Rattle.std.proofs.Common.{◌≡◌, ℕ, suc, ◌+◌, ◌-◌, ◌≤◌, Bool, true, false, List, [], ◌∷◌, ◌++◌, take, drop, length, Option, Some, None, Ok, Err}
+use Rattle.std.proofs.Common.{refl, ap, ◌∙◌, sym, subst, arith, inl, inr, append_assoc, length-append, true≢false, if◌then◌else◌}
 use Rattle.std.proofs.Common.{min, subst₂, length-take, length-drop}
 use Rattle.std.proofs.lemmas.List.{drop_min}
 use Rattle.std.proofs.lemmas.Option.{none-some, same_Some}
+use Rattle.ipg_reader.specs.Stepwise.{and_then, run, run_on, run_step, OnStep, StopsAt, stops_at_end, stops_here, stops_later}
 use Rattle.ipg_cert.specs.declared.pos.Pos.{Pos}
 use Rattle.ipg_cert.specs.declared.pos.Pos.TheVariants.{Letter, Gap, First, Minus, Digits, Ended}
 use Rattle.ipg_cert.specs.declared.refutation.Step.{Step}
 use Rattle.ipg_cert.specs.Words.{words_of}
 use Rattle.ipg_cert.specs.Texts.{IsTextOf, Begins, GoesOn, IsFirstFault, IsTextAt, IsFaultFrom}
 use Rattle.ipg_cert.specs.Reader.{transition_at, State, start, taken, step, has_ended, Found, next, read_from}
-use Rattle.ipg_cert.proofs.Spelled.{IsSound, OnStep, step_sound}
+use Rattle.ipg_cert.proofs.Spelled.{IsSound, After, step_sound}
 use Rattle.ipg_cert.proofs.Begun.{sound_begins}
-use Rattle.ipg_cert.proofs.Runs.{and_then, run, run_on, run_step, text_ends}
+use Rattle.ipg_cert.proofs.Runs.{text_ends}
 
 -- a run that ends is read as such, whatever stands behind it
 by_next : (o : Option State) (n m : ℕ) (bs rest : List ℕ) (e : State) (go : State → Found)
-    → ((on : State) → has_ended on.pos ≡ false → run on bs ≡ Some e → go on ≡ Ok (e.made, m))
-    → ((on : State) → has_ended on.pos ≡ true → run on bs ≡ Some e → (on ≡ e) × (n + 1 ≡ m))
-    → and_then o (λ on. run on bs) ≡ Some e → next o n go ≡ Ok (e.made, m)
+    → ((on : State) → has_ended on.pos ≡ false → run step on bs ≡ Some e → go on ≡ Ok (e.made, m))
+    → ((on : State) → has_ended on.pos ≡ true → run step on bs ≡ Some e → (on ≡ e) × (n + 1 ≡ m))
+    → and_then o (λ on. run step on bs) ≡ Some e → next o n go ≡ Ok (e.made, m)
 by_next None n m bs rest e go more last d = absurd (none-some e d)
 by_next (Some on) n m bs rest e go more last d =
     (elim (has_ended on.pos) as (λ c. has_ended on.pos ≡ c → (if c then Ok (on.made, n + 1) else go on) ≡ Ok (e.made, m)) [
@@ -37,11 +38,11 @@ ended_stuck st b e = at_end st.pos e
     at_end (Digits n) f = absurd (true≢false (sym f))
     at_end Ended f = refl
 
-ended_run : (st e : State) (bs : List ℕ) → has_ended st.pos ≡ true → run st bs ≡ Some e → (st ≡ e) × (length bs ≡ 0)
+ended_run : (st e : State) (bs : List ℕ) → has_ended st.pos ≡ true → run step st bs ≡ Some e → (st ≡ e) × (length bs ≡ 0)
 ended_run st e [] ended d = (same_Some st e d, refl)
-ended_run st e (b ∷ bs) ended d = absurd (none-some e (ap (λ o. and_then o (λ on. run on bs)) (sym (ended_stuck st b ended)) ∙ d))
+ended_run st e (b ∷ bs) ended d = absurd (none-some e (ap (λ o. and_then o (λ on. run step on bs)) (sym (ended_stuck st b ended)) ∙ d))
 
-read_ends : (bs rest : List ℕ) (st e : State) (n : ℕ) → has_ended st.pos ≡ false → has_ended e.pos ≡ true → run st bs ≡ Some e
+read_ends : (bs rest : List ℕ) (st e : State) (n : ℕ) → has_ended st.pos ≡ false → has_ended e.pos ≡ true → run step st bs ≡ Some e
     → read_from st n (bs ++ rest) ≡ Ok (e.made, n + length bs)
 read_ends [] rest st e n going ended d = absurd (true≢false (sym ended ∙ ap (λ s. has_ended s.pos) (sym (same_Some st e d)) ∙ going))
 read_ends (b ∷ bs) rest st e n going ended d =
@@ -53,7 +54,7 @@ read_ends (b ∷ bs) rest st e n going ended d =
 -- what an answer says of the bytes from a place on, behind words that were read
 abbrev Says : List ℕ → ℕ → List ℕ → Found → Type 0
 Says words n bs (Ok found) = (k : ℕ) × (found.1 ≡ n + k) × (k ≤ length bs) × IsTextOf found.0 (words ++ take k bs)
-Says words n bs (Err m) = (k : ℕ) × (m ≡ n + k) × (k ≤ length bs) × Begins (words ++ take k bs) × (k < length bs → ¬ GoesOn (words ++ take (k + 1) bs))
+Says words n bs (Err m) = StopsAt Begins GoesOn words n bs m
 
 says_later : (words : List ℕ) (n b : ℕ) (bs : List ℕ) (o : Found) → Says (words ++ b ∷ []) (n + 1) bs o → Says words n (b ∷ bs) o
 says_later words n b bs (Ok found) (k, count, within, text) = (
@@ -62,48 +63,30 @@ says_later words n b bs (Ok found) (k, count, within, text) = (
   (let e : suc k ≤ suc (length bs) = omega (arith, within) in e),
   subst (IsTextOf found.0) (append_assoc words (b ∷ []) (take k bs)) text,
 )
-says_later words n b bs (Err m) (k, count, within, begins, stops) = (
-  suc k,
-  (let e : m ≡ n + suc k = omega (arith, count) in e),
-  (let e : suc k ≤ suc (length bs) = omega (arith, within) in e),
-  subst Begins (append_assoc words (b ∷ []) (take k bs)) begins,
-  λ more on. stops (let e : k < length bs = omega (arith, more) in e)
-      (subst GoesOn (sym (append_assoc words (b ∷ []) (take (k + 1) bs)
-      ∙ ap (λ j. words ++ take j (b ∷ bs)) (let e : suc (k + 1) ≡ suc k + 1 = omega arith in e))) on),
-)
+says_later words n b bs (Err m) stops = stops_later Begins GoesOn words n b bs m stops
 
 -- no text goes on with a byte that does not fit
-no_text : (words : List ℕ) (st : State) (b : ℕ) → run start words ≡ Some st → step st b ≡ None → ¬ GoesOn (words ++ b ∷ [])
+no_text : (words : List ℕ) (st : State) (b : ℕ) → run step start words ≡ Some st → step st b ≡ None → ¬ GoesOn (words ++ b ∷ [])
 no_text words st b reached stuck (steps, rest, text) =
     let ends = text_ends steps ((words ++ b ∷ []) ++ rest) text in
     none-some ends.end (
-    sym (ap (run start) (append_assoc words (b ∷ []) rest) ∙ run_on start st words (b ∷ rest) reached ∙ ap (λ o. and_then o (λ on. run on rest)) stuck)
+    sym (ap (run step start) (append_assoc words (b ∷ []) rest) ∙ run_on step start st words (b ∷ rest) reached
+    ∙ ap (λ o. and_then o (λ on. run step on rest)) stuck)
     ∙ ends.reached)
 
-says : (bs words : List ℕ) (st : State) (n : ℕ) → IsSound st words → run start words ≡ Some st → Says words n bs (read_from st n bs)
-says [] words st n sound reached = (
-  0,
-  (let e : n ≡ n + 0 = omega arith in e),
-  (let e : 0 ≤ 0 = omega arith in e),
-  subst Begins (sym (append-nil words)) (sound_begins st words sound),
-  λ less. absurd (let e : ⊥ = omega (arith, less) in e),
-)
+says : (bs words : List ℕ) (st : State) (n : ℕ) → IsSound st words → run step start words ≡ Some st → Says words n bs (read_from st n bs)
+says [] words st n sound reached = stops_at_end Begins GoesOn words n (sound_begins st words sound)
 says (b ∷ bs) words st n sound reached = by_step (step st b) refl (step_sound st.made st.entries st.open_trees words b st.pos sound)
     (λ on s r. says bs (words ++ b ∷ []) on (n + 1) s r)
   where
-    by_step : (o : Option State) → step st b ≡ o → OnStep o (words ++ b ∷ [])
-        → ((on : State) → IsSound on (words ++ b ∷ []) → run start (words ++ b ∷ []) ≡ Some on → Says (words ++ b ∷ []) (n + 1) bs (read_from on (n + 1) bs))
+    by_step : (o : Option State) → step st b ≡ o → OnStep After o (words ++ b ∷ [])
+        → ((on : State) → IsSound on (words ++ b ∷ []) → run step start (words ++ b ∷ []) ≡ Some on
+        → Says (words ++ b ∷ []) (n + 1) bs (read_from on (n + 1) bs))
         → Says words n (b ∷ bs) (next o n (λ on. read_from on (n + 1) bs))
-    by_step None is after go = (
-      0,
-      (let e : n ≡ n + 0 = omega arith in e),
-      (let e : 0 ≤ suc (length bs) = omega arith in e),
-      subst Begins (sym (append-nil words)) (sound_begins st words sound),
-      λ less. no_text words st b reached is,
-    )
+    by_step None is after go = stops_here Begins GoesOn words n b bs (sound_begins st words sound) (no_text words st b reached is)
     by_step (Some on) is (inl (going, s)) go =
         subst (λ c. Says words n (b ∷ bs) (if c then Ok (on.made, n + 1) else read_from on (n + 1) bs)) (sym going)
-        (says_later words n b bs (read_from on (n + 1) bs) (go on s (run_on start st words (b ∷ []) reached ∙ run_step st on b [] is)))
+        (says_later words n b bs (read_from on (n + 1) bs) (go on s (run_on step start st words (b ∷ []) reached ∙ run_step step st on b [] is)))
     by_step (Some on) is (inr (ended, text)) go =
         subst (λ c. Says words n (b ∷ bs) (if c then Ok (on.made, n + 1) else read_from on (n + 1) bs)) (sym ended)
         (1, refl, (let e : 1 ≤ suc (length bs) = omega arith in e), text)

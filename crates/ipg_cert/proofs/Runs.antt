@@ -1,13 +1,13 @@
 -- The words of whole trees lead a reader on to its end.
 use Rattle.std.proofs.Common.{◌≡◌, ℕ, zero, suc, ◌+◌, ◌-◌, ◌*◌, ◌/◌, ◌%◌, ◌^◌, ◌<◌, ◌≤◌, Bool, true, false, not, ◌&&◌, ◌||◌}
-use Rattle.std.proofs.Common.{nat_le, ◌==◌, List, [], ◌∷◌, ◌++◌, length, Option, Some, None, refl, ap, ◌∙◌, sym, subst, arith}
+use Rattle.std.proofs.Common.{nat_le, ◌==◌, List, [], ◌∷◌, ◌++◌, length, Some, None, refl, ap, ◌∙◌, sym, subst, arith}
 use Rattle.std.proofs.Common.{append_assoc, append-nil, decimal, flat_map, true≢false, if◌then◌else◌, ℤ, pos, negsuc}
 use Rattle.std.specs.Fmt.{signed_decimal}
 use Rattle.std.specs.List.{AllByRecursion}
 use Rattle.std.proofs.lemmas.Bool.{le-leb, eq-eqb, ne_eqb}
-use Rattle.std.proofs.lemmas.Bool.Decides.{nat_tests}
-use Rattle.std.proofs.lemmas.Option.{none-some}
 use Rattle.std.proofs.lemmas.Fmt.{decimal_by_steps}
+use Rattle.ipg_reader.specs.Digits.{digit_value, digit_is}
+use Rattle.ipg_reader.specs.Stepwise.{run, run_on, run_step}
 use Rattle.ipg_cert.specs.declared.pos.Need.{Need}
 use Rattle.ipg_cert.specs.declared.pos.Need.TheVariants.{Count, Weight, Fact, Var, At, Choice, Parts}
 use Rattle.ipg_cert.specs.declared.pos.Number.{Number}
@@ -19,36 +19,12 @@ use Rattle.ipg_cert.specs.declared.refutation.Step.{Step}
 use Rattle.ipg_cert.specs.declared.refutation.Step.TheVariants.{Combine, Split, Either}
 use Rattle.ipg_cert.specs.Words.{entry_words, step_words, words_of}
 use Rattle.ipg_cert.specs.Texts.{parts_of, AreTrees, IsWord, IsSignedWord, IsEntry, IsInRange, IsTextOf}
-use Rattle.ipg_cert.specs.Reader.{limit, may_be_zero, may_be_negative, is_digit, digit_value, signed, begun, grown}
+use Rattle.ipg_cert.specs.Reader.{limit, may_be_zero, may_be_negative, signed, begun, grown}
 use Rattle.ipg_cert.specs.Reader.{State, start, spaced_to, parted, with_step, with_entry, taken, step, has_ended}
 use Rattle.ipg_cert.proofs.Spelled.{limit_word}
 
-abbrev pub and_then : Option State → (State → Option State) → Option State
-and_then None f = None
-and_then (Some st) f = f st
-
-abbrev pub run : State → List ℕ → Option State
-run st [] = Some st
-run st (b ∷ bs) = and_then (step st b) (λ on. run on bs)
-
-through : (o : Option State) (f g : State → Option State) (mid : State) (r : Option State) → ((on : State) → f on ≡ Some mid → g on ≡ r)
-    → and_then o f ≡ Some mid → and_then o g ≡ r
-through None f g mid r h e = absurd (none-some mid e)
-through (Some on) f g mid r h e = h on e
-
-pub run_on : (st mid : State) (xs ys : List ℕ) → run st xs ≡ Some mid → run st (xs ++ ys) ≡ run mid ys
-run_on st mid [] ys e = ap (λ o. and_then o (λ on. run on ys)) e
-run_on st mid (x ∷ xs) ys e = through (step st x) (λ on. run on xs) (λ on. run on (xs ++ ys)) mid (run mid ys) (λ on d. run_on on mid xs ys d) e
-
--- one byte, and those after it
-pub run_step : (st on : State) (b : ℕ) (ys : List ℕ) → step st b ≡ Some on → run st (b ∷ ys) ≡ run on ys
-run_step st on b ys e = ap (λ o. and_then o (λ to. run to ys)) e
-
 abbrev MayBe : Need → Bool → ℕ → Type 0
 MayBe need negative v = (may_be_zero need ≡ false → 1 ≤ v) × (negative ≡ true → 1 ≤ v)
-
-digit_is : (d : ℕ) → d < 10 → (is_digit (48 + d) ≡ true) × (digit_value (48 + d) ≡ d)
-digit_is d less = (grind (arith, nat_tests), (let e : 48 + d - 48 ≡ d = omega arith in e))
 
 not_zero_digit : (d : ℕ) → 1 ≤ d → (48 + d == 48) ≡ false
 not_zero_digit d some = ne_eqb (48 + d) 48 (λ e. let f : ⊥ = omega (arith, e) in f)
@@ -76,13 +52,13 @@ module _ (made : List Step) (entries : List (ℕ × ℕ)) (trees : ℕ) (need : 
 
   -- a first digit, and those after it
   module _ (st : State) (begin : (d : ℕ) → d < 10 → MayBe need negative d → step st (48 + d) ≡ Some (at_number d)) where
-    run_decimal : (v : ℕ) → v ≤ limit need negative → MayBe need negative v → run st (decimal v) ≡ Some (at_number v)
-    run_decimal v small may = decimal_by_steps (λ m ds. m ≤ limit need negative → MayBe need negative m → run st ds ≡ Some (at_number m))
-        (λ m l fits ok. run_step st (at_number m) (48 + m) [] (begin m l ok))
+    run_decimal : (v : ℕ) → v ≤ limit need negative → MayBe need negative v → run step st (decimal v) ≡ Some (at_number v)
+    run_decimal v small may = decimal_by_steps (λ m ds. m ≤ limit need negative → MayBe need negative m → run step st ds ≡ Some (at_number m))
+        (λ m l fits ok. run_step step st (at_number m) (48 + m) [] (begin m l ok))
         (λ m ds l h fits ok.
         let ok' : MayBe need negative (m / 10) = ((λ e. (let f : 1 ≤ m / 10 = omega arith in f)), (λ e. (let f : 1 ≤ m / 10 = omega arith in f))) in
-        run_on st (at_number (m / 10)) ds ((48 + m % 10) ∷ []) (h (omega arith) ok')
-        ∙ run_step (at_number (m / 10)) (at_number m) (48 + m % 10) [] (one_more m l fits))
+        run_on step st (at_number (m / 10)) ds ((48 + m % 10) ∷ []) (h (omega arith) ok')
+        ∙ run_step step (at_number (m / 10)) (at_number m) (48 + m % 10) [] (one_more m l fits))
         v (omega (arith, small, limit_word need negative)) small may
 
 module _ (made : List Step) (entries : List (ℕ × ℕ)) (trees : ℕ) where
@@ -107,36 +83,36 @@ module _ (made : List Step) (entries : List (ℕ × ℕ)) (trees : ℕ) where
       ∙ ap (λ v. Some (at_number made entries trees need true v)) value
 
   run_number : (need : Need) (v : ℕ) → v ≤ limit need false → (may_be_zero need ≡ false → 1 ≤ v)
-      → run (at_place (First need)) (decimal v) ≡ Some (at_number made entries trees need false v)
+      → run step (at_place (First need)) (decimal v) ≡ Some (at_number made entries trees need false v)
   run_number need v small some =
       run_decimal made entries trees need false (at_place (First need)) (first_begins need) v small (some, λ e. absurd (true≢false (sym e)))
 
   run_signed : (var : ℕ) (z : ℤ) → IsSignedWord z → (negative : Bool) × (v : ℕ) × (signed negative v ≡ z)
-      × (run (at_place (First (At var))) (signed_decimal z) ≡ Some (at_number made entries trees (At var) negative v))
+      × (run step (at_place (First (At var))) (signed_decimal z) ≡ Some (at_number made entries trees (At var) negative v))
   run_signed var (pos n) small = (false, n, refl, run_number (At var) n (omega arith) (λ e. absurd (true≢false e)))
   run_signed var (negsuc n) small =
       let some : 1 ≤ suc n = omega arith in (
         true,
         suc n,
         refl,
-        run_step (at_place (First (At var))) (at_place (Minus (At var))) 45 (decimal (suc n)) refl
+        run_step step (at_place (First (At var))) (at_place (Minus (At var))) 45 (decimal (suc n)) refl
             ∙ run_decimal made entries trees (At var) true (at_place (Minus (At var))) (minus_begins (At var)) (suc n) (omega arith) ((λ e. some), (λ e. some)),
       )
 
 -- a state after which the step is whole
 record Whole (st : State) (words : List ℕ) (made : List Step) (trees : ℕ) (s : Step) : Type 0 where
   pub end : State
-  pub reached : run st words ≡ Some end
+  pub reached : run step st words ≡ Some end
   pub spaced : step end 32 ≡ parted (record { made = made ++ s ∷ []; entries = []; open_trees = trees - 1 + parts_of s; pos = Letter }) 32
   pub fed : step end 10 ≡ parted (record { made = made ++ s ∷ []; entries = []; open_trees = trees - 1 + parts_of s; pos = Letter }) 10
 
-whole_later : (st mid : State) (xs ys : List ℕ) (made : List Step) (trees : ℕ) (s : Step) → run st xs ≡ Some mid → Whole mid ys made trees s
+whole_later : (st mid : State) (xs ys : List ℕ) (made : List Step) (trees : ℕ) (s : Step) → run step st xs ≡ Some mid → Whole mid ys made trees s
     → Whole st (xs ++ ys) made trees s
-whole_later st mid xs ys made trees s e w = record { end = w.end; reached = run_on st mid xs ys e ∙ w.reached; spaced = w.spaced; fed = w.fed }
+whole_later st mid xs ys made trees s e w = record { end = w.end; reached = run_on step st mid xs ys e ∙ w.reached; spaced = w.spaced; fed = w.fed }
 
 -- a number, and a space
-run_spaced : (st mid on : State) (xs ys : List ℕ) → run st xs ≡ Some mid → step mid 32 ≡ Some on → run st (xs ++ 32 ∷ ys) ≡ run on ys
-run_spaced st mid on xs ys e f = run_on st mid xs (32 ∷ ys) e ∙ run_step mid on 32 ys f
+run_spaced : (st mid on : State) (xs ys : List ℕ) → run step st xs ≡ Some mid → step mid 32 ≡ Some on → run step st (xs ++ 32 ∷ ys) ≡ run step on ys
+run_spaced st mid on xs ys e f = run_on step st mid xs (32 ∷ ys) e ∙ run_step step mid on 32 ys f
 
 word_limit : (n : ℕ) → IsWord n → n ≤ 2 ^ 64 - 1
 word_limit n small = omega arith
@@ -147,9 +123,9 @@ module _ (made : List Step) (trees : ℕ) where
 
   -- from before an entry to after it
   entry_run : (done : List (ℕ × ℕ)) (left w f : ℕ) (st : State) → step st 32 ≡ Some (at_place made done trees (First (Weight left))) → IsWord w → IsWord f
-      → run st (entry_words (w, f)) ≡ Some (fact_end done left w f)
+      → run step st (entry_words (w, f)) ≡ Some (fact_end done left w f)
   entry_run done left w f st e first second =
-      run_step st (at_place made done trees (First (Weight left))) 32 (decimal w ++ 32 ∷ decimal f) e
+      run_step step st (at_place made done trees (First (Weight left))) 32 (decimal w ++ 32 ∷ decimal f) e
       ∙ run_spaced (at_place made done trees (First (Weight left))) (at_number made done trees (Weight left) false w)
       (at_place made done trees (First (Fact left w))) (decimal w) (decimal f)
       (run_number made done trees (Weight left) w (word_limit w first) (λ d. absurd (true≢false d))) refl
@@ -209,12 +185,12 @@ module _ (made : List Step) (trees : ℕ) where
 -- all steps of the trees that are open
 pub record Ends (st : State) (words : List ℕ) (steps : List Step) : Type 0 where
   pub end : State
-  pub reached : run st words ≡ Some end
+  pub reached : run step st words ≡ Some end
   pub made : end.made ≡ steps
   pub ended : has_ended end.pos ≡ true
 
-ends_later : (st mid : State) (xs ys : List ℕ) (steps : List Step) → run st xs ≡ Some mid → Ends mid ys steps → Ends st (xs ++ ys) steps
-ends_later st mid xs ys steps e w = record { end = w.end; reached = run_on st mid xs ys e ∙ w.reached; made = w.made; ended = w.ended }
+ends_later : (st mid : State) (xs ys : List ℕ) (steps : List Step) → run step st xs ≡ Some mid → Ends mid ys steps → Ends st (xs ++ ys) steps
+ends_later st mid xs ys steps e w = record { end = w.end; reached = run_on step st mid xs ys e ∙ w.reached; made = w.made; ended = w.ended }
 
 last_fed : (made : List Step) (n : ℕ) → n ≡ 0
     → parted (record { made = made; entries = []; open_trees = n; pos = Letter }) 10 ≡ Some (record { made = made; entries = []; open_trees = n; pos = Ended })
@@ -242,9 +218,9 @@ steps_end [] made trees s tree ranges =
     let on : State = record { made = made ++ s ∷ []; entries = []; open_trees = left; pos = Ended } in
     record {
       end = on;
-      reached = ap (λ xs. run (before_step made trees) (xs ++ 10 ∷ [])) (append-nil (step_words s))
-          ∙ run_on (before_step made trees) w.end (step_words s) (10 ∷ []) w.reached
-          ∙ run_step w.end on 10 [] (w.fed ∙ last_fed (made ++ s ∷ []) left (open_after trees s [] tree));
+      reached = ap (λ xs. run step (before_step made trees) (xs ++ 10 ∷ [])) (append-nil (step_words s))
+          ∙ run_on step (before_step made trees) w.end (step_words s) (10 ∷ []) w.reached
+          ∙ run_step step w.end on 10 [] (w.fed ∙ last_fed (made ++ s ∷ []) left (open_after trees s [] tree));
       made = refl;
       ended = refl;
     }
@@ -255,7 +231,7 @@ steps_end (t ∷ steps) made trees s tree ranges =
     let rest = steps_end steps (made ++ s ∷ []) left t tree' ranges.1 in
     record {
       end = rest.end;
-      reached = ap (run (before_step made trees)) (append_assoc (step_words s) (32 ∷ words_of (t ∷ steps)) (10 ∷ []))
+      reached = ap (run step (before_step made trees)) (append_assoc (step_words s) (32 ∷ words_of (t ∷ steps)) (10 ∷ []))
           ∙ run_spaced (before_step made trees) w.end (before_step (made ++ s ∷ []) left) (step_words s) (words_of (t ∷ steps) ++ 10 ∷ []) w.reached
           (w.spaced ∙ more_spaced (made ++ s ∷ []) left (some_open left t steps tree'))
           ∙ rest.reached;

@@ -1,12 +1,13 @@
 -- The words that a reader has taken, and one byte more.
-use Rattle.std.proofs.Common.{◌≡◌, ℕ, zero, suc, ◌+◌, ◌-◌, ◌*◌, ◌/◌, ◌%◌, ◌^◌, ◌<◌, ◌≤◌, ◌⊎◌, Bool, true, false, not, ◌&&◌, ◌||◌, nat_le, ◌==◌}
-use Rattle.std.proofs.Common.{List, [], ◌∷◌, ◌++◌, length, replicate, Option, Some, None, refl, ap, ◌∙◌, sym, subst, arith, inl, inr, pos_of_ne-zero}
+use Rattle.std.proofs.Common.{◌≡◌, ℕ, zero, suc, ◌+◌, ◌-◌, ◌*◌, ◌^◌, ◌<◌, ◌≤◌, ◌⊎◌, Bool, true, false, not, ◌&&◌, ◌||◌, nat_le, ◌==◌}
+use Rattle.std.proofs.Common.{List, [], ◌∷◌, ◌++◌, length, replicate, Some, None, refl, ap, ◌∙◌, sym, subst, arith, inl, inr, pos_of_ne-zero}
 use Rattle.std.proofs.Common.{append_assoc, append-nil, length-append, decimal, flat_map, true≢false, if◌then◌else◌}
 use Rattle.std.specs.Fmt.{signed_decimal}
 use Rattle.std.specs.List.{AllByRecursion}
 use Rattle.std.proofs.lemmas.Bool.{cond_both, eqb-true, eqb-false, leb-true}
 use Rattle.std.proofs.lemmas.Bool.Decides.{nat_tests}
-use Rattle.std.proofs.lemmas.Fmt.{decimal_digit, decimal_step}
+use Rattle.ipg_reader.specs.Digits.{is_digit, digit_value, one_digit, digit_more}
+use Rattle.ipg_reader.specs.Stepwise.{OnStep}
 use Rattle.ipg_cert.specs.declared.pos.Need.{Need}
 use Rattle.ipg_cert.specs.declared.pos.Need.TheVariants.{Count, Weight, Fact, Var, At, Choice, Parts}
 use Rattle.ipg_cert.specs.declared.pos.Number.{Number}
@@ -19,7 +20,7 @@ use Rattle.ipg_cert.specs.declared.refutation.Step.TheVariants.{Combine, Split, 
 use Rattle.ipg_cert.specs.Words.{entry_words, step_words, spaced, words_of}
 use Rattle.ipg_cert.specs.Texts.{parts_of, AreTrees, IsWord, IsSignedWord, IsEntry, IsInRange, IsTextOf}
 use Rattle.std.proofs.lemmas.Bool.{and_parts}
-use Rattle.ipg_cert.specs.Reader.{limit, may_be_zero, may_be_negative, is_digit, digit_value, signed, begun, grown, transition_at}
+use Rattle.ipg_cert.specs.Reader.{limit, may_be_zero, may_be_negative, signed, begun, grown, transition_at}
 use Rattle.ipg_cert.specs.Reader.{State, spaced_to, parted, with_entry, entered, finished, taken, step, has_ended}
 
 -- ---- words
@@ -160,15 +161,11 @@ flat_push : (es : List (ℕ × ℕ)) (e : ℕ × ℕ) → flat_map entry_words (
 flat_push [] e = append-nil (entry_words e)
 flat_push (x ∷ es) e = ap (λ xs. entry_words x ++ xs) (flat_push es e) ∙ sym (append_assoc (entry_words x) (flat_map entry_words es) (entry_words e))
 
-abbrev After : State → List ℕ → Type 0
+abbrev pub After : State → List ℕ → Type 0
 After st words = ((has_ended st.pos ≡ false) × IsSound st words) ⊎ ((has_ended st.pos ≡ true) × IsTextOf st.made words)
 
-abbrev pub OnStep : Option State → List ℕ → Type 0
-OnStep None words = Unit {0}
-OnStep (Some st) words = After st words
-
-if_some : (c : Bool) (st : State) (words : List ℕ) → (c ≡ true → After st words) → OnStep (if c then Some st else None) words
-if_some c st words f = cond_both c (Some st) None (λ o. OnStep o words) f (λ e. tt)
+if_some : (c : Bool) (st : State) (words : List ℕ) → (c ≡ true → After st words) → OnStep After (if c then Some st else None) words
+if_some c st words f = cond_both c (Some st) None (λ o. OnStep After o words) f (λ e. tt)
 
 limit_nine : (need : Need) (negative : Bool) → 9 ≤ limit need negative
 limit_nine Count negative = omega arith
@@ -189,20 +186,6 @@ limit_word (At var) true = omega arith
 limit_word (At var) false = omega arith
 limit_word Choice negative = omega arith
 limit_word (Parts fact) negative = omega arith
-
-one_digit : (b : ℕ) → is_digit b ≡ true → b ∷ [] ≡ decimal (digit_value b)
-one_digit b e =
-    let range : (48 ≤ b) × (b ≤ 57) = grind (arith, nat_tests) in
-    let back : b ≡ 48 + (b - 48) = omega arith in
-    ap (λ x. x ∷ []) back ∙ sym (decimal_digit (b - 48) (omega arith))
-
-digit_more : (v b : ℕ) → 1 ≤ v → v * 10 + digit_value b < 2 ^ 64 → is_digit b ≡ true → decimal v ++ b ∷ [] ≡ decimal (v * 10 + digit_value b)
-digit_more v b some small e =
-    let range : (48 ≤ b) × (b ≤ 57) = grind (arith, nat_tests) in
-    let front : v ≡ (v * 10 + (b - 48)) / 10 = omega arith in
-    let end : b ≡ 48 + (v * 10 + (b - 48)) % 10 = omega arith in
-    ap (λ k. decimal k ++ b ∷ []) front ∙ ap (λ x. decimal ((v * 10 + (b - 48)) / 10) ++ x ∷ []) end
-    ∙ sym (decimal_step (v * 10 + (b - 48)) (omega arith) small)
 
 digits_more : (negative : Bool) (v b : ℕ) → 1 ≤ v → v * 10 + digit_value b < 2 ^ 64 → is_digit b ≡ true
     → digits negative v ++ b ∷ [] ≡ digits negative (v * 10 + digit_value b)
@@ -242,18 +225,18 @@ module _ (made : List Step) (entries : List (ℕ × ℕ)) (trees : ℕ) (p : Pos
   )
 
   spaced_on : (entries' : List (ℕ × ℕ)) (need : Need) → AllByRecursion IsEntry entries' → IsDue entries' need → part entries p ++ 32 ∷ [] ≡ before entries' need
-      → OnStep (spaced_to (record { made = made; entries = entries'; open_trees = trees; pos = p }) need b) (words ++ b ∷ [])
+      → OnStep After (spaced_to (record { made = made; entries = entries'; open_trees = trees; pos = p }) need b) (words ++ b ∷ [])
   spaced_on entries' need all due e = if_some (b == 32) _ (words ++ b ∷ [])
       (λ is. moved entries' (First need) refl all due (ap (λ x. part entries p ++ x ∷ []) (eqb-true b 32 is) ∙ e))
 
   -- the step at hand is whole
   parted_on : (s : Step) → IsInRange s → part entries p ≡ step_words s
-      → OnStep (parted (record { made = made ++ s ∷ []; entries = []; open_trees = trees - 1 + parts_of s; pos = p }) b) (words ++ b ∷ [])
+      → OnStep After (parted (record { made = made ++ s ∷ []; entries = []; open_trees = trees - 1 + parts_of s; pos = p }) b) (words ++ b ∷ [])
   parted_on s range e =
       let left = leaves_push 1 made trees s sound.trees sound.some in
       let all = all_push IsInRange made s sound.ranges range in
       let words_are : words ≡ behind made ++ step_words s = sound.spelled ∙ ap (λ xs. behind made ++ xs) e in
-      cond_both (trees - 1 + parts_of s == 0) _ _ (λ o. OnStep o (words ++ b ∷ []))
+      cond_both (trees - 1 + parts_of s == 0) _ _ (λ o. OnStep After o (words ++ b ∷ []))
       (λ none. if_some (b == 10) _ (words ++ b ∷ []) (λ is. inr (
         refl,
         record {
@@ -314,7 +297,7 @@ module _ (made : List Step) (entries : List (ℕ × ℕ)) (trees : ℕ) (need : 
 
 module _ (made : List Step) (entries : List (ℕ × ℕ)) (trees : ℕ) (negative : Bool) (v : ℕ) (words : List ℕ) (b : ℕ) where
   entered_on : (left weight : ℕ) → IsSound (there made entries trees (Fact left weight) negative v words b) words
-      → OnStep (entered (with_entry (there made entries trees (Fact left weight) negative v words b) weight v) left b) (words ++ b ∷ [])
+      → OnStep After (entered (with_entry (there made entries trees (Fact left weight) negative v words b) weight v) left b) (words ++ b ∷ [])
   entered_on left weight sound =
       let st = there made entries trees (Fact left weight) negative v words b in
       let p : Pos = Digits (record { need = Fact left weight; negative = negative; value = v }) in
@@ -325,7 +308,7 @@ module _ (made : List Step) (entries : List (ℕ × ℕ)) (trees : ℕ) (negativ
       let spelled : part entries p ≡ 99 ∷ (32 ∷ (decimal (length entries + left) ++ flat_map entry_words (entries ++ (weight, v) ∷ []))) =
       ap (λ ds. before entries (Fact left weight) ++ ds) (not_negative (Fact left weight) negative v number refl)
       ∙ entry_spelled (length entries + left) entries weight v in
-      cond_both (left == 1) _ _ (λ o. OnStep o (words ++ b ∷ []))
+      cond_both (left == 1) _ _ (λ o. OnStep After o (words ++ b ∷ []))
       (λ one.
       let whole : length entries + left ≡ length (entries ++ (weight, v) ∷ []) = omega (arith, eqb-true left 1 one, length-append entries ((weight, v) ∷ [])) in
       parted_on made entries trees p words sound b (Combine (entries ++ (weight, v) ∷ []))
@@ -338,7 +321,7 @@ module _ (made : List Step) (entries : List (ℕ × ℕ)) (trees : ℕ) (negativ
       (ap (λ xs. xs ++ 32 ∷ []) (spelled ∙ ap (λ k. 99 ∷ (32 ∷ (decimal k ++ flat_map entry_words (entries ++ (weight, v) ∷ [])))) (sym count))))
 
   finished_on : (need : Need) → IsSound (there made entries trees need negative v words b) words
-      → OnStep (finished (there made entries trees need negative v words b) need negative v b) (words ++ b ∷ [])
+      → OnStep After (finished (there made entries trees need negative v words b) need negative v b) (words ++ b ∷ [])
   finished_on Count sound =
       let none : entries ≡ [] = sound.at.0 in
       let number = sound.at.1 in
@@ -411,7 +394,7 @@ module _ (made : List Step) (entries : List (ℕ × ℕ)) (trees : ℕ) (words :
   standing p = record { made = made; entries = entries; open_trees = trees; pos = p }
 
   abbrev Turned : Pos → Transition → Type 0
-  Turned p t = OnStep (taken t (standing p) b) (words ++ b ∷ [])
+  Turned p t = OnStep After (taken t (standing p) b) (words ++ b ∷ [])
 
   on_digits : (n : Number) → IsSound (standing (Digits n)) words → Turned (Digits n) (transition_at (Digits n) b)
   on_digits n sound =
@@ -438,7 +421,7 @@ module _ (made : List Step) (entries : List (ℕ × ℕ)) (trees : ℕ) (words :
       (λ e. tt))
       (λ end. finished_on made entries trees n.negative n.value words b n.need sound)
 
-  pub step_sound : (p : Pos) → IsSound (standing p) words → OnStep (step (standing p) b) (words ++ b ∷ [])
+  pub step_sound : (p : Pos) → IsSound (standing p) words → OnStep After (step (standing p) b) (words ++ b ∷ [])
   step_sound Letter sound =
       cond_both (b == 99) (To (Gap Count)) _ (Turned Letter)
       (λ e. moved made entries trees Letter words sound b entries (Gap Count) refl sound.entries (tt, sound.at) (ap (λ x. x ∷ []) (eqb-true b 99 e)))

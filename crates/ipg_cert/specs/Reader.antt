@@ -1,6 +1,7 @@
 -- A reader of a refutation's words, byte after byte: where it stands, and where each byte takes it.
 use Rattle.std.specs.Prelude.{◌≡◌, ℕ, ◌+◌, ◌-◌, ◌*◌, ◌^◌, ◌≤◌, Bool, true, false, not, ◌&&◌, ◌||◌, nat_le, ◌==◌, if◌then◌else◌}
 use Rattle.std.specs.Prelude.{List, [], ◌∷◌, ◌++◌, Option, None, Some, Result, Ok, Err, ℤ, pos, neg_ℤ}
+use Rattle.ipg_reader.specs.Digits.{is_digit, digit_value}
 use Rattle.ipg_cert.specs.declared.pos.Need.{Need}
 use Rattle.ipg_cert.specs.declared.pos.Need.TheVariants.{Count, Weight, Fact, Var, At, Choice, Parts}
 use Rattle.ipg_cert.specs.declared.pos.Number.{Number}
@@ -42,12 +43,6 @@ may_be_negative Var = false
 may_be_negative (At var) = true
 may_be_negative Choice = false
 may_be_negative (Parts fact) = false
-
-abbrev pub is_digit : ℕ → Bool
-is_digit b = nat_le 48 b && nat_le b 57
-
-abbrev pub digit_value : ℕ → ℕ
-digit_value b = b - 48
 
 abbrev pub signed : Bool → ℕ → ℤ
 signed negative value = if negative then neg_ℤ (pos value) else pos value

@@ -1,6 +1,7 @@
 //! Where a reader of a refutation's words stands, and where a byte takes it.
 ghost use Rattle.std.specs.Prelude.{◌≡◌, ◌≤◌, ◌+◌, ◌*◌};
-ghost use Rattle.ipg_cert.specs.Reader.{limit, may_be_zero, may_be_negative, is_digit, digit_value, begun, letter_transition, gap_transition};
+ghost use Rattle.ipg_reader.specs.Digits.{is_digit, digit_value};
+ghost use Rattle.ipg_cert.specs.Reader.{limit, may_be_zero, may_be_negative, begun, letter_transition, gap_transition};
 ghost use Rattle.ipg_cert.specs.Reader.{first_transition, minus_transition, grown, digit_transition, transition_at, has_ended, PosWithin, TransitionWithin};
 
 /// A number of a step that is due.

@@ -6,6 +6,9 @@ ghost use Rattle.ipg_cert.specs.Totals.{total_at, AddsAt, AddsTerms, AreWithin};
 use ipg_lin::sum::{plus, times};
 use std::alloc::AllocError;
 
+/// No list has room for the last of the variables that 64 bits can tell.
+const NO_SUCH_VARIABLE: AllocError = AllocError;
+
 /// The product of a weight, and a coefficient or a constant.
 pub fn weighted(weight: u64, value: i128) -> i128
     requires weight { weight ≤ 2 ^ 40 }
@@ -22,7 +25,7 @@ fn make_room(totals: &mut Vec<i128>, var: u64) -> Result<(), AllocError>
     ensures room { OnOk result (var < length totals.new.items) }
 {
     if var == u64::MAX {
-        return Err(AllocError);
+        return Err(NO_SUCH_VARIABLE);
     }
     let wanted = var as usize + 1;
     if totals.len() < wanted {

@@ -6,7 +6,7 @@ use Rattle.ipg_reader.specs.Faults.{Continues}
 use Rattle.ipg_edit_script.specs.declared.script.Edit.{Edit}
 use Rattle.ipg_edit_script.specs.declared.pos.Pos.{Pos}
 use Rattle.ipg_edit_script.specs.declared.pos.Pos.TheVariants as pos
-use Rattle.ipg_edit_script.specs.Scripts.{hex_digit, hex, places_text, line, script_text, IsByte, IsEdit, AreEdits, IsScript}
+use Rattle.ipg_edit_script.specs.Scripts.{hex_digit, hex, places_text, line, script_text, IsByte, IsEdit, AreEdits}
 use Rattle.ipg_edit_script.specs.Reader.{byte_of, State, ended_at, ended}
 use Rattle.ipg_edit_script.proofs.Digits.{are_of}
 use Rattle.ipg_edit_script.proofs.Spelled.{script_push, hex_push, with_hex, ArePlaces, Bytes, IsSound, all_push, some_more}
@@ -86,10 +86,9 @@ pub sound_begins : (st : State) (words : List ℕ) → IsSound st words → Goes
 sound_begins st words sound = begun st.edits st.with words st.at sound
 
 script_at : (edits : List Edit) (with words : List ℕ) (p : Pos) (found : List Edit) → IsSound (record { edits = edits; with = with; at = p }) words
-    → ended_at p (record { edits = edits; with = with; at = p }) ≡ Some found → IsScript found words
+    → ended_at p (record { edits = edits; with = with; at = p }) ≡ Some found → AreEdits found × (words ≡ script_text found)
 script_at edits with words pos.Line found sound e =
-    subst (λ es. IsScript es words) (same_Some edits found e)
-    (record { each = sound.each; written = sound.spelled ∙ append-nil (script_text edits) })
+    subst (λ es. AreEdits es × (words ≡ script_text es)) (same_Some edits found e) (sound.each, sound.spelled ∙ append-nil (script_text edits))
 script_at edits with words (pos.From k) found sound e = absurd (none-some found e)
 script_at edits with words (pos.Gap from) found sound e = absurd (none-some found e)
 script_at edits with words (pos.To from k) found sound e = absurd (none-some found e)
@@ -98,5 +97,6 @@ script_at edits with words (pos.Nothing from to) found sound e = absurd (none-so
 script_at edits with words (pos.Whole from to) found sound e = absurd (none-some found e)
 script_at edits with words (pos.Half from to high) found sound e = absurd (none-some found e)
 
-pub sound_ends : (st : State) (words : List ℕ) (found : List Edit) → IsSound st words → ended st ≡ Some found → IsScript found words
+pub sound_ends : (st : State) (words : List ℕ) (found : List Edit) → IsSound st words → ended st ≡ Some found
+    → AreEdits found × (words ≡ script_text found)
 sound_ends st words found sound e = script_at st.edits st.with words st.at found sound e

@@ -1,34 +1,13 @@
 -- Digits, and what they stand for.
-use Rattle.std.proofs.Common.{◌≡◌, ℕ, zero, suc, ◌+◌, ◌-◌, ◌*◌, ◌/◌, ◌%◌, ◌^◌, ◌<◌, ◌≤◌, Bool, true, false, not, ◌&&◌, ◌||◌, nat_le, nat_lt, ◌==◌}
+use Rattle.std.proofs.Common.{◌≡◌, ℕ, ◌+◌, ◌-◌, ◌*◌, ◌/◌, ◌%◌, ◌^◌, ◌<◌, ◌≤◌, Bool, true, false, not, ◌&&◌, ◌||◌, nat_le, nat_lt, ◌==◌}
 use Rattle.std.proofs.Common.{inl, inr, [], ◌∷◌, ◌++◌, Option, Some, None, refl, ap, ◌∙◌, sym, arith, decimal, true≢false, if◌then◌else◌}
 use Rattle.std.proofs.lemmas.Bool.{cases_lt, cond_both, leb-true, le-leb, lt-ltb, le-ltb, ne_eqb}
 use Rattle.std.proofs.lemmas.Bool.Decides.{nat_tests}
-use Rattle.std.proofs.lemmas.Fmt.{decimal_digit, decimal_step}
+use Rattle.ipg_reader.specs.Digits.{is_digit, digit_value, digit_is, digit_more, not_zero}
 use Rattle.ipg_edit_script.specs.Scripts.{hex_digit}
-use Rattle.ipg_edit_script.specs.Reader.{is_digit, is_hex, digit_value, hex_value, byte_of, grown}
+use Rattle.ipg_edit_script.specs.Reader.{is_hex, hex_value, byte_of, grown}
 
 -- ---- decimal
-
-pub one_digit : (b : ℕ) → is_digit b ≡ true → b ∷ [] ≡ decimal (digit_value b)
-one_digit b e =
-    let range : (48 ≤ b) × (b ≤ 57) = grind (arith, nat_tests) in
-    let back : b ≡ 48 + (b - 48) = omega arith in
-    ap (λ x. x ∷ []) back ∙ sym (decimal_digit (b - 48) (omega arith))
-
-pub small_digit : (b : ℕ) → is_digit b ≡ true → digit_value b < 2 ^ 32
-small_digit b e = let range : (48 ≤ b) × (b ≤ 57) = grind (arith, nat_tests) in omega arith
-
-digit_more : (v b : ℕ) → 1 ≤ v → v * 10 + digit_value b < 2 ^ 64 → is_digit b ≡ true → decimal v ++ b ∷ [] ≡ decimal (v * 10 + digit_value b)
-digit_more v b some small e =
-    let range : (48 ≤ b) × (b ≤ 57) = grind (arith, nat_tests) in
-    let first : v ≡ (v * 10 + (b - 48)) / 10 = omega arith in
-    let end : b ≡ 48 + (v * 10 + (b - 48)) % 10 = omega arith in
-    ap (λ k. decimal k ++ b ∷ []) first ∙ ap (λ x. decimal ((v * 10 + (b - 48)) / 10) ++ x ∷ []) end
-    ∙ sym (decimal_step (v * 10 + (b - 48)) (omega arith) small)
-
-not_zero : (k : ℕ) → not (k == 0) ≡ true → 1 ≤ k
-not_zero zero e = absurd (true≢false (sym e))
-not_zero (suc k) e = omega arith
 
 both_parts : (a b : Bool) → (a && b) ≡ true → (a ≡ true) × (b ≡ true)
 both_parts true b h = (refl, h)
@@ -48,9 +27,6 @@ is_more k b digit =
     let within : v ≤ 2 ^ 32 - 1 = leb-true v (2 ^ 32 - 1) small in
     ((let e : v < 2 ^ 32 = omega (arith, within) in e), digit_more k b (not_zero k some) (let e : v < 2 ^ 64 = omega (arith, within) in e) digit))
     (λ none. tt)
-
-pub digit_is : (d : ℕ) → d < 10 → (is_digit (48 + d) ≡ true) × (digit_value (48 + d) ≡ d)
-digit_is d less = (grind (arith, nat_tests), (let e : 48 + d - 48 ≡ d = omega arith in e))
 
 pub grown_to : (m : ℕ) → 10 ≤ m → m < 2 ^ 32 → grown (m / 10) (m / 10 * 10 + digit_value (48 + m % 10)) ≡ Some m
 grown_to m large small =

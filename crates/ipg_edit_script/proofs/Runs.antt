@@ -1,39 +1,19 @@
 -- The text of a script leads a reader on to its end.
 use Rattle.std.proofs.Common.{◌≡◌, ℕ, ◌+◌, ◌*◌, ◌/◌, ◌%◌, ◌^◌, ◌<◌, true, ◌==◌}
-use Rattle.std.proofs.Common.{List, [], ◌∷◌, ◌++◌, Option, Some, None, refl, ap, ◌∙◌, sym, arith}
+use Rattle.std.proofs.Common.{List, [], ◌∷◌, ◌++◌, Some, refl, ap, ◌∙◌, sym, arith}
 use Rattle.std.proofs.Common.{append_assoc, append-nil, decimal, if◌then◌else◌}
 use Rattle.std.specs.List.{AllByRecursion}
-use Rattle.std.proofs.lemmas.Option.{none-some}
 use Rattle.std.proofs.lemmas.Fmt.{decimal_by_steps}
+use Rattle.ipg_reader.specs.Digits.{is_digit, digit_value, digit_is}
+use Rattle.ipg_reader.specs.Stepwise.{run, run_on, run_step}
 use Rattle.ipg_edit_script.specs.declared.script.Edit.{Edit}
 use Rattle.ipg_edit_script.specs.declared.pos.Pos.{Pos}
 use Rattle.ipg_edit_script.specs.declared.pos.Pos.TheVariants as pos
 use Rattle.ipg_edit_script.specs.declared.pos.ScriptTurn.TheVariants.{Stuck, To, Add}
-use Rattle.ipg_edit_script.specs.Scripts.{hex_digit, hex, with_text, places_text, line, script_text, IsByte, IsEdit, AreEdits, IsScript}
-use Rattle.ipg_edit_script.specs.Reader.{is_digit, is_hex, digit_value, hex_value, byte_of, grown, counted, more_from}
-use Rattle.ipg_edit_script.specs.Reader.{more_to, end_turn, State, start, taken, step}
-use Rattle.ipg_edit_script.proofs.Digits.{digit_is, grown_to, digit_of, byte_back}
-
-abbrev pub and_then : Option State → (State → Option State) → Option State
-and_then None f = None
-and_then (Some st) f = f st
-
-abbrev pub run : State → List ℕ → Option State
-run st [] = Some st
-run st (b ∷ bs) = and_then (step st b) (λ on. run on bs)
-
-through : (o : Option State) (f g : State → Option State) (mid : State) (r : Option State) → ((on : State) → f on ≡ Some mid → g on ≡ r)
-    → and_then o f ≡ Some mid → and_then o g ≡ r
-through None f g mid r h e = absurd (none-some mid e)
-through (Some on) f g mid r h e = h on e
-
-pub run_on : (st mid : State) (xs ys : List ℕ) → run st xs ≡ Some mid → run st (xs ++ ys) ≡ run mid ys
-run_on st mid [] ys e = ap (λ o. and_then o (λ on. run on ys)) e
-run_on st mid (x ∷ xs) ys e = through (step st x) (λ on. run on xs) (λ on. run on (xs ++ ys)) mid (run mid ys) (λ on d. run_on on mid xs ys d) e
-
--- one byte, and those after it
-pub run_step : (st on : State) (b : ℕ) (ys : List ℕ) → step st b ≡ Some on → run st (b ∷ ys) ≡ run on ys
-run_step st on b ys e = ap (λ o. and_then o (λ to. run to ys)) e
+use Rattle.ipg_edit_script.specs.Scripts.{hex_digit, hex, with_text, places_text, line, script_text, IsByte, IsEdit, AreEdits}
+use Rattle.ipg_edit_script.specs.Reader.{is_hex, hex_value, byte_of, grown, counted, more_from}
+use Rattle.ipg_edit_script.specs.Reader.{more_to, end_turn, State, start, taken, step, ended}
+use Rattle.ipg_edit_script.proofs.Digits.{grown_to, digit_of, byte_back}
 
 abbrev at_place : List Edit → List ℕ → Pos → State
 at_place edits with p = record { edits = edits; with = with; at = p }
@@ -44,16 +24,16 @@ at_place edits with p = record { edits = edits; with = with; at = p }
 run_decimal : (before : State) (at : ℕ → State)
     → ((d : ℕ) → is_digit (48 + d) ≡ true → digit_value (48 + d) ≡ d → step before (48 + d) ≡ Some (at d))
     → ((k m b : ℕ) → is_digit b ≡ true → grown k (k * 10 + digit_value b) ≡ Some m → step (at k) b ≡ Some (at m))
-    → (k : ℕ) → k < 2 ^ 32 → run before (decimal k) ≡ Some (at k)
-run_decimal before at first more k small = decimal_by_steps (λ m ds. m < 2 ^ 32 → run before ds ≡ Some (at m))
-    (λ m less fits. let is = digit_is m less in run_step before (at m) (48 + m) [] (first m is.0 is.1))
+    → (k : ℕ) → k < 2 ^ 32 → run step before (decimal k) ≡ Some (at k)
+run_decimal before at first more k small = decimal_by_steps (λ m ds. m < 2 ^ 32 → run step before ds ≡ Some (at m))
+    (λ m less fits. let is = digit_is m less in run_step step before (at m) (48 + m) [] (first m is.0 is.1))
     (λ m ds large here fits.
-    run_on before (at (m / 10)) ds ((48 + m % 10) ∷ []) (here (omega arith))
-    ∙ run_step (at (m / 10)) (at m) (48 + m % 10) [] (more (m / 10) m (48 + m % 10) (digit_is (m % 10) (omega arith)).0 (grown_to m large fits)))
+    run_on step before (at (m / 10)) ds ((48 + m % 10) ∷ []) (here (omega arith))
+    ∙ run_step step (at (m / 10)) (at m) (48 + m % 10) [] (more (m / 10) m (48 + m % 10) (digit_is (m % 10) (omega arith)).0 (grown_to m large fits)))
     k (omega (arith, small)) small
 
 module _ (edits : List Edit) where
-  run_from : (k : ℕ) → k < 2 ^ 32 → run (at_place edits [] pos.Line) (decimal k) ≡ Some (at_place edits [] (pos.From k))
+  run_from : (k : ℕ) → k < 2 ^ 32 → run step (at_place edits [] pos.Line) (decimal k) ≡ Some (at_place edits [] (pos.From k))
   run_from k small =
       let before = at_place edits [] pos.Line in
       run_decimal before (λ m. at_place edits [] (pos.From m))
@@ -64,7 +44,7 @@ module _ (edits : List Edit) where
       ∙ ap (λ o. taken (counted pos.From o) (at_place edits [] (pos.From j))) e)
       k small
 
-  run_to : (from k : ℕ) → k < 2 ^ 32 → run (at_place edits [] (pos.Gap from)) (decimal k) ≡ Some (at_place edits [] (pos.To from k))
+  run_to : (from k : ℕ) → k < 2 ^ 32 → run step (at_place edits [] (pos.Gap from)) (decimal k) ≡ Some (at_place edits [] (pos.To from k))
   run_to from k small =
       let before = at_place edits [] (pos.Gap from) in
       run_decimal before (λ m. at_place edits [] (pos.To from m))
@@ -77,11 +57,11 @@ module _ (edits : List Edit) where
       k small
 
   run_places : (from to : ℕ) → from < 2 ^ 32 → to < 2 ^ 32
-      → run (at_place edits [] pos.Line) (places_text from to) ≡ Some (at_place edits [] (pos.With from to))
+      → run step (at_place edits [] pos.Line) (places_text from to) ≡ Some (at_place edits [] (pos.With from to))
   run_places from to small also =
-      run_on (at_place edits [] pos.Line) (at_place edits [] (pos.From from)) (decimal from) (32 ∷ (decimal to ++ 32 ∷ [])) (run_from from small)
-      ∙ run_step (at_place edits [] (pos.From from)) (at_place edits [] (pos.Gap from)) 32 (decimal to ++ 32 ∷ []) refl
-      ∙ run_on (at_place edits [] (pos.Gap from)) (at_place edits [] (pos.To from to)) (decimal to) (32 ∷ []) (run_to from to also)
+      run_on step (at_place edits [] pos.Line) (at_place edits [] (pos.From from)) (decimal from) (32 ∷ (decimal to ++ 32 ∷ [])) (run_from from small)
+      ∙ run_step step (at_place edits [] (pos.From from)) (at_place edits [] (pos.Gap from)) 32 (decimal to ++ 32 ∷ []) refl
+      ∙ run_on step (at_place edits [] (pos.Gap from)) (at_place edits [] (pos.To from to)) (decimal to) (32 ∷ []) (run_to from to also)
 
   -- ---- bytes
 
@@ -89,21 +69,21 @@ module _ (edits : List Edit) where
     -- both digits of a byte, where the place before it takes the first
     run_byte : (before : State) (with : List ℕ) (b : ℕ) (more : List ℕ) → b < 256
         → ((d : ℕ) → is_hex d ≡ true → step before d ≡ Some (at_place edits with (pos.Half from to (hex_value d))))
-        → run before (hex_digit (b / 16) ∷ hex_digit (b % 16) ∷ more) ≡ run (at_place edits (with ++ b ∷ []) (pos.Whole from to)) more
+        → run step before (hex_digit (b / 16) ∷ hex_digit (b % 16) ∷ more) ≡ run step (at_place edits (with ++ b ∷ []) (pos.Whole from to)) more
     run_byte before with b more small takes =
         let first = digit_of (b / 16) (omega (arith, small)) in
         let second = digit_of (b % 16) (omega arith) in
         let half = at_place edits with (pos.Half from to (b / 16)) in
         let low = hex_digit (b % 16) in
-        run_step before half (hex_digit (b / 16)) (low ∷ more)
+        run_step step before half (hex_digit (b / 16)) (low ∷ more)
         (takes (hex_digit (b / 16)) first.digit ∙ ap (λ h. Some (at_place edits with (pos.Half from to h))) first.value)
-        ∙ run_step half (at_place edits (with ++ b ∷ []) (pos.Whole from to)) low more
+        ∙ run_step step half (at_place edits (with ++ b ∷ []) (pos.Whole from to)) low more
         (ap (λ c. taken (if c then Add (byte_of (b / 16) (hex_value low)) (pos.Whole from to) else Stuck) half) second.digit
         ∙ ap (λ l. taken (Add (byte_of (b / 16) l) (pos.Whole from to)) half) second.value
         ∙ ap (λ v. taken (Add v (pos.Whole from to)) half) (byte_back b small))
 
     run_hex : (bs with : List ℕ) → AllByRecursion IsByte bs
-        → run (at_place edits with (pos.Whole from to)) (hex bs) ≡ Some (at_place edits (with ++ bs) (pos.Whole from to))
+        → run step (at_place edits with (pos.Whole from to)) (hex bs) ≡ Some (at_place edits (with ++ bs) (pos.Whole from to))
     run_hex [] with all = ap (λ xs. Some (at_place edits xs (pos.Whole from to))) (sym (append-nil with))
     run_hex (b ∷ bs) with all =
         let whole = at_place edits with (pos.Whole from to) in
@@ -113,30 +93,31 @@ module _ (edits : List Edit) where
         ∙ ap (λ xs. Some (at_place edits xs (pos.Whole from to))) (append_assoc with (b ∷ []) bs)
 
     run_with : (with : List ℕ) → AllByRecursion IsByte with
-        → run (at_place edits [] (pos.With from to)) (with_text with ++ 10 ∷ [])
+        → run step (at_place edits [] (pos.With from to)) (with_text with ++ 10 ∷ [])
         ≡ Some (at_place (edits ++ (record { from = from; to = to; with = with }) ∷ []) [] pos.Line)
     run_with [] all = refl
     run_with (b ∷ bs) all =
         let before = at_place edits [] (pos.With from to) in
-        run_on before (at_place edits (b ∷ bs) (pos.Whole from to)) (hex (b ∷ bs)) (10 ∷ [])
+        run_on step before (at_place edits (b ∷ bs) (pos.Whole from to)) (hex (b ∷ bs)) (10 ∷ [])
         (run_byte before [] b (hex bs) all.0
         (λ d digit. ap (λ c. taken (if c then To (pos.Half from to (hex_value d)) else (if d == 45 then To (pos.Nothing from to) else Stuck)) before) digit)
         ∙ run_hex bs (b ∷ []) all.1)
 
 -- ---- lines
 
-run_line : (edits : List Edit) (e : Edit) → IsEdit e → run (at_place edits [] pos.Line) (line e) ≡ Some (at_place (edits ++ e ∷ []) [] pos.Line)
+run_line : (edits : List Edit) (e : Edit) → IsEdit e → run step (at_place edits [] pos.Line) (line e) ≡ Some (at_place (edits ++ e ∷ []) [] pos.Line)
 run_line edits e is =
-    run_on (at_place edits [] pos.Line) (at_place edits [] (pos.With e.from e.to)) (places_text e.from e.to) (with_text e.with ++ 10 ∷ [])
+    run_on step (at_place edits [] pos.Line) (at_place edits [] (pos.With e.from e.to)) (places_text e.from e.to) (with_text e.with ++ 10 ∷ [])
     (run_places edits e.from e.to is.from is.to)
     ∙ run_with edits e.from e.to e.with is.with_bytes
 
-run_lines : (more edits : List Edit) → AreEdits more → run (at_place edits [] pos.Line) (script_text more) ≡ Some (at_place (edits ++ more) [] pos.Line)
+run_lines : (more edits : List Edit) → AreEdits more → run step (at_place edits [] pos.Line) (script_text more) ≡ Some (at_place (edits ++ more) [] pos.Line)
 run_lines [] edits all = ap (λ es. Some (at_place es [] pos.Line)) (sym (append-nil edits))
 run_lines (e ∷ more) edits all =
-    run_on (at_place edits [] pos.Line) (at_place (edits ++ e ∷ []) [] pos.Line) (line e) (script_text more) (run_line edits e all.0)
+    run_on step (at_place edits [] pos.Line) (at_place (edits ++ e ∷ []) [] pos.Line) (line e) (script_text more) (run_line edits e all.0)
     ∙ run_lines more (edits ++ e ∷ []) all.1
     ∙ ap (λ es. Some (at_place es [] pos.Line)) (append_assoc edits (e ∷ []) more)
 
-pub script_ends : (edits : List Edit) (text : List ℕ) → IsScript edits text → run start text ≡ Some (at_place edits [] pos.Line)
-script_ends edits text is = ap (run start) is.written ∙ run_lines edits [] is.each
+-- the script of edits leads from the start to the place before a line
+pub script_ends : (edits : List Edit) → AreEdits edits → (end : State) × (run step start (script_text edits) ≡ Some end) × (ended end ≡ Some edits)
+script_ends edits each = (at_place edits [] pos.Line, run_lines edits [] each, refl)

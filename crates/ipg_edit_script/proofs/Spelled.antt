@@ -5,13 +5,15 @@ use Rattle.std.proofs.Common.{append_assoc, append-nil, length-append, decimal, 
 use Rattle.std.specs.List.{AllByRecursion}
 use Rattle.std.proofs.lemmas.Bool.{cond_both, eqb-true}
 use Rattle.std.proofs.lemmas.List.{flat_map_more}
+use Rattle.ipg_reader.specs.Digits.{is_digit, digit_value, one_digit, small_digit}
+use Rattle.ipg_reader.specs.Stepwise.{OnStep}
 use Rattle.ipg_edit_script.specs.declared.script.Edit.{Edit}
 use Rattle.ipg_edit_script.specs.declared.pos.Pos.{Pos}
 use Rattle.ipg_edit_script.specs.declared.pos.Pos.TheVariants as pos
 use Rattle.ipg_edit_script.specs.declared.pos.ScriptTurn.TheVariants.{Stuck, To, Add, End}
 use Rattle.ipg_edit_script.specs.Scripts.{hex_digit, byte_text, hex, with_text, places_text, line, script_text, IsByte, IsEdit, AreEdits}
-use Rattle.ipg_edit_script.specs.Reader.{is_digit, is_hex, digit_value, hex_value, byte_of, grown, counted, more_from, more_to, end_turn, State, taken, step}
-use Rattle.ipg_edit_script.proofs.Digits.{one_digit, small_digit, IsMore, is_more, hex_of, are_of}
+use Rattle.ipg_edit_script.specs.Reader.{is_hex, hex_value, byte_of, grown, counted, more_from, more_to, end_turn, State, taken, step}
+use Rattle.ipg_edit_script.proofs.Digits.{IsMore, is_more, hex_of, are_of}
 
 -- ---- texts
 
@@ -65,10 +67,6 @@ pub record IsSound (st : State) (words : List ℕ) : Type 0 where
   pub each : AreEdits st.edits
   pub at : IsAt st.with st.at
 
-abbrev pub OnStep : Option State → List ℕ → Type 0
-OnStep None words = Unit {0}
-OnStep (Some st) words = IsSound st words
-
 -- ---- one byte more
 
 pub all_push : {A : Type 0} (P : A → Type 0) (xs : List A) (x : A) → AllByRecursion P xs → P x → AllByRecursion P (xs ++ x ∷ [])
@@ -98,19 +96,19 @@ module _ (edits : List Edit) (with : List ℕ) (p : Pos) (words : List ℕ)
   -- a number goes on
   number_on : (q : ℕ → Pos) (k : ℕ) → is_digit b ≡ true
       → ((v : ℕ) → v < 2 ^ 32 → decimal k ++ b ∷ [] ≡ decimal v → IsSound (record { edits = edits; with = with; at = q v }) (words ++ b ∷ []))
-      → OnStep (taken (counted q (grown k (k * 10 + digit_value b))) here) (words ++ b ∷ [])
+      → OnStep IsSound (taken (counted q (grown k (k * 10 + digit_value b))) here) (words ++ b ∷ [])
   number_on q k digit go = by_more (grown k (k * 10 + digit_value b)) (is_more k b digit)
     where
-      by_more : (o : Option ℕ) → IsMore k b o → OnStep (taken (counted q o) here) (words ++ b ∷ [])
+      by_more : (o : Option ℕ) → IsMore k b o → OnStep IsSound (taken (counted q o) here) (words ++ b ∷ [])
       by_more None is = tt
       by_more (Some v) is = go v is.0 is.1
 
   -- the line at hand is whole
   ended_on : (from to : ℕ) → Bytes with → ArePlaces from to → part with p ≡ places_text from to ++ with_text with
-      → OnStep (taken (end_turn from to b) here) (words ++ b ∷ [])
+      → OnStep IsSound (taken (end_turn from to b) here) (words ++ b ∷ [])
   ended_on from to bytes places e =
       let edit : Edit = record { from = from; to = to; with = with } in
-      cond_both (b == 10) (End from to) Stuck (λ t. OnStep (taken t here) (words ++ b ∷ []))
+      cond_both (b == 10) (End from to) Stuck (λ t. OnStep IsSound (taken t here) (words ++ b ∷ []))
       (λ is. record {
         spelled = ap (λ ws. ws ++ b ∷ []) sound.spelled ∙ append_assoc (script_text edits) (part with p) (b ∷ [])
             ∙ ap (λ xs. script_text edits ++ xs) (ap (λ xs. xs ++ b ∷ []) e ∙ append_assoc (places_text from to) (with_text with) (b ∷ [])
@@ -122,50 +120,50 @@ module _ (edits : List Edit) (with : List ℕ) (p : Pos) (words : List ℕ)
       (λ none. tt)
 
 abbrev After : List Edit → List ℕ → Pos → List ℕ → ℕ → Type 0
-After edits with p words b = OnStep (step (record { edits = edits; with = with; at = p }) b) (words ++ b ∷ [])
+After edits with p words b = OnStep IsSound (step (record { edits = edits; with = with; at = p }) b) (words ++ b ∷ [])
 
 pub step_sound : (edits : List Edit) (with words : List ℕ) (b : ℕ) (p : Pos) → IsSound (record { edits = edits; with = with; at = p }) words
     → After edits with p words b
 step_sound edits with words b pos.Line sound =
     let st : State = record { edits = edits; with = with; at = pos.Line } in
-    cond_both (is_digit b) (To (pos.From (digit_value b))) Stuck (λ t. OnStep (taken t st) (words ++ b ∷ []))
+    cond_both (is_digit b) (To (pos.From (digit_value b))) Stuck (λ t. OnStep IsSound (taken t st) (words ++ b ∷ []))
     (λ digit. moved edits with pos.Line words sound b with (pos.From (digit_value b)) (sound.at, small_digit b digit) (one_digit b digit))
     (λ none. tt)
 step_sound edits with words b (pos.From k) sound =
     let st : State = record { edits = edits; with = with; at = pos.From k } in
-    cond_both (is_digit b) (more_from k b) (if b == 32 then To (pos.Gap k) else Stuck) (λ t. OnStep (taken t st) (words ++ b ∷ []))
+    cond_both (is_digit b) (more_from k b) (if b == 32 then To (pos.Gap k) else Stuck) (λ t. OnStep IsSound (taken t st) (words ++ b ∷ []))
     (λ digit. number_on edits with (pos.From k) words sound b pos.From k digit
     (λ v small e. moved edits with (pos.From k) words sound b with (pos.From v) (sound.at.0, small) e))
-    (λ other. cond_both (b == 32) (To (pos.Gap k)) Stuck (λ t. OnStep (taken t st) (words ++ b ∷ []))
+    (λ other. cond_both (b == 32) (To (pos.Gap k)) Stuck (λ t. OnStep IsSound (taken t st) (words ++ b ∷ []))
     (λ is. moved edits with (pos.From k) words sound b with (pos.Gap k) sound.at (ap (λ x. decimal k ++ x ∷ []) (eqb-true b 32 is)))
     (λ none. tt))
 step_sound edits with words b (pos.Gap from) sound =
     let st : State = record { edits = edits; with = with; at = pos.Gap from } in
-    cond_both (is_digit b) (To (pos.To from (digit_value b))) Stuck (λ t. OnStep (taken t st) (words ++ b ∷ []))
+    cond_both (is_digit b) (To (pos.To from (digit_value b))) Stuck (λ t. OnStep IsSound (taken t st) (words ++ b ∷ []))
     (λ digit. moved edits with (pos.Gap from) words sound b with (pos.To from (digit_value b))
     (sound.at.0, (sound.at.1, small_digit b digit))
     (append_assoc (decimal from) (32 ∷ []) (b ∷ []) ∙ ap (λ ds. decimal from ++ 32 ∷ ds) (one_digit b digit)))
     (λ none. tt)
 step_sound edits with words b (pos.To from k) sound =
     let st : State = record { edits = edits; with = with; at = pos.To from k } in
-    cond_both (is_digit b) (more_to from k b) (if b == 32 then To (pos.With from k) else Stuck) (λ t. OnStep (taken t st) (words ++ b ∷ []))
+    cond_both (is_digit b) (more_to from k b) (if b == 32 then To (pos.With from k) else Stuck) (λ t. OnStep IsSound (taken t st) (words ++ b ∷ []))
     (λ digit. number_on edits with (pos.To from k) words sound b (pos.To from) k digit
     (λ v small e. moved edits with (pos.To from k) words sound b with (pos.To from v) (sound.at.0, (sound.at.1.0, small))
     (append_assoc (decimal from) (32 ∷ decimal k) (b ∷ []) ∙ ap (λ ds. decimal from ++ 32 ∷ ds) e)))
-    (λ other. cond_both (b == 32) (To (pos.With from k)) Stuck (λ t. OnStep (taken t st) (words ++ b ∷ []))
+    (λ other. cond_both (b == 32) (To (pos.With from k)) Stuck (λ t. OnStep IsSound (taken t st) (words ++ b ∷ []))
     (λ is. moved edits with (pos.To from k) words sound b with (pos.With from k) sound.at
     (append_assoc (decimal from) (32 ∷ decimal k) (b ∷ []) ∙ ap (λ x. decimal from ++ 32 ∷ (decimal k ++ x ∷ [])) (eqb-true b 32 is)))
     (λ none. tt))
 step_sound edits with words b (pos.With from to) sound =
     let st : State = record { edits = edits; with = with; at = pos.With from to } in
     cond_both (is_hex b) (To (pos.Half from to (hex_value b))) (if b == 45 then To (pos.Nothing from to) else Stuck)
-    (λ t. OnStep (taken t st) (words ++ b ∷ []))
+    (λ t. OnStep IsSound (taken t st) (words ++ b ∷ []))
     (λ digit.
     let is = hex_of b digit in
     moved edits with (pos.With from to) words sound b with (pos.Half from to (hex_value b)) (no_bytes with sound.at.0, sound.at.1, is.small)
     (ap (λ x. places_text from to ++ x ∷ []) (sym is.written)
     ∙ ap (λ bytes. places_text from to ++ (hex bytes ++ hex_digit (hex_value b) ∷ [])) (sym sound.at.0)))
-    (λ other. cond_both (b == 45) (To (pos.Nothing from to)) Stuck (λ t. OnStep (taken t st) (words ++ b ∷ []))
+    (λ other. cond_both (b == 45) (To (pos.Nothing from to)) Stuck (λ t. OnStep IsSound (taken t st) (words ++ b ∷ []))
     (λ is. moved edits with (pos.With from to) words sound b with (pos.Nothing from to) sound.at
     (ap (λ x. places_text from to ++ x ∷ []) (eqb-true b 45 is)))
     (λ none. tt))
@@ -174,7 +172,7 @@ step_sound edits with words b (pos.Nothing from to) sound =
     (ap (λ bytes. places_text from to ++ with_text bytes) (sym sound.at.0))
 step_sound edits with words b (pos.Whole from to) sound =
     let st : State = record { edits = edits; with = with; at = pos.Whole from to } in
-    cond_both (is_hex b) (To (pos.Half from to (hex_value b))) (end_turn from to b) (λ t. OnStep (taken t st) (words ++ b ∷ []))
+    cond_both (is_hex b) (To (pos.Half from to (hex_value b))) (end_turn from to b) (λ t. OnStep IsSound (taken t st) (words ++ b ∷ []))
     (λ digit.
     let is = hex_of b digit in
     moved edits with (pos.Whole from to) words sound b with (pos.Half from to (hex_value b)) (sound.at.0, sound.at.1, is.small)
@@ -184,7 +182,7 @@ step_sound edits with words b (pos.Whole from to) sound =
 step_sound edits with words b (pos.Half from to high) sound =
     let st : State = record { edits = edits; with = with; at = pos.Half from to high } in
     let byte = byte_of high (hex_value b) in
-    cond_both (is_hex b) (Add byte (pos.Whole from to)) Stuck (λ t. OnStep (taken t st) (words ++ b ∷ []))
+    cond_both (is_hex b) (Add byte (pos.Whole from to)) Stuck (λ t. OnStep IsSound (taken t st) (words ++ b ∷ []))
     (λ digit.
     let is = hex_of b digit in
     moved edits with (pos.Half from to high) words sound b (with ++ byte ∷ []) (pos.Whole from to)

@@ -1,6 +1,7 @@
 -- A reader of a script, byte after byte: where it stands, and where each byte takes it.
 use Rattle.std.specs.Prelude.{ℕ, ◌+◌, ◌-◌, ◌*◌, ◌%◌, ◌^◌, Bool, not, ◌&&◌, ◌||◌, nat_le, ◌==◌, if◌then◌else◌, List, [], ◌∷◌, ◌++◌}
-use Rattle.std.specs.Prelude.{Option, None, Some, Result, Ok, Err}
+use Rattle.std.specs.Prelude.{Option, None, Some}
+use Rattle.ipg_reader.specs.Digits.{is_digit, digit_value}
 use Rattle.ipg_edit_script.specs.declared.script.Edit.{Edit}
 use Rattle.ipg_edit_script.specs.declared.pos.Pos.{Pos}
 use Rattle.ipg_edit_script.specs.declared.pos.Pos.TheVariants as pos
@@ -12,14 +13,8 @@ use Rattle.ipg_edit_script.specs.declared.pos.ScriptTurn.TheVariants.{Stuck, To,
 abbrev pub between : ℕ → ℕ → ℕ → Bool
 between low high b = nat_le low b && nat_le b high
 
-abbrev pub is_digit : ℕ → Bool
-is_digit b = between 48 57 b
-
 abbrev pub is_hex : ℕ → Bool
 is_hex b = is_digit b || between 97 102 b
-
-abbrev pub digit_value : ℕ → ℕ
-digit_value b = b - 48
 
 abbrev pub hex_value : ℕ → ℕ
 hex_value b = if is_digit b then digit_value b else b - 87
@@ -115,21 +110,3 @@ ended_at (pos.Half from to high) st = None
 -- the edits, where a script may end here
 abbrev pub ended : State → Option (List Edit)
 ended st = ended_at st.at st
-
--- ---- all bytes
-
-abbrev pub Found : Type 0
-Found = Result (List Edit) ℕ
-
-abbrev pub next : Option State → ℕ → (State → Found) → Found
-next None n rest = Err n
-next (Some st) n rest = rest st
-
-abbrev pub last : Option (List Edit) → ℕ → Found
-last None n = Err n
-last (Some edits) n = Ok edits
-
--- the edits, or how many bytes are taken before the first that does not fit
-abbrev pub read_from : State → ℕ → List ℕ → Found
-read_from st n [] = last (ended st) n
-read_from st n (b ∷ bs) = next (step st b) n (λ on. read_from on (n + 1) bs)

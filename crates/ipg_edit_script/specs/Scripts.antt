@@ -1,10 +1,7 @@
 -- Scripts of edits: how they are written, and where a text first isn't one.
 use Rattle.std.specs.Prelude.{◌≡◌, ℕ, ◌+◌, ◌/◌, ◌%◌, ◌^◌, ◌<◌, nat_lt, List, [], ◌∷◌, ◌++◌, decimal, if◌then◌else◌}
 use Rattle.std.specs.List.{flat_map, AllByRecursion}
-use Rattle.ipg_reader.specs.Faults.{IsFirstFault}
 use Rattle.ipg_edit_script.specs.declared.script.Edit.{Edit}
-use Rattle.ipg_edit_script.specs.declared.reading.ScriptFault.{ScriptFault}
-use Rattle.ipg_edit_script.specs.declared.reading.ScriptFault.TheVariants.{EditText, Memory}
 
 -- ---- how a script is written
 
@@ -52,9 +49,3 @@ AreEdits edits = AllByRecursion IsEdit edits
 pub record IsScript (edits : List Edit) (text : List ℕ) : Type 0 where
   pub each : AreEdits edits
   pub written : text ≡ script_text edits
-
--- ---- faults
-
-abbrev pub IsFault : List ℕ → ScriptFault → Type 0
-IsFault text (EditText at) = IsFirstFault AreEdits script_text text at
-IsFault text Memory = Unit {0}

@@ -6,5 +6,5 @@ mod pos;
 mod reading;
 mod script;
 
-pub use reading::{ScriptFault, read};
+pub use reading::read;
 pub use script::Edit;

@@ -1,5 +1,6 @@
 //! Where a reader of a script stands, and where a byte takes it.
 ghost use Rattle.std.specs.Prelude.{◌≡◌, ◌+◌, ◌*◌};
+ghost use Rattle.ipg_reader.specs.Digits as digits;
 ghost use Rattle.ipg_edit_script.specs.Reader as spec;
 
 /// A place within a line, with the numbers of the line so far.
@@ -36,7 +37,7 @@ pub enum ScriptTurn {
 }
 
 fn is_digit(b: u8) -> bool
-    ensures { result ≡ spec.is_digit b }
+    ensures { result ≡ digits.is_digit b }
 {
     b'0' <= b && b <= b'9'
 }
@@ -48,7 +49,7 @@ fn is_hex(b: u8) -> bool
 }
 
 fn digit_value(b: u8) -> u8
-    ensures { result ≡ spec.digit_value b }
+    ensures { result ≡ digits.digit_value b }
 {
     b.saturating_sub(b'0')
 }

@@ -1,33 +1,19 @@
 //! Reads a script.
 ghost use Rattle.std.specs.Prelude.{◌≡◌, [], Some, None, IfOk, MatchResult, if◌then◌else◌};
 ghost use Rattle.std.specs.Prelude.{ℕ, List};
-ghost use Rattle.ipg_edit_script.specs.Scripts.{IsScript, IsFault};
+ghost use Rattle.ipg_edit_script.specs.Scripts.{IsScript, AreEdits, script_text};
 ghost use Rattle.ipg_edit_script.specs.Reader.{start, closed, step, ended};
 ghost use Rattle.ipg_edit_script.specs.Reading.{seen};
 ghost use Rattle.ipg_edit_script.specs.declared.script.Edit.{Edit as Asked};
-ghost use Rattle.ipg_edit_script.specs.declared.reading.ScriptFault.TheVariants.{Memory};
+ghost use Rattle.ipg_reader.specs.declared.fault.Fault.TheVariants.{Memory};
+ghost use Rattle.ipg_reader.specs.Faults.{IsFault};
 
 use crate::pos::{Pos, ScriptTurn, turn_at};
 use crate::script::Edit;
 use ipg_num::List;
+use ipg_reader::Fault;
 use std::alloc::{AllocError, Global};
 use std::mem;
-
-/// Why a text is no script.
-#[derive(Clone, Copy, Debug, Drop, PartialEq, Eq)]
-pub enum ScriptFault {
-    /// No script goes on with the byte at this place, or the text ends here.
-    EditText { at: u64 },
-    Memory,
-}
-
-impl From<AllocError> for ScriptFault {
-    ghost from_gives = { λ _ fault. fault ≡ Memory };
-
-    fn from(_: AllocError) -> ScriptFault {
-        ScriptFault::Memory
-    }
-}
 
 /// The edits read so far, the bytes of the one at hand, and the place within its line.
 #[derive(Drop)]
@@ -105,21 +91,21 @@ impl Reader {
 /// The edits that a text is a script of.
 ///
 /// # Errors
-/// `EditText` has the first byte that no script goes on with, or the text's length where it ends too early.
-pub fn read(alloc: Global, text: &[u8]) -> Result<List<Edit>, ScriptFault>
-    ensures is { MatchResult result (λ edits. IsScript edits text.now) (λ fault. IsFault text.now fault) }
+/// `At` has the first byte that no script goes on with, or the text's length where it ends too early.
+pub fn read(alloc: Global, text: &[u8]) -> Result<List<Edit>, Fault>
+    ensures is { MatchResult result (λ edits. IsScript edits text.now) (λ fault. IsFault AreEdits script_text text.now fault) }
     ensures back { (edits : List Asked) → IsScript edits text.now → MatchResult result (λ found. found ≡ edits) (λ fault. fault ≡ Memory) }
 {
     let mut reader = Reader::new(alloc);
     let mut next = 0;
     while next < text.len() {
         if !reader.take(text[next])? {
-            return Err(ScriptFault::EditText { at: next as u64 });
+            return Err(Fault::At(next as u64));
         }
         next += 1;
     }
     match reader.finish() {
         Some(edits) => Ok(edits),
-        None => Err(ScriptFault::EditText { at: next as u64 }),
+        None => Err(Fault::At(next as u64)),
     }
 }

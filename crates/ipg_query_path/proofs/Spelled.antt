@@ -1,18 +1,18 @@
 -- The bytes that a reader has taken, and one byte more.
-use Rattle.std.proofs.Common.{◌≡◌, ℕ, zero, suc, ◌+◌, ◌-◌, ◌*◌, ◌/◌, ◌%◌, ◌^◌, ◌<◌, ◌≤◌, Bool, true, false, not, ◌&&◌, nat_le, ◌==◌}
-use Rattle.std.proofs.Common.{List, [], ◌∷◌, ◌++◌, length, Option, Some, None, refl, ap, ◌∙◌, sym, subst, arith}
+use Rattle.std.proofs.Common.{◌≡◌, ℕ, ◌+◌, ◌-◌, ◌*◌, ◌^◌, ◌<◌, ◌≤◌, Bool, true, false, not, ◌&&◌, nat_le, ◌==◌}
+use Rattle.std.proofs.Common.{List, [], ◌∷◌, ◌++◌, length, refl, ap, ◌∙◌, sym, subst, arith}
 use Rattle.std.proofs.Common.{append_assoc, append-nil, length-append, decimal, flat_map, true≢false, if◌then◌else◌}
 use Rattle.std.specs.List.{AllByRecursion}
 use Rattle.std.proofs.lemmas.Bool.{cond_both, eqb-true, leb-true}
-use Rattle.std.proofs.lemmas.Bool.Decides.{nat_tests}
-use Rattle.std.proofs.lemmas.Fmt.{decimal_digit, decimal_step}
+use Rattle.ipg_reader.specs.Stepwise.{OnStep}
+use Rattle.ipg_reader.specs.Digits.{is_digit, digit_value, one_digit, small_digit, digit_more, not_zero}
 use Rattle.ipg_query_path.specs.declared.path.Step.{Step}
 use Rattle.ipg_query_path.specs.declared.path.Step.TheVariants.{Named, Nth, Children, All}
 use Rattle.ipg_query_path.specs.declared.pos.Pos.{Pos}
 use Rattle.ipg_query_path.specs.declared.pos.Pos.TheVariants as pos
 use Rattle.ipg_query_path.specs.declared.pos.PathTurn.TheVariants.{Stuck, To, Add, End}
-use Rattle.ipg_query_path.specs.Paths.{step_text, slashed, steps_text, is_letter, is_digit, is_naming, IsNaming, IsName, IsStep}
-use Rattle.ipg_query_path.specs.Reader.{digit_value, end_turn, State, step_at, taken, step}
+use Rattle.ipg_query_path.specs.Paths.{step_text, slashed, steps_text, is_letter, is_naming, IsNaming, IsName, IsStep}
+use Rattle.ipg_query_path.specs.Reader.{end_turn, State, step_at, taken, step}
 
 -- ---- texts
 
@@ -79,10 +79,6 @@ pub record IsSound (st : State) (words : List ℕ) : Type 0 where
   pub ranges : AllByRecursion IsStep st.steps
   pub at : IsAt st.steps st.name st.at
 
-abbrev pub OnStep : Option State → List ℕ → Type 0
-OnStep None words = Unit {0}
-OnStep (Some st) words = IsSound st words
-
 -- ---- one byte more
 
 pub all_push : {A : Type 0} (P : A → Type 0) (xs : List A) (x : A) → AllByRecursion P xs → P x → AllByRecursion P (xs ++ x ∷ [])
@@ -96,27 +92,6 @@ name_push (c ∷ name) b is naming = (is.0, all_push IsNaming name b is.1 naming
 both_parts : (a b : Bool) → (a && b) ≡ true → (a ≡ true) × (b ≡ true)
 both_parts true b h = (refl, h)
 both_parts false b h = absurd (true≢false (sym h))
-
-one_digit : (b : ℕ) → is_digit b ≡ true → b ∷ [] ≡ decimal (digit_value b)
-one_digit b e =
-    let range : (48 ≤ b) × (b ≤ 57) = grind (arith, nat_tests) in
-    let back : b ≡ 48 + (b - 48) = omega arith in
-    ap (λ x. x ∷ []) back ∙ sym (decimal_digit (b - 48) (omega arith))
-
-small_digit : (b : ℕ) → is_digit b ≡ true → digit_value b < 2 ^ 32
-small_digit b e = let range : (48 ≤ b) × (b ≤ 57) = grind (arith, nat_tests) in omega arith
-
-digit_more : (v b : ℕ) → 1 ≤ v → v * 10 + digit_value b < 2 ^ 64 → is_digit b ≡ true → decimal v ++ b ∷ [] ≡ decimal (v * 10 + digit_value b)
-digit_more v b some small e =
-    let range : (48 ≤ b) × (b ≤ 57) = grind (arith, nat_tests) in
-    let first : v ≡ (v * 10 + (b - 48)) / 10 = omega arith in
-    let end : b ≡ 48 + (v * 10 + (b - 48)) % 10 = omega arith in
-    ap (λ k. decimal k ++ b ∷ []) first ∙ ap (λ x. decimal ((v * 10 + (b - 48)) / 10) ++ x ∷ []) end
-    ∙ sym (decimal_step (v * 10 + (b - 48)) (omega arith) small)
-
-not_zero : (k : ℕ) → not (k == 0) ≡ true → 1 ≤ k
-not_zero zero e = absurd (true≢false (sym e))
-not_zero (suc k) e = omega arith
 
 module _ (steps : List Step) (name : List ℕ) (p : Pos) (words : List ℕ)
     (sound : IsSound (record { steps = steps; name = name; at = p }) words) (b : ℕ) where
@@ -135,18 +110,18 @@ module _ (steps : List Step) (name : List ℕ) (p : Pos) (words : List ℕ)
 
   -- the step at hand is whole
   ended_on : (s : Step) → IsStep s → front steps p ≡ behind steps → part name p ≡ step_text s → step_at name p ≡ s
-      → OnStep (taken (end_turn b) here b) (words ++ b ∷ [])
+      → OnStep IsSound (taken (end_turn b) here b) (words ++ b ∷ [])
   ended_on s range before e hand =
       let whole : words ≡ behind steps ++ step_text s = sound.spelled ∙ ap (λ xs. xs ++ part name p) before ∙ ap (λ xs. behind steps ++ xs) e in
       let all = all_push IsStep steps s sound.ranges range in
-      cond_both (b == 47) (End pos.Step) (if b == 46 then End pos.Dot else Stuck) (λ t. OnStep (taken t here b) (words ++ b ∷ []))
+      cond_both (b == 47) (End pos.Step) (if b == 46 then End pos.Dot else Stuck) (λ t. OnStep IsSound (taken t here b) (words ++ b ∷ []))
       (λ is. subst (λ x. IsSound (record { steps = steps ++ x ∷ []; name = []; at = pos.Step }) (words ++ b ∷ [])) (sym hand) (record {
         spelled = ap (λ ws. ws ++ b ∷ []) whole ∙ ap (λ x. (behind steps ++ step_text s) ++ x ∷ []) (eqb-true b 47 is)
             ∙ append_assoc (behind steps) (step_text s) (47 ∷ []) ∙ sym (behind_push steps s) ∙ sym (append-nil (behind (steps ++ s ∷ [])));
         ranges = all;
         at = refl;
       }))
-      (λ other. cond_both (b == 46) (End pos.Dot) Stuck (λ t. OnStep (taken t here b) (words ++ b ∷ []))
+      (λ other. cond_both (b == 46) (End pos.Dot) Stuck (λ t. OnStep IsSound (taken t here b) (words ++ b ∷ []))
       (λ is. subst (λ x. IsSound (record { steps = steps ++ x ∷ []; name = []; at = pos.Dot }) (words ++ b ∷ [])) (sym hand) (record {
         spelled = ap (λ ws. ws ++ b ∷ []) (whole ∙ sym (last_text steps s)) ∙ ap (λ x. steps_text (steps ++ s ∷ []) ++ x ∷ []) (eqb-true b 46 is);
         ranges = all;
@@ -155,28 +130,28 @@ module _ (steps : List Step) (name : List ℕ) (p : Pos) (words : List ℕ)
       (λ none. tt))
 
 abbrev After : List Step → List ℕ → Pos → List ℕ → ℕ → Type 0
-After steps name p words b = OnStep (step (record { steps = steps; name = name; at = p }) b) (words ++ b ∷ [])
+After steps name p words b = OnStep IsSound (step (record { steps = steps; name = name; at = p }) b) (words ++ b ∷ [])
 
 pub step_sound : (steps : List Step) (name words : List ℕ) (b : ℕ) (p : Pos) → IsSound (record { steps = steps; name = name; at = p }) words
     → After steps name p words b
 step_sound steps name words b pos.Step sound =
     let st : State = record { steps = steps; name = name; at = pos.Step } in
     let bare : name ++ b ∷ [] ≡ b ∷ [] = ap (λ n. n ++ b ∷ []) sound.at in
-    cond_both (is_letter b) (Add pos.Name) (if b == 42 then To pos.Star else Stuck) (λ t. OnStep (taken t st b) (words ++ b ∷ []))
+    cond_both (is_letter b) (Add pos.Name) (if b == 42 then To pos.Star else Stuck) (λ t. OnStep IsSound (taken t st b) (words ++ b ∷ []))
     (λ letter. moved steps name pos.Step words sound b (name ++ b ∷ []) pos.Name refl (subst IsName (sym bare) (letter, tt)) (sym bare))
-    (λ other. cond_both (b == 42) (To pos.Star) Stuck (λ t. OnStep (taken t st b) (words ++ b ∷ []))
+    (λ other. cond_both (b == 42) (To pos.Star) Stuck (λ t. OnStep IsSound (taken t st b) (words ++ b ∷ []))
     (λ is. moved steps name pos.Step words sound b name pos.Star refl sound.at (ap (λ x. x ∷ []) (eqb-true b 42 is)))
     (λ none. tt))
 step_sound steps name words b pos.Name sound =
     let st : State = record { steps = steps; name = name; at = pos.Name } in
-    cond_both (is_naming b) (Add pos.Name) (if b == 40 then To pos.Open else end_turn b) (λ t. OnStep (taken t st b) (words ++ b ∷ []))
+    cond_both (is_naming b) (Add pos.Name) (if b == 40 then To pos.Open else end_turn b) (λ t. OnStep IsSound (taken t st b) (words ++ b ∷ []))
     (λ naming. moved steps name pos.Name words sound b (name ++ b ∷ []) pos.Name refl (name_push name b sound.at naming) refl)
-    (λ other. cond_both (b == 40) (To pos.Open) (end_turn b) (λ t. OnStep (taken t st b) (words ++ b ∷ []))
+    (λ other. cond_both (b == 40) (To pos.Open) (end_turn b) (λ t. OnStep IsSound (taken t st b) (words ++ b ∷ []))
     (λ is. moved steps name pos.Name words sound b name pos.Open refl sound.at (ap (λ x. name ++ x ∷ []) (eqb-true b 40 is)))
     (λ none. ended_on steps name pos.Name words sound b (Named name) sound.at refl refl refl))
 step_sound steps name words b pos.Open sound =
     let st : State = record { steps = steps; name = name; at = pos.Open } in
-    cond_both (is_digit b) (To (pos.Number (digit_value b))) Stuck (λ t. OnStep (taken t st b) (words ++ b ∷ []))
+    cond_both (is_digit b) (To (pos.Number (digit_value b))) Stuck (λ t. OnStep IsSound (taken t st b) (words ++ b ∷ []))
     (λ digit. moved steps name pos.Open words sound b name (pos.Number (digit_value b)) refl (sound.at, small_digit b digit)
     (append_assoc name (40 ∷ []) (b ∷ []) ∙ ap (λ ds. name ++ 40 ∷ ds) (one_digit b digit)))
     (λ none. tt)
@@ -184,8 +159,8 @@ step_sound steps name words b (pos.Number k) sound =
     let st : State = record { steps = steps; name = name; at = pos.Number k } in
     let v = k * 10 + digit_value b in
     cond_both (is_digit b) (if not (k == 0) && nat_le v (2 ^ 32 - 1) then To (pos.Number v) else Stuck) (if b == 41 then To (pos.Closed k) else Stuck)
-    (λ t. OnStep (taken t st b) (words ++ b ∷ []))
-    (λ digit. cond_both (not (k == 0) && nat_le v (2 ^ 32 - 1)) (To (pos.Number v)) Stuck (λ t. OnStep (taken t st b) (words ++ b ∷ []))
+    (λ t. OnStep IsSound (taken t st b) (words ++ b ∷ []))
+    (λ digit. cond_both (not (k == 0) && nat_le v (2 ^ 32 - 1)) (To (pos.Number v)) Stuck (λ t. OnStep IsSound (taken t st b) (words ++ b ∷ []))
     (λ grows.
     let (some, small) = both_parts (not (k == 0)) (nat_le v (2 ^ 32 - 1)) grows in
     let within : v ≤ 2 ^ 32 - 1 = leb-true v (2 ^ 32 - 1) small in
@@ -193,26 +168,26 @@ step_sound steps name words b (pos.Number k) sound =
     (append_assoc name (40 ∷ decimal k) (b ∷ [])
     ∙ ap (λ ds. name ++ 40 ∷ ds) (digit_more k b (not_zero k some) (let e : v < 2 ^ 64 = omega (arith, within) in e) digit)))
     (λ none. tt))
-    (λ other. cond_both (b == 41) (To (pos.Closed k)) Stuck (λ t. OnStep (taken t st b) (words ++ b ∷ []))
+    (λ other. cond_both (b == 41) (To (pos.Closed k)) Stuck (λ t. OnStep IsSound (taken t st b) (words ++ b ∷ []))
     (λ is. moved steps name (pos.Number k) words sound b name (pos.Closed k) refl sound.at
     (append_assoc name (40 ∷ decimal k) (b ∷ []) ∙ ap (λ x. name ++ 40 ∷ (decimal k ++ x ∷ [])) (eqb-true b 41 is)))
     (λ none. tt))
 step_sound steps name words b (pos.Closed k) sound = ended_on steps name (pos.Closed k) words sound b (Nth name k) sound.at refl refl refl
 step_sound steps name words b pos.Star sound =
     let st : State = record { steps = steps; name = name; at = pos.Star } in
-    cond_both (b == 42) (To pos.Stars) (end_turn b) (λ t. OnStep (taken t st b) (words ++ b ∷ []))
+    cond_both (b == 42) (To pos.Stars) (end_turn b) (λ t. OnStep IsSound (taken t st b) (words ++ b ∷ []))
     (λ is. moved steps name pos.Star words sound b name pos.Stars refl sound.at (ap (λ x. 42 ∷ x ∷ []) (eqb-true b 42 is)))
     (λ other. ended_on steps name pos.Star words sound b Children tt refl refl refl)
 step_sound steps name words b pos.Stars sound = ended_on steps name pos.Stars words sound b All tt refl refl refl
 step_sound steps name words b pos.Dot sound =
     let st : State = record { steps = steps; name = name; at = pos.Dot } in
     let bare : name ++ b ∷ [] ≡ b ∷ [] = ap (λ n. n ++ b ∷ []) sound.at.0 in
-    cond_both (is_letter b) (Add pos.Field) Stuck (λ t. OnStep (taken t st b) (words ++ b ∷ []))
+    cond_both (is_letter b) (Add pos.Field) Stuck (λ t. OnStep IsSound (taken t st b) (words ++ b ∷ []))
     (λ letter. moved steps name pos.Dot words sound b (name ++ b ∷ []) pos.Field refl (subst IsName (sym bare) (letter, tt), sound.at.1)
     (ap (λ xs. 46 ∷ xs) (sym bare)))
     (λ none. tt)
 step_sound steps name words b pos.Field sound =
     let st : State = record { steps = steps; name = name; at = pos.Field } in
-    cond_both (is_naming b) (Add pos.Field) Stuck (λ t. OnStep (taken t st b) (words ++ b ∷ []))
+    cond_both (is_naming b) (Add pos.Field) Stuck (λ t. OnStep IsSound (taken t st b) (words ++ b ∷ []))
     (λ naming. moved steps name pos.Field words sound b (name ++ b ∷ []) pos.Field refl (name_push name b sound.at.0 naming, sound.at.1) refl)
     (λ none. tt)

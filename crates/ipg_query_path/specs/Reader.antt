@@ -1,5 +1,6 @@
 -- A reader of a path, byte after byte: where it stands, and where each byte takes it.
-use Rattle.std.specs.Prelude.{ℕ, ◌+◌, ◌-◌, ◌*◌, ◌^◌, not, ◌&&◌, nat_le, ◌==◌, if◌then◌else◌, List, [], ◌∷◌, ◌++◌, Option, None, Some, Result, Ok, Err}
+use Rattle.std.specs.Prelude.{ℕ, ◌+◌, ◌-◌, ◌*◌, ◌^◌, not, ◌&&◌, nat_le, ◌==◌, if◌then◌else◌, List, [], ◌∷◌, ◌++◌, Option, None, Some}
+use Rattle.ipg_reader.specs.Digits.{is_digit, digit_value}
 use Rattle.ipg_query_path.specs.declared.path.Query.{Query}
 use Rattle.ipg_query_path.specs.declared.path.Step.{Step}
 use Rattle.ipg_query_path.specs.declared.path.Step.TheVariants.{Named, Nth, Children, All}
@@ -7,12 +8,9 @@ use Rattle.ipg_query_path.specs.declared.pos.Pos.{Pos}
 use Rattle.ipg_query_path.specs.declared.pos.Pos.TheVariants as pos
 use Rattle.ipg_query_path.specs.declared.pos.PathTurn.{PathTurn}
 use Rattle.ipg_query_path.specs.declared.pos.PathTurn.TheVariants.{Stuck, To, Add, End}
-use Rattle.ipg_query_path.specs.Paths.{is_letter, is_digit, is_naming}
+use Rattle.ipg_query_path.specs.Paths.{is_letter, is_naming}
 
 -- ---- one byte
-
-abbrev pub digit_value : ℕ → ℕ
-digit_value b = b - 48
 
 abbrev pub step_turn : ℕ → PathTurn
 step_turn b = if is_letter b then Add pos.Name else (if b == 42 then To pos.Star else Stuck)
@@ -106,21 +104,3 @@ ended_at pos.Field st = Some (record { steps = st.steps; field = Some st.name })
 -- the path, where it may end here
 abbrev pub ended : State → Option Query
 ended st = ended_at st.at st
-
--- ---- all bytes
-
-abbrev pub Found : Type 0
-Found = Result Query ℕ
-
-abbrev pub next : Option State → ℕ → (State → Found) → Found
-next None n rest = Err n
-next (Some st) n rest = rest st
-
-abbrev pub last : Option Query → ℕ → Found
-last None n = Err n
-last (Some query) n = Ok query
-
--- the path, or how many bytes are taken before the first that does not fit
-abbrev pub read_from : State → ℕ → List ℕ → Found
-read_from st n [] = last (ended st) n
-read_from st n (b ∷ bs) = next (step st b) n (λ on. read_from on (n + 1) bs)

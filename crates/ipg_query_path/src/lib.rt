@@ -7,4 +7,4 @@ mod pos;
 mod reading;
 
 pub use path::{Name, Query, Step};
-pub use reading::{QueryFault, read};
+pub use reading::read;

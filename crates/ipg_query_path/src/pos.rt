@@ -1,5 +1,6 @@
 //! Where a reader of a path stands, and where a byte takes it.
 ghost use Rattle.std.specs.Prelude.{◌≡◌, ◌≤◌, ◌+◌, ◌*◌};
+ghost use Rattle.ipg_reader.specs.Digits as digits;
 ghost use Rattle.ipg_query_path.specs.Paths as paths;
 ghost use Rattle.ipg_query_path.specs.Reader as spec;
 
@@ -45,7 +46,7 @@ fn is_letter(b: u8) -> bool
 }
 
 fn is_digit(b: u8) -> bool
-    ensures { result ≡ paths.is_digit b }
+    ensures { result ≡ digits.is_digit b }
 {
     b'0' <= b && b <= b'9'
 }
@@ -57,7 +58,7 @@ fn is_naming(b: u8) -> bool
 }
 
 fn value_of(b: u8) -> u32
-    ensures is { result ≡ spec.digit_value b }
+    ensures is { result ≡ digits.digit_value b }
     ensures small { result ≤ 207 }
 {
     u32::from(b.saturating_sub(b'0'))

@@ -1,33 +1,19 @@
 //! Reads a path.
 ghost use Rattle.std.specs.Prelude.{◌≡◌, ◌++◌, [], ◌∷◌, Some, None, IfOk, IsOkAnd, MatchResult, if◌then◌else◌};
-ghost use Rattle.ipg_query_path.specs.Paths.{IsPath, IsFault};
+ghost use Rattle.ipg_query_path.specs.Paths.{IsPath, FitsPath, path_text};
 ghost use Rattle.ipg_query_path.specs.Reader.{start, at_hand, step, ended};
 ghost use Rattle.ipg_query_path.specs.Reading.{seen};
 ghost use Rattle.ipg_query_path.specs.declared.path.Query.{Query as Asked};
-ghost use Rattle.ipg_query_path.specs.declared.reading.QueryFault.TheVariants.{Memory};
+ghost use Rattle.ipg_reader.specs.declared.fault.Fault.TheVariants.{Memory};
+ghost use Rattle.ipg_reader.specs.Faults.{IsFault};
 ghost use Rattle.std.specs.Prelude.{ℕ, List};
 
 use crate::path::{Name, Query, Step};
 use crate::pos::{PathTurn, Pos, turn_at};
 use ipg_num::List;
+use ipg_reader::Fault;
 use std::alloc::{AllocError, Global};
 use std::mem;
-
-/// Why a text is no path.
-#[derive(Clone, Copy, Debug, Drop, PartialEq, Eq)]
-pub enum QueryFault {
-    /// No path goes on with the byte at this place, or the text ends here.
-    QuerySyntax { at: u64 },
-    Memory,
-}
-
-impl From<AllocError> for QueryFault {
-    ghost from_gives = { λ _ fault. fault ≡ Memory };
-
-    fn from(_: AllocError) -> QueryFault {
-        QueryFault::Memory
-    }
-}
 
 /// The steps read so far, the name at hand, and the place within the path.
 #[derive(Drop)]
@@ -135,21 +121,21 @@ impl Reader {
 /// The path that a text is.
 ///
 /// # Errors
-/// `QuerySyntax` has the first byte that no path goes on with, or the text's length where it ends too early.
-pub fn read(alloc: Global, text: &[u8]) -> Result<Query, QueryFault>
-    ensures is { MatchResult result (λ query. IsPath query text.now) (λ fault. IsFault text.now fault) }
+/// `At` has the first byte that no path goes on with, or the text's length where it ends too early.
+pub fn read(alloc: Global, text: &[u8]) -> Result<Query, Fault>
+    ensures is { MatchResult result (λ query. IsPath query text.now) (λ fault. IsFault FitsPath path_text text.now fault) }
     ensures back { (query : Asked) → IsPath query text.now → MatchResult result (λ found. found ≡ query) (λ fault. fault ≡ Memory) }
 {
     let mut reader = Reader::new(alloc);
     let mut next = 0;
     while next < text.len() {
         if !reader.take(text[next])? {
-            return Err(QueryFault::QuerySyntax { at: next as u64 });
+            return Err(Fault::At(next as u64));
         }
         next += 1;
     }
     match reader.finish()? {
         Some(query) => Ok(query),
-        None => Err(QueryFault::QuerySyntax { at: next as u64 }),
+        None => Err(Fault::At(next as u64)),
     }
 }

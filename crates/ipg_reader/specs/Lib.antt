@@ -9,3 +9,5 @@ pub mod Laws
 pub mod Steadily
 pub mod Chains
 pub mod Whole
+pub mod Stepwise
+pub mod Digits

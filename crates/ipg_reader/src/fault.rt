@@ -41,6 +41,16 @@ pub enum Fault {
     Memory,
 }
 
+impl From<AllocError> for Fault {
+    ghost use Rattle.ipg_reader.specs.declared.fault.Fault.TheVariants.{Memory};
+
+    ghost from_gives = { λ _ e. e ≡ Memory };
+
+    fn from(_: AllocError) -> Fault {
+        Fault::Memory
+    }
+}
+
 /// What was read, if nothing is left of the text.
 pub fn whole<A: Drop>(text: &[u8], left: &[u8], read: Result<A, Halt>) -> Result<A, Fault>
     ensures { (found : Found A) → Gives found left.now read → Ends (whole_of text.now found) result }

@@ -19,7 +19,8 @@ use Rattle.ipg_store_body.specs.declared.body.Body.{Body}
 use Rattle.ipg_store_body.specs.declared.tag.TermTag.{TermTag}
 use Rattle.ipg_store_body.specs.declared.tag.TermTag.TheVariants as term_tag
 use Rattle.ipg_store_body.specs.Format.{expr_text, slot_text, case_text, term_text, alt_text, rule_text}
-use Rattle.ipg_store_body.specs.Fits.{FitsExpr, FitsSlot, FitsCase, FitsTerm, FitsAlt, FitsRule, FitsBody, IsBody, IsBodyFault, spelled}
+use Rattle.ipg_reader.specs.Faults.{IsFault}
+use Rattle.ipg_store_body.specs.Fits.{FitsExpr, FitsSlot, FitsCase, FitsTerm, FitsAlt, FitsRule, FitsBody, IsBody, spelled}
 use Rattle.ipg_store_body.specs.Reading.{term_tags, whole_expr_at, slot_at, case_at, array_at, term_fields, term_at, alt_at, rule_at, body_at}
 use Rattle.ipg_store_body.proofs.Codec.{Codec, pair, many, behind, again, of_parts}
 use Rattle.ipg_store_body.proofs.Symbols.{short, syms, holders, texts}
@@ -138,15 +139,15 @@ module _ (short_is : ShortAreExact) (long_is : LongAreExact) (signed_is : Signed
   -- ---- what a reader of all bytes answers
 
   abbrev Says : List ℕ → Result Body Fault → Type 0
-  Says text r = MatchResult r (λ body. IsBody body text) (λ fault. IsBodyFault text fault)
+  Says text r = MatchResult r (λ body. IsBody body text) (λ fault. IsFault FitsBody spelled text fault)
 
   module _ (text : List ℕ) (are : AreBytes text) where
     says : (r : Result Body Fault) (o : Result Body ℕ) → o ≡ whole_of text (body_at text) → Ends o r → Says text r
     says (Ok body) o is ends =
-        subst (λ s. MatchResult s (λ b. IsBody b text) (λ at. IsBodyFault text (At at))) (sym is ∙ ends)
+        subst (λ s. MatchResult s (λ b. IsBody b text) (λ at. IsFault FitsBody spelled text (At at))) (sym is ∙ ends)
         (settled FitsBody spelled body_at exact_bodies text are)
     says (Err (At at)) o is ends =
-        subst (λ s. MatchResult s (λ b. IsBody b text) (λ n. IsBodyFault text (At n))) (sym is ∙ ends)
+        subst (λ s. MatchResult s (λ b. IsBody b text) (λ n. IsFault FitsBody spelled text (At n))) (sym is ∙ ends)
         (settled FitsBody spelled body_at exact_bodies text are)
     says (Err Memory) o is ends = tt
 

@@ -14,9 +14,6 @@ use Rattle.ipg_core.specs.declared.grammar.CoreRule.{CoreRule}
 use Rattle.std.specs.List.{AllByRecursion}
 use Rattle.ipg_core.specs.Grammar.{Grammar}
 use Rattle.ipg_reader.specs.Laws.{IsShort, IsSigned, IsText, AreCounted}
-use Rattle.ipg_reader.specs.Faults.{IsFirstFault}
-use Rattle.ipg_reader.specs.declared.fault.Fault.{Fault}
-use Rattle.ipg_reader.specs.declared.fault.Fault.TheVariants.{At, Memory}
 use Rattle.ipg_store_body.specs.declared.body.Body.{Body}
 use Rattle.ipg_store_body.specs.Format.{body_text}
 
@@ -148,10 +145,6 @@ IsBody body text = FitsBody body × (text ≡ body_text body.names body.rules)
 
 abbrev pub spelled : Body → List ℕ
 spelled body = body_text body.names body.rules
-
-abbrev pub IsBodyFault : List ℕ → Fault → Type 0
-IsBodyFault text (At at) = IsFirstFault FitsBody spelled text at
-IsBodyFault text Memory = Unit {0}
 
 -- ---- what a writer finds out of a part: it fits where it nests
 

@@ -3,7 +3,8 @@
 ghost use Rattle.std.specs.Prelude.{◌≡◌, ◌≤◌, MatchResult};
 ghost use Rattle.ipg_store_body.specs.declared.body.Body.{Body};
 ghost use Rattle.ipg_reader.specs.declared.fault.Fault.TheVariants.{Memory};
-ghost use Rattle.ipg_store_body.specs.Fits.{IsBody, IsBodyFault};
+ghost use Rattle.ipg_store_body.specs.Fits.{FitsBody, IsBody, spelled};
+ghost use Rattle.ipg_reader.specs.Faults.{IsFault};
 ghost use Rattle.ipg_reader.specs.Found.{Gives, list_at, text_at};
 ghost use Rattle.ipg_store_body.specs.Reading.{sym_at, field_at, leaf_fields, leaf_at, node_fields, level_at, expr_at, whole_expr_at};
 ghost use Rattle.ipg_store_body.specs.Reading.{slot_at, case_at, term_fields, array_at, term_at, alt_at, holder_at, rule_at, body_at};
@@ -353,7 +354,7 @@ impl<'a> BodyReader<'a> {
 /// # Errors
 /// `At` has the first byte that no body goes on with, or the body's length where it ends too early.
 pub fn read(alloc: Global, text: &[u8]) -> Result<Body, Fault>
-    ensures is { MatchResult result (λ body. IsBody body text.now) (λ fault. IsBodyFault text.now fault) }
+    ensures is { MatchResult result (λ body. IsBody body text.now) (λ fault. IsFault FitsBody spelled text.now fault) }
     ensures back { (body : Body) → IsBody body text.now → MatchResult result (λ read. read ≡ body) (λ fault. fault ≡ Memory) }
 {
     numbers_are_exact();

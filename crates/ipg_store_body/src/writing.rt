@@ -55,40 +55,14 @@ fn put_text(out: &mut Vec<u8>, text: &[u8]) -> Result<(), AllocError>
 fn primitive_byte(prim: Primitive) -> u8
     ensures { result ≡ primitive_number prim }
 {
-    match prim {
-        Primitive::U8 => 0,
-        Primitive::U16LE => 1,
-        Primitive::U16BE => 2,
-        Primitive::U32LE => 3,
-        Primitive::U32BE => 4,
-        Primitive::U64LE => 5,
-        Primitive::U64BE => 6,
-        Primitive::Bytes => 7,
-    }
+    prim as u8
 }
 
 /// The place of an operator in their list.
 fn operator_byte(op: Op2) -> u8
     ensures { result ≡ operator_number op }
 {
-    match op {
-        Op2::Add => 0,
-        Op2::Sub => 1,
-        Op2::Mul => 2,
-        Op2::Div => 3,
-        Op2::Mod => 4,
-        Op2::Shl => 5,
-        Op2::Shr => 6,
-        Op2::BitAnd => 7,
-        Op2::BitOr => 8,
-        Op2::BitXor => 9,
-        Op2::Eq => 10,
-        Op2::Ne => 11,
-        Op2::Lt => 12,
-        Op2::Le => 13,
-        Op2::Gt => 14,
-        Op2::Ge => 15,
-    }
+    op as u8
 }
 
 fn put_sym(out: &mut Vec<u8>, sym: &Sym) -> Result<(), AllocError>

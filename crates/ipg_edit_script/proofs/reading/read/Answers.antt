@@ -1,41 +1,49 @@
 use Rattle.std.proofs.Common.{◌∙◌, ap}
+use Rattle.ipg_reader.specs.Stepwise.{last, first_fault, no_fault_of, found, same_found, stuck_at, end_at}
+use Rattle.ipg_edit_script.specs.Reader.{start, step, ended}
 use Rattle.ipg_edit_script.specs.Reading.{seen}
-use Rattle.ipg_edit_script.specs.Reader.{last}
-use Rattle.ipg_edit_script.proofs.Answered.{end_at, first_fault, no_fault_of, script_found, same_found, stuck_at}
+use Rattle.ipg_edit_script.proofs.Answered.{reader}
 use Rattle.ipg_edit_script.proofs.reading.read.Goals as goal
 
 pub returns-then-not-branch-clause-is : goal.returns-then-not-branch-clause-is
 returns-then-not-branch-clause-is c =
-    first_fault c.args.text.now c.loop-next.next
-    (stuck_at c.args.text.now c.loop-next.next _ (seen c.loop-next.reader) _ _ c.loop-next-test.true c.in_ok-take.ensures c.if-not-branch.true
-    c.loop-next.invariant.0)
+    let here = c.loop-next in
+    first_fault reader c.args.text.now here.next
+    (stuck_at step ended start c.args.text.now here.next (seen here.reader) here.invariant.0 _ _ _ c.loop-next-test.true
+    c.in_ok-take.ensures c.if-not-branch.true)
 
 pub returns-then-not-branch-clause-back : goal.returns-then-not-branch-clause-back
 returns-then-not-branch-clause-back c edits script =
-    absurd (no_fault_of c.args.text.now c.loop-next.next edits
-    (stuck_at c.args.text.now c.loop-next.next _ (seen c.loop-next.reader) _ _ c.loop-next-test.true c.in_ok-take.ensures c.if-not-branch.true
-    c.loop-next.invariant.0) script)
+    let here = c.loop-next in
+    absurd (no_fault_of reader c.args.text.now here.next edits
+    (stuck_at step ended start c.args.text.now here.next (seen here.reader) here.invariant.0 _ _ _ c.loop-next-test.true
+    c.in_ok-take.ensures c.if-not-branch.true) script.each script.written)
 
 pub returns-in-Some-clause-is : goal.returns-in-Some-clause-is
 returns-in-Some-clause-is c =
-    script_found c.args.text.now c.in-Some.edits
-    (end_at c.args.text.now c.loop-next.next (seen c.loop-next.reader) c.finish.result c.loop-next-test.false c.finish.ensures
-    c.loop-next.invariant.0 ∙ ap (λ o. last o c.loop-next.next) c.in-Some.is)
+    let here = c.loop-next in
+    let is = found reader c.args.text.now c.in-Some.edits
+    (end_at step ended start c.args.text.now here.next _ here.invariant.0 c.finish.result c.loop-next-test.false c.finish.ensures
+    ∙ ap (λ o. last o here.next) c.in-Some.is) in
+    record { each = is.0; written = is.1 }
 
 pub returns-in-Some-clause-back : goal.returns-in-Some-clause-back
 returns-in-Some-clause-back c edits script =
-    same_found c.args.text.now c.in-Some.edits edits
-    (end_at c.args.text.now c.loop-next.next (seen c.loop-next.reader) c.finish.result c.loop-next-test.false c.finish.ensures
-    c.loop-next.invariant.0 ∙ ap (λ o. last o c.loop-next.next) c.in-Some.is) script
+    let here = c.loop-next in
+    same_found reader c.args.text.now c.in-Some.edits edits
+    (end_at step ended start c.args.text.now here.next _ here.invariant.0 c.finish.result c.loop-next-test.false c.finish.ensures
+    ∙ ap (λ o. last o here.next) c.in-Some.is) script.each script.written
 
 pub returns-in-None-clause-is : goal.returns-in-None-clause-is
 returns-in-None-clause-is c =
-    first_fault c.args.text.now c.loop-next.next
-    (end_at c.args.text.now c.loop-next.next (seen c.loop-next.reader) c.finish.result c.loop-next-test.false c.finish.ensures
-    c.loop-next.invariant.0 ∙ ap (λ o. last o c.loop-next.next) c.in-None.is)
+    let here = c.loop-next in
+    first_fault reader c.args.text.now here.next
+    (end_at step ended start c.args.text.now here.next _ here.invariant.0 c.finish.result c.loop-next-test.false c.finish.ensures
+    ∙ ap (λ o. last o here.next) c.in-None.is)
 
 pub returns-in-None-clause-back : goal.returns-in-None-clause-back
 returns-in-None-clause-back c edits script =
-    absurd (no_fault_of c.args.text.now c.loop-next.next edits
-    (end_at c.args.text.now c.loop-next.next (seen c.loop-next.reader) c.finish.result c.loop-next-test.false c.finish.ensures
-    c.loop-next.invariant.0 ∙ ap (λ o. last o c.loop-next.next) c.in-None.is) script)
+    let here = c.loop-next in
+    absurd (no_fault_of reader c.args.text.now here.next edits
+    (end_at step ended start c.args.text.now here.next _ here.invariant.0 c.finish.result c.loop-next-test.false c.finish.ensures
+    ∙ ap (λ o. last o here.next) c.in-None.is) script.each script.written)
