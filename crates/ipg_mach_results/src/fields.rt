@@ -37,7 +37,7 @@ pub(crate) fn has_items(kid: Kid) -> bool
 }
 
 /// An attribute of a number, by its name.
-fn number_attr(prim: Primitive, name: &[u8], high: u32, low: u32) -> Option<i64>
+pub fn number_attr(prim: Primitive, name: &[u8], high: u32, low: u32) -> Option<i64>
     ensures { result ≡ spec.number_attr prim name.now high low }
 {
     match prim {

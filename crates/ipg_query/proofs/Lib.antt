@@ -9,5 +9,4 @@ pub mod Piling
 pub mod Picking
 pub mod Placed
 pub mod Walking
-pub mod Falling
 pub mod Shallow

@@ -1,9 +1,10 @@
 -- A walk over a result and all that lies in it.
-use Rattle.std.specs.Prelude.{◌≡◌, ℕ, ◌+◌, ◌-◌, ◌*◌, ◌^◌, ◌<◌, ◌≤◌, List, [], ◌∷◌, ◌++◌, map, reverse, length, vec_capacity}
+use Rattle.std.specs.Prelude.{◌≡◌, ℕ, ◌+◌, ◌^◌, ◌<◌, ◌≤◌, List, [], ◌∷◌, ◌++◌, map, reverse, length, vec_capacity}
 use Rattle.ipg_core.specs.Tree as tree
 use Rattle.ipg_core.specs.Tree.{Kids}
 use Rattle.ipg_mach_nodes.specs.declared.kid.Kid.{Kid}
 use Rattle.ipg_mach_nodes.specs.Stored.{Stored, Source, StandsKid, StandKids, kid_levels, kids_levels}
+use Rattle.ipg_tree_walk.specs.Falls.{steps_by}
 use Rattle.ipg_tree_walk.specs.Visits.{Seen, kid_visits, kids_visits, kids_in, place_in, size_in}
 use Rattle.ipg_query.specs.declared.inside.Deep.{Deep}
 use Rattle.ipg_query.specs.declared.inside.OpenList.{OpenList}
@@ -86,11 +87,8 @@ Entered src st room levels at k size new_room new =
 
 -- ---- how often a walk can go on at most, whatever stands in the store: a number that each step lowers
 
--- more than any level has rows
-abbrev pub wide : ℕ
-wide = 2 ^ 65
+abbrev pub left_of : Lot → ℕ
+left_of level = length level.rows
 
--- a row of a level stands for all steps of the levels that it can be followed by
 abbrev pub steps : ℕ → List Lot → ℕ
-steps room [] = 0
-steps room (level ∷ around) = (length level.rows + 1) * wide ^ (room - length around) + steps room around
+steps = steps_by left_of

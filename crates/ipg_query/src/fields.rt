@@ -1,6 +1,5 @@
 //! The values of fields.
 ghost use Rattle.std.specs.Prelude.{◌≡◌, ◌+◌, ◌<◌, ◌^◌, ℕ, Some, None, pos, bytes_eq, codes, if◌then◌else◌};
-ghost use Rattle.ipg_core.specs.Environment as spec;
 ghost use Rattle.ipg_core.specs.Grammar.{Grammar, name_at};
 ghost use Rattle.ipg_core.specs.Tree as tree;
 ghost use Rattle.ipg_mach_nodes.specs.Stored.{Source, StandsKid};
@@ -12,8 +11,8 @@ ghost use Rattle.ipg_query.specs.Spots.{IsNear};
 
 use crate::ends::ends_of;
 use crate::spot::Spot;
-use ipg_core::grammar::Primitive;
 use ipg_mach_nodes::Kid;
+use ipg_mach_results::number_attr;
 use ipg_table::tables::Tables;
 use ipg_tree_walk::Parsed;
 use std::alloc::Allocator;
@@ -52,39 +51,6 @@ fn value_named(tables: &Tables, attrs: &[(u32, i64)], name: &[u8]) -> Option<i64
         }
     }
     None
-}
-
-fn half_of(name: &[u8], high: u32, low: u32) -> Option<i64>
-    ensures { result ≡ spec.half_of name.now high low }
-{
-    if name == b"hi".as_slice() {
-        Some(i64::from(high))
-    } else if name == b"lo".as_slice() {
-        Some(i64::from(low))
-    } else {
-        None
-    }
-}
-
-fn whole_of(name: &[u8], low: u32) -> Option<i64>
-    ensures { result ≡ spec.whole_of name.now low }
-{
-    if name == b"val".as_slice() {
-        Some(i64::from(low))
-    } else {
-        None
-    }
-}
-
-/// An attribute of a number, by its name.
-fn number_attr(prim: Primitive, name: &[u8], high: u32, low: u32) -> Option<i64>
-    ensures { result ≡ spec.number_attr prim name.now high low }
-{
-    match prim {
-        Primitive::U64LE | Primitive::U64BE => half_of(name, high, low),
-        Primitive::Bytes => None,
-        _ => whole_of(name, low),
-    }
 }
 
 /// An attribute of a row, by its name.

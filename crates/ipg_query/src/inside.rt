@@ -5,7 +5,8 @@ ghost use Rattle.ipg_core.specs.Tree.{Tree};
 ghost use Rattle.ipg_mach_nodes.specs.Stored.{Source, Stored, StandsKid, StandsTree, kid_levels, tree_levels};
 ghost use Rattle.ipg_tree_walk.specs.Left.{StandsNode};
 ghost use Rattle.ipg_tree_walk.specs.Visits.{Seen, place_in, size_in, kids_in, to_of};
-ghost use Rattle.ipg_query.specs.Inside.{Lot, lot_of, IsLast, Replaces, Leaves, IsDeep, LotOf, Entered, Leave, visits_of, wide, steps};
+ghost use Rattle.ipg_query.specs.Inside.{Lot, lot_of, IsLast, Replaces, Leaves, IsDeep, LotOf, Entered, Leave, visits_of, steps};
+ghost use Rattle.ipg_tree_walk.specs.Falls.{wide};
 ghost use Rattle.ipg_query.specs.Picked.{Found};
 ghost use Rattle.ipg_query.specs.Spots.{IsNear, IsSpot};
 

@@ -2,7 +2,7 @@
 ghost use Rattle.std.specs.Prelude.{◌≡◌, ◌++◌, [], ◌∷◌, map, reverse, OnOk};
 ghost use Rattle.ipg_query.specs.Spots.{seen, left_at};
 
-use crate::spot::{MOST, Spot};
+use crate::spot::{MOST, Spot, TOO_MANY};
 use ipg_query_path::Step;
 use std::alloc::AllocError;
 
@@ -22,7 +22,7 @@ pub fn push_left<'q>(
     ensures { OnOk result (seen pile.new.items ≡ seen pile.old.items ++ left_at steps.now spot ∷ []) }
 {
     if pile.len() >= MOST {
-        return Err(AllocError);
+        return Err(TOO_MANY);
     }
     pile.push(Left { steps, spot })?;
     Ok(())

@@ -18,6 +18,6 @@ mod steps;
 pub use fields::field_named;
 pub use hit::Hit;
 pub use inside::{Deep, Walk, begin, levels_of, next};
-pub use ipg_query_path::{Query, QueryFault, Step, read};
+pub use ipg_query_path::{Query, Step, read};
 pub use selecting::{members, select};
 pub use spot::Spot;

@@ -15,12 +15,15 @@ use crate::deeper::{pile_deeper, without_idle};
 use crate::fields::field_named;
 use crate::hit::Hit;
 use crate::left::{Left, pile_up, push_left};
-use crate::spot::{MOST, Spot, push};
+use crate::spot::{MOST, Spot, TOO_MANY, push};
 use crate::steps::push_taken;
 use ipg_mach_nodes::Kid;
 use ipg_query_path::{Name, Query};
 use ipg_tree_walk::Parsed;
 use std::alloc::{AllocError, Allocator, Global};
+
+/// So many turns count as want of memory.
+const TOO_MANY_TURNS: AllocError = AllocError;
 
 /// The root of a parsed tree, on the whole input.
 fn root_of<A: Allocator + Clone + Drop>(p: &Parsed<'_, A>) -> Spot
@@ -93,7 +96,7 @@ fn push_hit<'a, A: Allocator + Clone + Drop>(
     match hit_of(p, field, spot) {
         Some(hit) => {
             if hits.len() >= MOST {
-                return Err(AllocError);
+                return Err(TOO_MANY);
             }
             hits.push(hit)?;
             Ok(())
@@ -149,7 +152,7 @@ fn next_member<'q, A: Allocator + Clone + Drop>(
             None => return Ok(None),
         }
     }
-    Err(AllocError)
+    Err(TOO_MANY_TURNS)
 }
 
 /// What the steps of a path come to in a parsed tree, in order; doubles stay.
@@ -171,7 +174,7 @@ pub fn members<A: Allocator + Clone + Drop>(
             None => return Ok(found),
         }
     }
-    Err(AllocError)
+    Err(TOO_MANY_TURNS)
 }
 
 /// What a path picks of a parsed tree, in order; doubles stay.
@@ -193,5 +196,5 @@ pub fn select<'a, A: Allocator + Clone + Drop>(
             None => return Ok(hits),
         }
     }
-    Err(AllocError)
+    Err(TOO_MANY_TURNS)
 }

@@ -7,6 +7,9 @@ use std::alloc::AllocError;
 /// More of them in one list count as want of memory.
 pub const MOST: usize = 1 << 24;
 
+/// A longer list counts as want of memory.
+pub const TOO_MANY: AllocError = AllocError;
+
 /// A row of a stored tree, and the place of the input where the part begins that it lies in.
 #[derive(Clone, Copy, Debug, PartialEq, Eq)]
 pub struct Spot {
@@ -19,7 +22,7 @@ pub fn push(spots: &mut Vec<Spot>, spot: Spot) -> Result<(), AllocError>
     ensures { OnOk result (spots.new.items ≡ spots.old.items ++ spot ∷ []) }
 {
     if spots.len() >= MOST {
-        return Err(AllocError);
+        return Err(TOO_MANY);
     }
     spots.push(spot)?;
     Ok(())

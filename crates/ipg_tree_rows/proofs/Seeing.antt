@@ -1,19 +1,17 @@
 -- Rows as a walk sees them.
-use Rattle.std.proofs.Common.{◌≡◌, ℕ, ◌+◌, ◌≤◌, ◌^◌, List, [], ◌∷◌, ◌++◌, length, Option, Some, None, refl, sym, ap, ◌∙◌, subst}
+use Rattle.std.proofs.Common.{◌≡◌, ℕ, ◌+◌, List, [], ◌∷◌, ◌++◌, Some, None, refl, sym, ap, ◌∙◌, subst}
 use Rattle.std.proofs.Common.{append_assoc, append-nil, flat_map}
 use Rattle.ipg_core.specs.Tree as tree
 use Rattle.ipg_core.specs.Tree.{Tree}
 use Rattle.ipg_mach_nodes.specs.declared.kid.Kid.{Kid}
 use Rattle.ipg_mach_nodes.specs.declared.kid.Kid.TheVariants as row
-use Rattle.ipg_mach_nodes.specs.declared.kid.Node.{Node}
-use Rattle.ipg_mach_nodes.specs.Stored.{Stored, Source, StandsTree, StandsKid}
+use Rattle.ipg_mach_nodes.specs.Stored.{Stored, Source, StandsKid}
 use Rattle.ipg_tree_walk.specs.declared.walk.Visit.{Visit}
 use Rattle.ipg_tree_walk.specs.Left.{NodeOf, StandsNode, Shows}
 use Rattle.ipg_tree_walk.specs.Parse.{Walked, Left}
 use Rattle.ipg_tree_walk.specs.Visits.{Seen, visits, from_of}
 use Rattle.ipg_tree_rows.specs.declared.row.TreeRow.{TreeRow}
 use Rattle.ipg_tree_rows.specs.Rows.{head_rows, child_rows, rows_seen, rows_of}
-use Rattle.ipg_tree_rows.specs.Sees.{Says, IsLeafRow}
 
 -- the rows of visits, one after another
 abbrev pub all_rows : List Seen → List TreeRow

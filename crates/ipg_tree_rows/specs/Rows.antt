@@ -1,25 +1,15 @@
 -- A tree as rows: one for each child that a walk visits, and behind that of a node one for each of its attributes.
 use Rattle.std.specs.Prelude.{ℕ, ◌+◌, List, [], ◌∷◌, flat_map, map, ℤ, pos}
 use Rattle.ipg_core.specs.declared.grammar.Primitive.{Primitive}
-use Rattle.ipg_core.specs.declared.grammar.Primitive.TheVariants.{U8, U16LE, U16BE, U32LE, U32BE, U64LE, U64BE, Bytes}
 use Rattle.ipg_core.specs.declared.grammar.Sym.{Sym}
 use Rattle.ipg_core.specs.declared.grammar.Sym.TheVariants.{Text, Prim, Rule}
+use Rattle.ipg_core.specs.Grammar.{primitive_number}
 use Rattle.ipg_core.specs.Tree as tree
 use Rattle.ipg_core.specs.Tree.{Tree, Kid, Sub, Token, Number, Raw, Array, Many}
 use Rattle.ipg_tree_walk.specs.Visits.{Seen, visits}
 use Rattle.ipg_tree_rows.specs.declared.row.TreeRow.{TreeRow}
 
 -- ---- numbers for kinds and names
-
-abbrev pub primitive_number : Primitive → ℕ
-primitive_number U8 = 0
-primitive_number U16LE = 1
-primitive_number U16BE = 2
-primitive_number U32LE = 3
-primitive_number U32BE = 4
-primitive_number U64LE = 5
-primitive_number U64BE = 6
-primitive_number Bytes = 7
 
 -- whose number a name is: 0 a rule's, 1 a primitive's, 2 none, as of a terminal; and the number
 abbrev pub name_of : Sym → ℕ × ℕ

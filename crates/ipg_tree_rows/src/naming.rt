@@ -1,6 +1,7 @@
 //! Numbers for names.
 ghost use Rattle.std.specs.Prelude.{◌≡◌, slice_get, Some};
 ghost use Rattle.ipg_core.specs.declared.grammar.Sym.{Sym as AnySym};
+ghost use Rattle.ipg_core.specs.Grammar.{primitive_number};
 ghost use Rattle.ipg_tree_rows.specs.Rows as spec;
 
 use ipg_core::grammar::{Primitive, Sym};
@@ -15,18 +16,9 @@ pub(crate) struct Named {
 
 /// The number of a primitive.
 pub(crate) fn primitive_number(prim: Primitive) -> u32
-    ensures { result ≡ spec.primitive_number prim }
+    ensures { result ≡ primitive_number prim }
 {
-    match prim {
-        Primitive::U8 => 0,
-        Primitive::U16LE => 1,
-        Primitive::U16BE => 2,
-        Primitive::U32LE => 3,
-        Primitive::U32BE => 4,
-        Primitive::U64LE => 5,
-        Primitive::U64BE => 6,
-        Primitive::Bytes => 7,
-    }
+    prim as u32
 }
 
 fn name_of(sym: &Sym) -> Named

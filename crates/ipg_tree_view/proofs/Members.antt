@@ -1,5 +1,5 @@
 -- What is written of members of a path, one by one.
-use Rattle.std.proofs.Common.{◌≡◌, ℕ, ◌+◌, ◌<◌, ◌≤◌, List, [], ◌∷◌, ◌++◌, length, get_or, drop, flat_map}
+use Rattle.std.proofs.Common.{◌≡◌, ℕ, ◌+◌, ◌<◌, ◌≤◌, List, [], ◌∷◌, length, get_or, drop, flat_map}
 use Rattle.std.proofs.Common.{refl, sym, ap, ◌∙◌, subst, Option, Some, None, add-one, arith}
 use Rattle.std.proofs.Math.Seq.{drop-cons}
 use Rattle.std.proofs.lemmas.List.{drop_all}
@@ -10,7 +10,6 @@ use Rattle.ipg_region.specs.declared.region.RunId.{RunId}
 use Rattle.ipg_mach_nodes.specs.declared.kid.Kid.{Kid}
 use Rattle.ipg_mach_nodes.specs.declared.kid.Kid.TheVariants as row
 use Rattle.ipg_mach_nodes.specs.Stored.{Stored, Source, StandsKid, StandsTree, kid_levels}
-use Rattle.ipg_table.specs.Rows.{Each}
 use Rattle.ipg_tree_walk.specs.Visits.{Seen, seen, kid_visits, kids_visits, kids_in, place_in, size_in, size_of}
 use Rattle.ipg_query.specs.declared.inside.Deep.{Deep}
 use Rattle.ipg_query.specs.declared.spot.Spot.{Spot}
@@ -20,8 +19,7 @@ use Rattle.ipg_query.specs.Picked.{Found}
 use Rattle.ipg_query.specs.Spots.{IsSpot, AreSpots}
 use Rattle.ipg_tree_view.specs.View.{line, node_text, tree_head, kid_view}
 use Rattle.ipg_outside.specs.Sink.{Output}
-use Rattle.ipg_tree.specs.Putting.{Progress, as_left}
-use Rattle.ipg_tree.specs.Puts.{Whole}
+use Rattle.ipg_tree.specs.Putting.{Progress}
 use Rattle.std.specs.Prelude.{ℤ}
 
 -- what is said of a node is what is said of its tree

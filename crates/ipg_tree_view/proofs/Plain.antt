@@ -13,7 +13,7 @@ use Rattle.ipg_core.specs.Tree.{Kid}
 use Rattle.ipg_tree_walk.specs.Visits.{visits, whole, from_of}
 use Rattle.ipg_query.specs.Inside.{visits_of}
 use Rattle.ipg_query.specs.Picked.{Found, found, members, field_named}
-use Rattle.ipg_tree_view.specs.Picked.{member_view, value_view, shown_view}
+use Rattle.ipg_tree_view.specs.Picked.{value_view, shown_view}
 use Rattle.std.specs.Fmt.{signed_decimal}
 use Rattle.std.proofs.Common.{Option, None, Some}
 use Rattle.std.specs.Prelude.{ℤ}

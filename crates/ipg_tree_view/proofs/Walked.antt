@@ -1,9 +1,7 @@
 -- What a walk over a tree shows, visit by visit.
-use Rattle.std.proofs.Common.{◌≡◌, ℕ, zero, suc, ◌+◌, ◌<◌, ◌≤◌, List, [], ◌∷◌, ◌++◌, length, map, drop}
-use Rattle.std.proofs.Common.{get_or, refl, sym, ap, ◌∙◌, subst, Option, Some, None, add-one, arith}
+use Rattle.std.proofs.Common.{◌≡◌, ℕ, ◌+◌, List, [], ◌∷◌, ◌++◌}
+use Rattle.std.proofs.Common.{refl, sym, ap, ◌∙◌, subst, Some}
 use Rattle.std.specs.Prelude.{Bool, true, false, not, ◌&&◌, ◌-◌, ◌*◌, ◌^◌, slice_get, ⊤, codes, decimal}
-use Rattle.std.proofs.Math.Seq.{drop-cons}
-use Rattle.ipg_core.specs.declared.grammar.CoreRule.{CoreRule}
 use Rattle.ipg_core.specs.declared.grammar.Sym.{Sym}
 use Rattle.ipg_core.specs.Grammar.{Grammar}
 use Rattle.ipg_core.specs.Lines.{primitive_name}
@@ -12,18 +10,12 @@ use Rattle.ipg_core.specs.Tree.{Tree, Node, Kids, no_kids, kid, count_of, rule_o
 use Rattle.ipg_region.specs.declared.region.RunId.{RunId}
 use Rattle.ipg_mach_nodes.specs.declared.kid.Kid.{Kid}
 use Rattle.ipg_mach_nodes.specs.declared.kid.Kid.TheVariants as row
-use Rattle.ipg_mach_nodes.specs.declared.kid.Node.{Node as Row}
 use Rattle.ipg_mach_nodes.specs.Stored.{Stored, Source, StandsKid, StandKids}
-use Rattle.ipg_table.specs.declared.row.RuleRow.{RuleRow}
-use Rattle.ipg_table.specs.Rows.{Rows, Each, HoldsRule}
 use Rattle.ipg_tree_walk.specs.declared.walk.Visit.{Visit}
 use Rattle.ipg_tree_walk.specs.Visits.{Seen, from_of, end_in}
 use Rattle.ipg_tree_walk.specs.Left.{NodeOf, StandsNode, Shows}
-use Rattle.ipg_tree_walk.specs.Parse.{Walked, Left}
 use Rattle.ipg_tree_view.specs.Bare.{is_among, has_byte}
-use Rattle.ipg_tree.specs.Line.{Says}
 use Rattle.ipg_tree_view.specs.View.{tree_head, kid_view, piece_of, bare_line, items_text}
-use Rattle.ipg_tree.specs.Words.{spaced}
 use Rattle.ipg_tree.specs.Behind.{IsNodeRow}
 
 -- a tree stands at the node of a visit, and this is its line

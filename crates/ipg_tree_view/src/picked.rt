@@ -29,30 +29,8 @@ use ipg_query::laws::members_are_shallow;
 use ipg_query::{Deep, Query, Spot, Walk, begin, field_named, levels_of, members, next};
 use ipg_query_path::Name;
 use ipg_tree::Tail;
-use ipg_tree_walk::{Parsed, Visit};
+use ipg_tree_walk::{Parsed, Visit, interval_of};
 use std::alloc::{AllocError, Allocator, Global};
-
-/// An interval of a part.
-#[derive(Clone, Copy)]
-struct Interval {
-    from: u32,
-    to: u32,
-}
-
-/// The interval of a row in a part of so many bytes; that of an array and a repetition is the whole part.
-fn interval_of(kid: Kid, size: u32) -> Interval
-    ensures { (src : Source) (st : Stored) (at : ℕ) (one : tree.Kid) → StandsKid src st at kid one
-        → (result.from ≡ from_of one) × (result.to ≡ end_in size one) }
-{
-    match kid {
-        Kid::Node { from, to, .. } => Interval { from, to },
-        Kid::Text { from, to, .. } => Interval { from, to },
-        Kid::Number { from, to, .. } => Interval { from, to },
-        Kid::Raw { from, to } => Interval { from, to },
-        Kid::Array { .. } => Interval { from: 0, to: size },
-        Kid::Many { .. } => Interval { from: 0, to: size },
-    }
-}
 
 /// The visit of what is no node.
 fn visit_of(deep: Deep) -> Visit

@@ -13,9 +13,9 @@ use Rattle.ipg_tree_walk.specs.declared.walk.Visit.{Visit}
 use Rattle.ipg_tree_walk.specs.Visits.{Seen, seen, size_of, whole, visits}
 use Rattle.ipg_tree_walk.specs.Left.{Shows, Leave}
 use Rattle.ipg_tree_walk.specs.Stack.{Stacked}
-use Rattle.ipg_tree_walk.specs.Steps.{wide, steps}
+use Rattle.ipg_tree_walk.specs.Falls.{wide, some_steps}
+use Rattle.ipg_tree_walk.specs.Steps.{steps}
 use Rattle.ipg_tree_walk.specs.Parse.{Walked, Left, LeftBy}
-use Rattle.ipg_tree_walk.proofs.Falling.{some_steps}
 use Rattle.ipg_tree_walk.proofs.Walking.{Entered, its_visits, heads, tails}
 
 pub at_first : (src : Source) (p : Walked) (left : List Seen) → p.is_ahead ≡ true → Left src p left → LeftBy true src p left

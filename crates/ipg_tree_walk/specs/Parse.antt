@@ -8,7 +8,8 @@ use Rattle.ipg_table.specs.Rows.{Rows}
 use Rattle.ipg_tree_walk.specs.declared.parsed.Counts.{Counts}
 use Rattle.ipg_tree_walk.specs.declared.parsed.Parsed.TheInside.{Inside}
 use Rattle.ipg_tree_walk.specs.Stack.{Stacked}
-use Rattle.ipg_tree_walk.specs.Steps.{wide, steps}
+use Rattle.ipg_tree_walk.specs.Falls.{wide}
+use Rattle.ipg_tree_walk.specs.Steps.{steps}
 use Rattle.ipg_tree_walk.specs.Visits.{Seen, visits}
 use Rattle.ipg_tree_walk.specs.Left.{Leave}
 

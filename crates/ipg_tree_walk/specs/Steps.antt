@@ -1,12 +1,10 @@
--- How often a walk can go on at most, whatever stands in the store: a number that each step lowers.
-use Rattle.std.specs.Prelude.{ℕ, ◌+◌, ◌-◌, ◌*◌, ◌^◌, List, [], ◌∷◌, length}
+-- How often a walk can go on at most: a row number is below 2^64.
+use Rattle.std.specs.Prelude.{ℕ, ◌-◌, ◌^◌, List}
 use Rattle.ipg_tree_walk.specs.declared.stack.Level.{Level}
+use Rattle.ipg_tree_walk.specs.Falls.{steps_by}
 
--- more than any level has rows
-abbrev pub wide : ℕ
-wide = 2 ^ 65
+abbrev pub left_of : Level → ℕ
+left_of level = 2 ^ 64 - level.next
 
--- a row of a level stands for all steps of the levels that it can be followed by
 abbrev pub steps : ℕ → List Level → ℕ
-steps room [] = 0
-steps room (level ∷ around) = (2 ^ 64 - level.next + 1) * wide ^ (room - length around) + steps room around
+steps = steps_by left_of

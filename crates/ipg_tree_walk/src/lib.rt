@@ -11,4 +11,4 @@ mod walk;
 
 pub use detached::Detached;
 pub use parsed::{Counts, Ends, Parsed};
-pub use walk::Visit;
+pub use walk::{Interval, Visit, interval_of};

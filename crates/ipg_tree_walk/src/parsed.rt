@@ -12,7 +12,7 @@ ghost use Rattle.ipg_mach_results.specs.Standing.{OfTree};
 ghost use Rattle.ipg_tree_walk.specs.Visits.{Seen, visits, size_of, kids_in_tree};
 ghost use Rattle.ipg_tree_walk.specs.Left.{Shows};
 ghost use Rattle.ipg_tree_walk.specs.Parse.{AllLeft, Left, steps_left};
-ghost use Rattle.ipg_tree_walk.specs.Steps.{wide};
+ghost use Rattle.ipg_tree_walk.specs.Falls.{wide};
 
 use crate::bytes::part;
 use crate::detached::Detached;

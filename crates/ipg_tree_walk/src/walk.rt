@@ -8,7 +8,8 @@ ghost use Rattle.ipg_tree_walk.specs.declared.stack.Level.{Level};
 ghost use Rattle.ipg_tree_walk.specs.Visits.{Seen, whole, size_of, kids_visits, kids_in, kids_in_tree, place_in, size_in, from_of, end_in};
 ghost use Rattle.ipg_region.specs.declared.region.RunId.{RunId as Place};
 ghost use Rattle.ipg_tree_walk.specs.Left.{NodeAt, NodeOf, Shows, Holds, Takes, TakesIf, Follows, Leave, EntersIf};
-ghost use Rattle.ipg_tree_walk.specs.Steps.{wide, steps};
+ghost use Rattle.ipg_tree_walk.specs.Falls.{wide};
+ghost use Rattle.ipg_tree_walk.specs.Steps.{steps};
 
 use crate::stack::{Level, LevelStack};
 use ipg_mach_nodes::{Kid, Node, RunId, Store};
@@ -28,13 +29,13 @@ pub struct Visit {
 
 /// An interval of a part.
 #[derive(Clone, Copy)]
-struct Interval {
-    from: u32,
-    to: u32,
+pub struct Interval {
+    pub from: u32,
+    pub to: u32,
 }
 
 /// The interval of a child in a part of so many bytes; that of an array and a repetition is the whole part.
-fn interval_of(kid: Kid, size: u32) -> Interval
+pub fn interval_of(kid: Kid, size: u32) -> Interval
     ensures { (src : Source) (st : Stored) (at : ℕ) (one : tree.Kid) → StandsKid src st at kid one
         → (result.from ≡ from_of one) × (result.to ≡ end_in size one) }
 {

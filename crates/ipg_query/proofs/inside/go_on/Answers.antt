@@ -1,13 +1,15 @@
-use Rattle.std.proofs.Common.{◌∷◌, refl, sym, ap, ◌∙◌, subst, add-one, length}
-use Rattle.ipg_query.specs.Inside.{lot_of, Leave}
+use Rattle.std.proofs.Common.{◌≡◌, ◌+◌, ◌∷◌, refl, sym, ap, ◌∙◌, subst, add-one, length}
+use Rattle.ipg_tree_walk.specs.Falls.{falls}
+use Rattle.ipg_query.specs.Inside.{lot_of, left_of, Leave}
 use Rattle.ipg_query.proofs.Walking.{goes_on}
-use Rattle.ipg_query.proofs.Falling.{falls}
 use Rattle.ipg_query.proofs.inside.go_on.Goals as goal
 
 pub returns-clause-ends : goal.returns-clause-ends
 returns-clause-ends g c level around is rows =
-    falls c.args.walk.now.room around level (lot_of c.args.rest) c.args.kid rows c.replace.new.self c.enter.new.walk
-    c.replace.ensures.room c.enter.ensures.room (c.replace.ensures.replaced level around is) c.enter.ensures.full c.enter.ensures.ends
+    let rest = lot_of c.args.rest in
+    let one : left_of level ≡ left_of rest + 1 = ap length rows ∙ sym (add-one (length rest.rows)) in
+    falls left_of c.args.walk.now.room around level rest one c.replace.new.self.room c.enter.new.walk.room c.replace.new.self.levels
+    c.enter.new.walk.levels c.replace.ensures.room c.enter.ensures.room (c.replace.ensures.replaced level around is) c.enter.ensures.full c.enter.ensures.ends
 
 pub returns-clause-visited : goal.returns-clause-visited
 returns-clause-visited g c src level around one more is whole leave =

@@ -1,8 +1,8 @@
 use Rattle.std.proofs.Common.{◌≤◌, [], ◌∷◌, arith, refl, sym, ap, ◌∙◌, subst}
 use Rattle.std.proofs.lemmas.List.{nil_from_length}
-use Rattle.ipg_query.specs.Inside.{Lot, lot_of, Leave, steps}
+use Rattle.ipg_tree_walk.specs.Falls.{fewer_around}
+use Rattle.ipg_query.specs.Inside.{Lot, lot_of, left_of, Leave, steps}
 use Rattle.ipg_query.proofs.Walking.{nothing_next, something_left, parted}
-use Rattle.ipg_query.proofs.Falling.{fewer_around}
 use Rattle.ipg_query.proofs.inside.next.Goals as goal
 
 pub returns-in-Some-split_first-clause-ends : goal.returns-in-Some-split_first-clause-ends
@@ -38,7 +38,7 @@ loop-level-preserved g c =
       room = c.leave.ensures.room ∙ c.loop-level.invariant.room;
       ends =
           subst (λ levels. steps c.leave.new.self.room levels ≤ steps c.args.walk.now.room c.args.walk.now.levels) (sym gone)
-          (fewer_around _ _ _ _ (lot_of c.in-Some.level) _ c.leave.ensures.room is c.loop-level.invariant.ends);
+          (fewer_around left_of _ _ _ _ (lot_of c.in-Some.level) _ c.leave.ensures.room is c.loop-level.invariant.ends);
       left = λ src left h.
           subst (λ levels. Leave src c.args.p.now.parse.store c.leave.new.self.room levels left) (sym gone)
           (nothing_next src c.args.p.now.parse.store _ _ (lot_of c.in-Some.level) left none

@@ -1,4 +1,4 @@
-use Rattle.std.proofs.Common.{◌≡◌, ◌++◌, ap, ◌∙◌, flat_map}
+use Rattle.std.proofs.Common.{ap, ◌∙◌, flat_map}
 use Rattle.ipg_tree_view.specs.Picked.{member_view}
 use Rattle.ipg_tree_view.specs.View.{seen_view}
 use Rattle.ipg_tree.specs.Putting.{begun, next, exits, all_put}

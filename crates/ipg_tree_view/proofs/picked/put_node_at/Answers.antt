@@ -1,4 +1,4 @@
-use Rattle.std.proofs.Common.{◌≡◌, sym, ap, ◌∙◌, subst}
+use Rattle.std.proofs.Common.{◌≡◌, sym, ◌∙◌, subst}
 use Rattle.ipg_core.specs.Tree.{rule_of}
 use Rattle.ipg_table.specs.Rows.{StandFor}
 use Rattle.ipg_tree_view.proofs.Members.{tree_head_is}

@@ -5,7 +5,6 @@ use Rattle.std.proofs.Common.{◌≡◌, ◌+◌, ◌++◌, [], sym, ap, ap₂, 
 use Rattle.std.specs.Prelude.{codes}
 use Rattle.std.specs.Fmt.{signed_decimal}
 use Rattle.ipg_query.specs.Picked.{found, field_named}
-use Rattle.ipg_tree_walk.specs.Visits.{from_of}
 use Rattle.ipg_tree_view.specs.Picked.{value_view}
 use Rattle.ipg_tree_view.specs.View.{line}
 use Rattle.ipg_tree.specs.Putting.{as_text}

@@ -1,12 +1,15 @@
-use Rattle.std.proofs.Common.{sym, ap, ◌∙◌, add-one, length}
+use Rattle.std.proofs.Common.{◌≡◌, ◌+◌, sym, ap, ◌∙◌, arith, add-one, length}
+use Rattle.ipg_tree_walk.specs.Falls.{falls}
+use Rattle.ipg_tree_walk.specs.Steps.{left_of}
 use Rattle.ipg_tree_walk.proofs.Walking.{goes_on}
-use Rattle.ipg_tree_walk.proofs.Falling.{falls}
 use Rattle.ipg_tree_walk.proofs.walk.go_on.Goals as goal
 
 pub returns-clause-ends : goal.returns-clause-ends
 returns-clause-ends g c level around is takes =
-    falls c.args.stack.now.room around level c.args.taken.rest takes.next takes.counts c.replace.new.self c.enter.new.stack
-    c.replace.ensures.room c.enter.ensures.room (c.replace.ensures.replaced level around is) c.enter.ensures.full c.enter.ensures.ends
+    let rest = c.args.taken.rest in
+    let one : left_of level ≡ left_of rest + 1 = omega (arith, takes.next, takes.counts) in
+    falls left_of c.args.stack.now.room around level rest one c.replace.new.self.room c.enter.new.stack.room c.replace.new.self.levels
+    c.enter.new.stack.levels c.replace.ensures.room c.enter.ensures.room (c.replace.ensures.replaced level around is) c.enter.ensures.full c.enter.ensures.ends
 
 pub returns-clause-visited : goal.returns-clause-visited
 returns-clause-visited g c src level around one more is takes leave =

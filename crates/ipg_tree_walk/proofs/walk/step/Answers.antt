@@ -1,8 +1,8 @@
 use Rattle.std.proofs.Common.{◌≤◌, refl, sym, ◌∙◌, subst}
 use Rattle.ipg_tree_walk.specs.Left.{Leave}
-use Rattle.ipg_tree_walk.specs.Steps.{steps}
+use Rattle.ipg_tree_walk.specs.Falls.{fewer_around}
+use Rattle.ipg_tree_walk.specs.Steps.{left_of, steps}
 use Rattle.ipg_tree_walk.proofs.Walking.{nothing_next, something_left, parted}
-use Rattle.ipg_tree_walk.proofs.Falling.{fewer_around}
 use Rattle.ipg_tree_walk.proofs.walk.step.Goals as goal
 
 pub returns-in-Some-next_in-clause-end : goal.returns-in-Some-next_in-clause-end
@@ -23,7 +23,7 @@ loop-level-preserved g c =
       room = c.leave.ensures.room ∙ c.loop-level.invariant.room;
       ends =
           subst (λ levels. steps c.leave.new.self.room levels ≤ steps c.args.stack.now.room c.args.stack.now.levels) (sym gone)
-          (fewer_around _ _ _ _ c.in-Some.level _ c.leave.ensures.room is c.loop-level.invariant.ends);
+          (fewer_around left_of _ _ _ _ c.in-Some.level _ c.leave.ensures.room is c.loop-level.invariant.ends);
       left = λ src left h.
           subst (λ levels. Leave src c.args.store.now c.leave.new.self.room levels left) (sym gone)
           (nothing_next src _ _ _ _ left c.in_default-next_in.ensures (parted src _ _ _ _ _ _ left c.leave.ensures.room is
