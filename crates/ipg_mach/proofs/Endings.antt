@@ -1,5 +1,5 @@
 -- What the highest call holds tells whether the evaluation has ended, and with what.
-use Rattle.std.proofs.Common.{◌≡◌, ◌≢◌, ◌<◌, arith, refl, sym, ap, ◌∙◌, List, [], ◌∷◌, length, Option, Some, None, Bool, true, false}
+use Rattle.std.proofs.Common.{◌≡◌, ◌≢◌, ◌<◌, arith, refl, sym, ap, ◌∙◌, List, [], ◌∷◌, length, Some, None, Bool, true, false}
 use Rattle.std.specs.Prelude.{nat_eq, if◌then◌else◌}
 use Rattle.std.proofs.lemmas.Bool.{eqb-true}
 use Rattle.ipg_mach_moves.specs.Moves.{Evaluation, ended}

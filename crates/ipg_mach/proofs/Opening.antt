@@ -4,7 +4,7 @@ use Rattle.std.proofs.lemmas.List.{take_all}
 use Rattle.ipg_core.specs.Meaning as meaning
 use Rattle.ipg_mach_moves.specs.Moves.{OpenCall}
 use Rattle.ipg_mach_nodes.specs.declared.store.Mark.{Mark}
-use Rattle.ipg_mach_nodes.specs.Stored.{Source, IsEnd, before}
+use Rattle.ipg_mach_nodes.specs.Stored.{Source, IsEnd}
 use Rattle.ipg_table.specs.declared.row.Instr.{Instr}
 use Rattle.ipg_table.specs.Rows.{Rows}
 use Rattle.ipg_mach_term.specs.declared.entry.TermEntry.TheVariants.{Outside}

@@ -1,10 +1,11 @@
 -- Rows that stand one by one for what an open call has left.
 use Rattle.std.proofs.Common.{◌≡◌, ℕ, zero, suc, ◌-◌, ◌≤◌, arith, inl, inr, take, refl, sym, ap, ◌∙◌, subst}
 use Rattle.std.proofs.Common.{List, [], ◌∷◌, drop, length, Option, Some, None, Bor}
-use Rattle.std.specs.Prelude.{slice_get}
-use Rattle.std.specs.Option.{option_copied}
-use Rattle.std.proofs.lemmas.Bool.{cases_lt}
-use Rattle.std.proofs.lemmas.List.{take-append-drop, take-append-le, drop-append-le, length-drop}
+use Rattle.std.specs.Prelude.{slice_get, nat_eq, true, false}
+use Rattle.std.specs.Option.{option_copied, UnwrapsOrElse}
+use Rattle.std.specs.Slice.{IsGetRangeResult}
+use Rattle.std.proofs.lemmas.Bool.{cases_lt, eqb-true}
+use Rattle.std.proofs.lemmas.List.{take_all, take-append-drop, take-append-le, drop-append-le, length-drop}
 use Rattle.ipg_mach.specs.Piled.{between}
 use Rattle.ipg_core.specs.declared.grammar.CoreTerm.{CoreTerm}
 use Rattle.ipg_table.specs.declared.row.Instr.{Instr}
@@ -23,12 +24,6 @@ first_term t terms (row ∷ rows) [] instr each e = absurd each
 first_term t terms (row ∷ rows) (u ∷ left) instr each e =
     let is : row ≡ instr = cc in ap (λ (i : Instr). i.term) (sym is) ∙ each.0.number
 
-pub no_term : (t : Rows) (terms : List CoreTerm) (rows : List Instr) (left : List ℕ) → Each (HoldsInstr t terms) rows left
-    → slice_get rows 0 ≡ None → 0 ≡ term_at_hand left
-no_term t terms [] [] each e = refl
-no_term t terms [] (u ∷ left) each e = absurd each
-no_term t terms (row ∷ rows) left each e = absurd (cc)
-
 pub each_drop : {A B : Type 0} (R : A → B → Type 0) (xs : List A) (ys : List B) → Each R xs ys → Each R (drop 1 xs) (drop 1 ys)
 each_drop R [] [] each = tt
 each_drop R (x ∷ xs) (y ∷ ys) each = each.1
@@ -46,6 +41,25 @@ some_left R [] ys x each e = absurd (cc)
 some_left R (x' ∷ xs) [] x each e = absurd each
 some_left R (x' ∷ xs) (y ∷ ys) x each e =
     let is : x' ≡ x = cc in (y, subst (λ r. R r y) is each.0, refl)
+
+pub empty_left : {A B : Type 0} (R : A → B → Type 0) (xs : List A) (ys : List B) → Each R xs ys → nat_eq (length xs) 0 ≡ true → ys ≡ []
+empty_left R [] [] each e = refl
+empty_left R [] (y ∷ ys) each e = absurd each
+empty_left R (x ∷ xs) ys each e = let none : length (x ∷ xs) ≡ 0 = eqb-true (length (x ∷ xs)) 0 e in absurd (omega (arith, none))
+
+pub one_left : {A B : Type 0} (R : A → B → Type 0) (xs : List A) (ys : List B) → Each R xs ys → nat_eq (length xs) 0 ≡ false
+    → (y : B) × (ys ≡ y ∷ drop 1 ys)
+one_left R [] ys each e = absurd (cc)
+one_left R (x ∷ xs) [] each e = absurd each
+one_left R (x ∷ xs) (y ∷ ys) each e = (y, refl)
+
+-- the rows behind the first; none where there is none
+pub behind_first : {A : Type 0} (xs : List A) (found : Option (Bor (List A))) (rest : Bor (List A)) → IsGetRangeResult xs 1 (length xs) found
+    → UnwrapsOrElse found (λ x. x.now ≡ []) rest → rest.now ≡ drop 1 xs
+behind_first [] None rest is e = e
+behind_first (x ∷ xs) None rest is e = absurd (grind (arith, is.0))
+behind_first {A} xs (Some part) rest is e =
+    ap (λ (r : Bor (List A)). r.now) e ∙ is.0.2 ∙ take_all _ (drop 1 xs) (let n = length-drop 1 xs in omega arith)
 
 -- ---- alternatives of a rule
 

@@ -1,16 +1,17 @@
 -- A call at work stays so as it comes to more.
-use Rattle.std.proofs.Common.{◌≡◌, ℕ, ◌+◌, ◌-◌, ◌≤◌, arith, refl, sym, ap, ◌∙◌, subst, List, [], ◌∷◌, drop, length, replicate, Some, None, Result, Ok, Bor}
+use Rattle.std.proofs.Common.{◌≡◌, ◌≢◌, ℕ, ◌+◌, ◌-◌, ◌≤◌, arith, refl, sym, ap, ◌∙◌, subst}
+use Rattle.std.proofs.Common.{List, [], ◌∷◌, drop, length, replicate, Some, None, Result, Ok, Err, Bor}
 use Rattle.std.proofs.lemmas.List.{length-replicate, length-take, length-drop, drop-drop}
 use Rattle.ipg_core.specs.declared.grammar.CoreAlt.{CoreAlt}
 use Rattle.ipg_core.specs.Grammar.{rule_at}
-use Rattle.ipg_core.specs.Run.{Stop}
+use Rattle.ipg_core.specs.Run.{Stop, NoTree, stop}
 use Rattle.ipg_core.specs.Part.{part}
 use Rattle.ipg_core.specs.Tree as tree
 use Rattle.ipg_core.specs.Tree.{Tree}
 use Rattle.ipg_core.specs.Meaning as meaning
-use Rattle.ipg_core.specs.Meaning.{State, node_of}
+use Rattle.ipg_core.specs.Meaning.{Call, State, node_of}
 use Rattle.ipg_mach_moves.specs.Moves as moves
-use Rattle.ipg_mach_moves.specs.Moves.{OpenCall, Past, turned, begins, runs_on, key_at}
+use Rattle.ipg_mach_moves.specs.Moves.{OpenCall, Past, turned, begins, runs_on, key_at, first_left, at_hand}
 use Rattle.ipg_mach_nodes.specs.declared.store.Mark.{Mark}
 use Rattle.ipg_mach_nodes.specs.Stored.{Stored, Source, IsMark, before}
 use Rattle.ipg_mach_nodes.specs.Laws.{Grows}
@@ -196,6 +197,12 @@ module _ (t : Rows) (src : Source) (s : Shown) (frames : List Frame) (lower : Li
   pub goes : (u : ℕ) × (c.left ≡ u ∷ drop 1 c.left) → s.frame.entry ≡ Outside → IsAtWork t src s frames lower [] c
       → IsHighest t src s frames lower (runs_on c c.state c.left)
   goes one outside work = goes_by c.left (one.0, drop 1 c.left, one.1) refl outside work
+
+-- what is made of a term at hand is made of one that is left
+pub some_left : (call : Call) (c : OpenCall) (adv : moves.Advance) → (at_hand call c).answer ≡ Ok adv → c.left ≢ []
+unfolding stop
+some_left call c adv e none =
+    let no : Err NoTree ≡ Ok adv = sym (ap (λ l. (first_left call c l).answer) none) ∙ e in cc
 
 -- the term at hand is past with this state
 pub as_past : (c : OpenCall) (state : State) (answer : Result moves.Advance Stop) → answer ≡ Ok (Past state)

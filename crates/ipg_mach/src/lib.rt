@@ -8,7 +8,6 @@ mod ended;
 mod frame;
 mod kept;
 mod known;
-mod lent;
 mod machine;
 mod parsing;
 mod piles;

@@ -115,6 +115,9 @@ fn first_call<'m, A: Allocator + Clone + Drop>(
     Ok(top)
 }
 
+/// Of an evaluation that has not ended there is nothing to hand out.
+const NOT_ENDED: AllocError = AllocError;
+
 /// An open evaluation of the first rule of a grammar on an input.
 #[derive(Drop)]
 pub struct Machine<'m, A: Allocator> {
@@ -222,7 +225,7 @@ impl<'m, A: Allocator + Clone + Drop> Machine<'m, A> {
                     memo,
                 },
             }),
-            None => Err(AllocError),
+            None => Err(NOT_ENDED),
         }
     }
 }

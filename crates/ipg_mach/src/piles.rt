@@ -40,6 +40,9 @@ impl<A: Allocator> Model for Piles<A> {
 /// So many rows a pile has at most: a base is a number of 32 bits.
 const MOST_ROWS: usize = u32::MAX as usize;
 
+/// More rows count as want of memory.
+const TOO_MANY_ROWS: AllocError = AllocError;
+
 /// The rows behind the first `count`; none where there are fewer.
 fn past<T>(rows: &[T], count: usize) -> &[T]
     ensures { result.now ≡ drop count rows.now }
@@ -88,7 +91,7 @@ fn add_terms<A: Allocator>(done: &mut Vec<Option<Done>, A>, terms: u32) -> Resul
     ensures small { length done.old.items < 2 ^ 32 → length done.new.items < 2 ^ 32 }
 {
     if terms as usize > MOST_ROWS.saturating_sub(done.len()) {
-        return Err(AllocError);
+        return Err(TOO_MANY_ROWS);
     }
     done.reserve(terms as usize)?;
     for _ in 0..terms {
@@ -155,7 +158,7 @@ impl<A: Allocator + Clone + Drop> Piles<A> {
             → OnOk result (Turns self.old self.new base (record (above self.old base) { own = (above self.old base).own ++ (attr, value) ∷ [] })) }
     {
         if self.own.len() == MOST_ROWS {
-            return Err(AllocError);
+            return Err(TOO_MANY_ROWS);
         }
         self.own.push((attr, value))?;
         Ok(())
@@ -167,7 +170,7 @@ impl<A: Allocator + Clone + Drop> Piles<A> {
             → OnOk result (Turns self.old self.new base (record (above self.old base) { items = (above self.old base).items ++ item ∷ [] })) }
     {
         if self.items.len() == MOST_ROWS {
-            return Err(AllocError);
+            return Err(TOO_MANY_ROWS);
         }
         self.items.push(item)?;
         Ok(())

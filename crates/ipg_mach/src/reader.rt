@@ -15,14 +15,12 @@ ghost use Rattle.ipg_mach.specs.Calls as calls;
 ghost use Rattle.ipg_mach.specs.Calls.{shown, IsWorking, IsSub, items_in, term_at_hand};
 ghost use Rattle.ipg_mach.specs.declared.frame.Frame.{Frame};
 
-use crate::lent::first;
 use crate::top::Top;
 use ipg_core::grammar::{CoreField, Sym};
 use ipg_mach_nodes::Kid;
 use ipg_mach_slot::{Now, PartSite, Running};
 use ipg_mach_term::laws::{answered_is_taken, sub_ends_by};
 use ipg_mach_term::{Advance, AtHand, TermEntry, at_hand, taken};
-use ipg_num::item_at;
 use ipg_table::results::Results;
 use ipg_table::row::{Action, Instr};
 use ipg_table::tables::Tables;
@@ -181,7 +179,7 @@ impl<'m, A: Allocator + Clone + Drop> Reader<'m, A> {
         ensures tables { self.new.tables ≡ self.old.tables }
         ensures input { self.new.input ≡ self.old.input }
     {
-        match item_at(top.frame.left, 0) {
+        match top.frame.left.first() {
             Some(instr) => self.at_instr(top, instr),
             None => AtHand::Makes(Advance::NoTree),
         }
@@ -200,7 +198,7 @@ impl<'m, A: Allocator + Clone + Drop> Top<'m, A> {
     {
         answered_is_taken();
         sub_ends_by();
-        match first(self.frame.left) {
+        match self.frame.left.first() {
             Some(instr) => taken(tables, &self.store, instr.action, self.frame.entry, kid),
             None => Advance::NoTree,
         }

@@ -16,7 +16,6 @@ use crate::top::Top;
 use ipg_mach_nodes::Kid;
 use ipg_mach_slot::{Now, PartSite};
 use ipg_mach_term::TermEntry;
-use ipg_num::item_at;
 use ipg_table::row::Instr;
 use std::alloc::Allocator;
 
@@ -82,7 +81,7 @@ impl<'m, A: Allocator + Clone + Drop> Reader<'m, A> {
         ensures { (src : Source) (frames : List Frame) (lower : List OpenCall) (c : OpenCall) → src.input ≡ self.now.input.now
             → IsWorking self.now.tables.now src (shown top.now) frames lower c → ShowsAtHand src result c }
     {
-        match item_at(top.frame.left, 0) {
+        match top.frame.left.first() {
             Some(instr) => Some(self.scene_at(top, instr)),
             None => None,
         }

@@ -1,19 +1,16 @@
 //! The highest call.
 
-ghost use Rattle.std.specs.Prelude.{◌≡◌, ℕ, ◌+◌, ◌++◌, ◌∷◌, [], ◌-◌, drop, max, false, List, Result, IfOk, OnOk, Some, slice_get, Ok};
-ghost use Rattle.ipg_core.specs.declared.grammar.CoreAlt.{CoreAlt};
-ghost use Rattle.ipg_core.specs.declared.grammar.CoreTerm.{CoreTerm};
+ghost use Rattle.std.specs.Prelude.{◌≡◌, ◌≢◌, ℕ, ◌+◌, ◌++◌, ◌∷◌, [], ◌-◌, drop, max, false, List, Result, IfOk, OnOk, Some, slice_get, Ok};
 ghost use Rattle.ipg_core.specs.declared.grammar.Sym.{Sym};
 ghost use Rattle.ipg_core.specs.Tree as tree;
 ghost use Rattle.ipg_core.specs.Tree.{kids_of};
 ghost use Rattle.ipg_core.specs.Environment as core;
-ghost use Rattle.ipg_core.specs.Run.{Stop};
 ghost use Rattle.ipg_core.specs.Meaning as meaning;
 ghost use Rattle.ipg_core.specs.Meaning.{node_of, with_kid, with_value};
 ghost use Rattle.ipg_mach_moves.specs.Moves as moves;
 ghost use Rattle.ipg_mach_moves.specs.Moves.{OpenCall, Past, turned, begins, runs_on, key_at};
 ghost use Rattle.ipg_mach_nodes.specs.Stored.{Source, IsMark};
-ghost use Rattle.ipg_table.specs.Rows.{Rows, Each, HoldsAlt, HoldsInstr};
+ghost use Rattle.ipg_table.specs.Rows.{Rows};
 ghost use Rattle.ipg_mach_term.specs.Advance.{IsAdvance, IsItem};
 ghost use Rattle.ipg_mach_slot.specs.Now.{IsDone};
 ghost use Rattle.ipg_mach_node.specs.Items.{together};
@@ -25,7 +22,6 @@ ghost use Rattle.ipg_mach.specs.declared.frame.Frame.{Frame};
 
 use crate::alternatives::{alternative, sets_of};
 use crate::frame::{Frame, HeldAnswer};
-use crate::lent::{behind_first, first};
 use crate::piles::Piles;
 use ipg_mach_node::laws::{
     before_before, items_stay, none_has_run, one_more, result_set, results_stay,
@@ -34,7 +30,6 @@ use ipg_mach_node::{Closing, Scratch, Several, close, past_items};
 use ipg_mach_nodes::{Kid, Mark, RunId, Store};
 use ipg_mach_slot::Done;
 use ipg_mach_term::{Advance, TermEntry};
-use ipg_table::row::Instr;
 use ipg_table::tables::Tables;
 use std::alloc::{AllocError, Allocator};
 
@@ -48,16 +43,6 @@ pub struct Top<'m, A: Allocator> {
     pub frame: Frame<'m>,
     pub answer: Option<HeldAnswer>,
     pub floor: Mark,
-}
-
-/// The number of the first term; 0 where there is none.
-fn first_term(rows: &[Instr]) -> u32
-    ensures { (terms : List CoreTerm) (t : Rows) (left : List ℕ) → Each (HoldsInstr t terms) rows.now left → result ≡ term_at_hand left }
-{
-    match first(rows) {
-        Some(instr) => instr.term,
-        None => 0,
-    }
 }
 
 /// The later of two ends of a store.
@@ -86,14 +71,14 @@ fn size(frame: &Frame<'_>) -> u32
     frame.to.saturating_sub(frame.from)
 }
 
-/// The number of the next alternative; 2^32 count as want of memory.
+/// 2^32 alternatives count as want of memory.
+const TOO_MANY_ALTERNATIVES: AllocError = AllocError;
+
+/// The number of the next alternative.
 fn behind(alt: u32) -> Result<u32, AllocError>
     ensures { IfOk result (λ next. next ≡ alt + 1) }
 {
-    match alt.checked_add(1) {
-        Some(next) => Ok(next),
-        None => Err(AllocError),
-    }
+    alt.checked_add(1).ok_or(TOO_MANY_ALTERNATIVES)
 }
 
 impl<'m, A: Allocator + Clone + Drop> Top<'m, A> {
@@ -110,15 +95,16 @@ impl<'m, A: Allocator + Clone + Drop> Top<'m, A> {
     /// The term at hand has its result.
     fn set_result(&mut self, done: Done)
         ensures work { (t : Rows) (src : Source) (frames : List Frame) (lower : List OpenCall) (items : List tree.Kid) (c : OpenCall) (one : core.Done)
-            → IsAtWork t src (shown self.old) frames lower items c
+            → c.left ≢ [] → IsAtWork t src (shown self.old) frames lower items c
             → IsDone src self.old.store self.old.frame.from (calls.size_of self.old.frame) done one
             → IsAtWork t src (shown self.new) frames lower items
             (record c { state = with_kid c.state (term_at_hand c.left) one.is_switch one.kid }) }
         ensures keeps { IsMark self.old.store self.old.floor → Keeps (shown self.old) (shown self.new) }
     {
         result_set();
-        self.piles
-            .set_done(self.frame.base, first_term(self.frame.left), done);
+        if let Some(instr) = self.frame.left.first() {
+            self.piles.set_done(self.frame.base, instr.term, done);
+        }
     }
 
     /// One item more.
@@ -137,7 +123,7 @@ impl<'m, A: Allocator + Clone + Drop> Top<'m, A> {
     /// The items so far are together the result of the term at hand.
     fn set_items(&mut self, several: Several, sym: u32) -> Result<(), AllocError>
         ensures work { (t : Rows) (src : Source) (frames : List Frame) (lower : List OpenCall) (items : List tree.Kid) (c : OpenCall) (one : Sym)
-            → IsAtWork t src (shown self.old) frames lower items c → slice_get src.syms sym ≡ Some one
+            → c.left ≢ [] → IsAtWork t src (shown self.old) frames lower items c → slice_get src.syms sym ≡ Some one
             → OnOk result (IsAtWork t src (shown self.new) frames lower items
             (record c { state = with_kid c.state (term_at_hand c.left) false (together several one (kids_of items)) })) }
         ensures keeps { IsMark self.old.store self.old.floor → OnOk result (Keeps (shown self.old) (shown self.new)) }
@@ -192,9 +178,10 @@ impl<'m, A: Allocator + Clone + Drop> Top<'m, A> {
             → OnOk result (IsHighest tables.now src (shown self.new) frames lower (runs_on c c.state c.left)) }
         ensures keeps { IsMark self.old.store self.old.floor → OnOk result (Keeps (shown self.old) (shown self.new)) }
     {
-        match first(self.frame.left) {
-            Some(_) => Ok(()),
-            None => self.close(tables),
+        if self.frame.left.is_empty() {
+            self.close(tables)
+        } else {
+            Ok(())
         }
     }
 
@@ -206,7 +193,7 @@ impl<'m, A: Allocator + Clone + Drop> Top<'m, A> {
         ensures keeps { IsMark self.old.store self.old.floor → OnOk result (Keeps (shown self.old) (shown self.new)) }
     {
         self.piles.clear_items(self.frame.base);
-        self.frame.left = behind_first(self.frame.left);
+        self.frame.left = self.frame.left.get(1..).unwrap_or_default();
         self.frame.entry = TermEntry::Outside;
         self.run_on(tables)
     }
@@ -225,7 +212,7 @@ impl<'m, A: Allocator + Clone + Drop> Top<'m, A> {
     /// The term at hand has its result, and is past.
     fn pass_result(&mut self, tables: &Tables, done: Done) -> Result<(), AllocError>
         ensures highest { (src : Source) (frames : List Frame) (lower : List OpenCall) (items : List tree.Kid) (c : OpenCall) (one : core.Done)
-            → IsAtWork tables.now src (shown self.old) frames lower items c
+            → c.left ≢ [] → IsAtWork tables.now src (shown self.old) frames lower items c
             → IsDone src self.old.store self.old.frame.from (calls.size_of self.old.frame) done one
             → OnOk result (IsHighest tables.now src (shown self.new) frames lower
             (turned c (Ok (Past (with_kid c.state (term_at_hand c.left) one.is_switch one.kid))))) }
@@ -238,7 +225,7 @@ impl<'m, A: Allocator + Clone + Drop> Top<'m, A> {
     /// The items so far are together the result of the term at hand, which is past.
     fn pass_items(&mut self, tables: &Tables, several: Several, sym: u32) -> Result<(), AllocError>
         ensures highest { (src : Source) (frames : List Frame) (lower : List OpenCall) (items : List tree.Kid) (c : OpenCall) (one : Sym)
-            → IsAtWork tables.now src (shown self.old) frames lower items c → slice_get src.syms sym ≡ Some one
+            → c.left ≢ [] → IsAtWork tables.now src (shown self.old) frames lower items c → slice_get src.syms sym ≡ Some one
             → OnOk result (IsHighest tables.now src (shown self.new) frames lower
             (turned c (Ok (Past (with_kid c.state (term_at_hand c.left) false (together several one (kids_of items))))))) }
         ensures keeps { IsMark self.old.store self.old.floor → OnOk result (Keeps (shown self.old) (shown self.new)) }
@@ -288,10 +275,11 @@ impl<'m, A: Allocator + Clone + Drop> Top<'m, A> {
     /// The term at hand has come to this: the call goes on, with its next alternative where there is no tree.
     #[inline(always)]
     pub fn turned(&mut self, tables: &'m Tables, adv: Advance) -> Result<(), AllocError>
-        ensures highest { (src : Source) (frames : List Frame) (lower : List OpenCall) (c : OpenCall) (answer : Result moves.Advance Stop)
+        ensures highest { (src : Source) (frames : List Frame) (lower : List OpenCall) (c : OpenCall) (call : meaning.Call)
             → IsMark self.old.store self.old.floor → IsWorking tables.now src (shown self.old) frames lower c
             → IsAdvance src self.old.store self.old.frame.from (calls.size_of self.old.frame) (term_at_hand c.left) c.state (items_in c.entry) adv
-            answer → OnOk result (IsHighest tables.now src (shown self.new) frames lower (turned c answer)) }
+            (moves.at_hand call c).answer
+            → OnOk result (IsHighest tables.now src (shown self.new) frames lower (turned c (moves.at_hand call c).answer)) }
         ensures keeps { IsMark self.old.store self.old.floor → IsMark self.old.store self.old.frame.mark
             → OnOk result (Keeps (shown self.old) (shown self.new)) }
     {

@@ -46,7 +46,10 @@ pub enum Verdict<A: Allocator> {
     },
 }
 
-/// Moves until the evaluation has ended. A run of 2^64 moves counts as want of memory.
+/// 2^64 moves count as want of memory.
+const TOO_MANY_MOVES: AllocError = AllocError;
+
+/// Moves until the evaluation has ended.
 fn run_to_end<'m, A: Allocator + Clone + Drop>(
     machine: &mut Machine<'m, A>,
 ) -> Result<(), AllocError>
@@ -54,7 +57,7 @@ fn run_to_end<'m, A: Allocator + Clone + Drop>(
 {
     match machine.go(u64::MAX)? {
         Turn::Done => Ok(()),
-        Turn::More => Err(AllocError),
+        Turn::More => Err(TOO_MANY_MOVES),
     }
 }
 

@@ -39,14 +39,14 @@ pub struct Work<'m, A: Allocator> {
     pub counts: Counts,
 }
 
-/// A place further on; 2^32 count as want of memory.
+/// 2^32 of what is counted count as want of memory.
+const PAST_32_BITS: AllocError = AllocError;
+
+/// A place further on.
 fn further(from: u32, by: u32) -> Result<u32, AllocError>
     ensures { IfOk result (λ place. place ≡ from + by) }
 {
-    match from.checked_add(by) {
-        Some(place) => Ok(place),
-        None => Err(AllocError),
-    }
+    from.checked_add(by).ok_or(PAST_32_BITS)
 }
 
 /// What is known of a call, as a child on an interval of the part.

@@ -1,6 +1,5 @@
 -- A switch goes on with the branches that are left.
-use Rattle.std.proofs.Common.{◌≡◌, ◌+◌, ℤ, refl, ap, ◌∙◌, List, [], ◌∷◌, drop, None, Some, true, false, subst, if◌then◌else◌}
-use Rattle.std.specs.Prelude.{slice_get}
+use Rattle.std.proofs.Common.{◌≡◌, ◌+◌, ℤ, arith, refl, ap, ◌∙◌, List, [], ◌∷◌, length, None, true, false, subst, if◌then◌else◌}
 use Rattle.ipg_num.specs.declared.op.Answer.TheVariants.{Val, Fail, Range}
 use Rattle.ipg_core.specs.declared.grammar.CoreExpr.{CoreExpr}
 use Rattle.ipg_core.specs.declared.grammar.CoreSlot.{CoreSlot}
@@ -34,17 +33,14 @@ module _ (t : Rows) (f : Frame) (place : Place) (state : State) (branches : List
     pub each : Each (HoldsCase t) rows more
     pub same : pick_on silent f place state branches last ≡ pick_on silent f later state ((cond, slot) ∷ more) last
 
-  first_by : (row : CaseRow) (left : List CaseRow) (later : Place) (rest : List (CoreExpr × CoreSlot)) → slice_get left 0 ≡ Some row
-      → Each (HoldsCase t) left rest
-      → pick_on silent f place state branches last ≡ pick_on silent f later state rest last → First row (drop 1 left)
-  first_by row [] later rest e each same = absurd (cc)
-  first_by row (one ∷ left) later [] e each same = absurd each
-  first_by row (one ∷ left) later (branch ∷ rest) e each same =
-      let is : one ≡ row = cc in
-      record { later = later; cond = branch.0; slot = branch.1; more = rest; holds = subst (λ r. HoldsCase t r branch) is each.0; each = each.1; same = same }
+  first_by : (row : CaseRow) (rows : List CaseRow) (later : Place) (rest : List (CoreExpr × CoreSlot)) → Each (HoldsCase t) (row ∷ rows) rest
+      → pick_on silent f place state branches last ≡ pick_on silent f later state rest last → First row rows
+  first_by row rows later [] each same = absurd each
+  first_by row rows later (branch ∷ rest) each same =
+      record { later = later; cond = branch.0; slot = branch.1; more = rest; holds = each.0; each = each.1; same = same }
 
-  pub first : (row : CaseRow) (left : List CaseRow) → slice_get left 0 ≡ Some row → Picks left → First row (drop 1 left)
-  first row left e picks = first_by row left picks.later picks.rest e picks.each picks.same
+  pub first : (row : CaseRow) (rows left : List CaseRow) → left ≡ row ∷ rows → Picks left → First row rows
+  first row rows left e picks = first_by row rows picks.later picks.rest (subst (λ l. Each (HoldsCase t) l picks.rest) e picks.each) picks.same
 
   passed : (z : ℤ) → is_zero z ≡ true → (x y : Run tree.Kid) → (if is_zero z then x else y) ≡ x
   passed z is x y = ap (λ b. if b then x else y) is
@@ -75,17 +71,13 @@ module _ (t : Rows) (f : Frame) (place : Place) (state : State) (branches : List
     unfolding pick_on
     ranges e = one.same ∙ bind_range _ _ e
 
-  none_left : (left : List CaseRow) (rest : List (CoreExpr × CoreSlot)) → left ≡ [] → Each (HoldsCase t) left rest → (later : Place)
+  none_left : (left : List CaseRow) (rest : List (CoreExpr × CoreSlot)) → length left ≡ 0 → Each (HoldsCase t) left rest → (later : Place)
       → pick_on silent f later state rest last ≡ slot_on silent f later state None last
   unfolding pick_on
   none_left [] [] e each later = refl
   none_left [] (branch ∷ rest) e each later = absurd each
-  none_left (row ∷ left) rest e each later = absurd (cc)
+  none_left (row ∷ left) rest e each later = absurd (omega arith)
 
-  empty : (left : List CaseRow) → slice_get left 0 ≡ None → left ≡ []
-  empty [] e = refl
-  empty (row ∷ left) e = absurd (cc)
-
-  pub at_last : (left : List CaseRow) → slice_get left 0 ≡ None → (picks : Picks left)
+  pub at_last : (left : List CaseRow) → length left ≡ 0 → (picks : Picks left)
       → pick_on silent f place state branches last ≡ slot_on silent f picks.later state None last
-  at_last left e picks = picks.same ∙ none_left left picks.rest (empty left e) picks.each picks.later
+  at_last left e picks = picks.same ∙ none_left left picks.rest e picks.each picks.later

@@ -1,6 +1,6 @@
 //! Slots, by the rows of their expressions.
 
-ghost use Rattle.std.specs.Prelude.{◌≡◌, ◌≤◌, ℕ, ℤ, List, length, Option, None, Some, IfSome, slice_get, drop};
+ghost use Rattle.std.specs.Prelude.{◌≡◌, ◌≤◌, ℕ, ℤ, List, length, Option, None, Some, IfSome, slice_get};
 ghost use Rattle.ipg_core.specs.declared.grammar.CoreExpr.{CoreExpr};
 ghost use Rattle.ipg_core.specs.declared.grammar.CoreSlot.{CoreSlot};
 ghost use Rattle.ipg_core.specs.declared.grammar.Sym.{Sym};
@@ -106,18 +106,6 @@ pub fn is_zero(value: i64) -> bool
     value == 0
 }
 
-fn first(rows: &[CaseRow]) -> Option<CaseRow>
-    ensures { result ≡ slice_get rows.now 0 }
-{
-    rows.first().copied()
-}
-
-fn behind_first(rows: &[CaseRow]) -> &[CaseRow]
-    ensures { result.now ≡ drop 1 rows.now }
-{
-    if rows.is_empty() { &[] } else { &rows[1..] }
-}
-
 /// The branch of a switch that is taken. It stays apart, so that room for its answer is only made where it is asked for.
 #[inline(never)]
 fn branch<R: Results>(
@@ -135,13 +123,13 @@ fn branch<R: Results>(
     ensures area { length area.new ≡ length area.old }
 {
     let mut left = cases;
-    while let Some(case) = first(left) {
+    while let Some((case, rest)) = left.split_first() {
         match value(site.tables, results, case.cond, area) {
             Answer::Val(x) => {
                 if !is_zero(x) {
                     return slot(site, results, case.slot, area);
                 }
-                left = behind_first(left);
+                left = rest;
             }
             Answer::Fail => return Found::NoTree,
             Answer::Range => return Found::Range,

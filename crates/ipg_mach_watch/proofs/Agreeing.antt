@@ -1,6 +1,7 @@
 -- How many bytes agree, byte by byte.
-use Rattle.std.proofs.Common.{◌≡◌, ℕ, suc, ◌+◌, refl, ap, ◌∙◌, arith, List, [], ◌∷◌, drop, Some, None, Bool, true, false, length}
-use Rattle.std.specs.Prelude.{slice_get, nat_eq}
+use Rattle.std.proofs.Common.{◌≡◌, ℕ, suc, ◌+◌, ◌-◌, refl, sym, ap, ◌∙◌, arith, List, [], ◌∷◌, take, drop, Bool, true, false, length}
+use Rattle.std.proofs.lemmas.List.{take_all, length-drop}
+use Rattle.std.specs.Prelude.{nat_eq}
 use Rattle.ipg_mach_failures.specs.Failing.{agreed}
 use Rattle.ipg_mach_watch.specs.Agreeing.{begins}
 
@@ -17,26 +18,27 @@ none_by : (w : ℕ) (left rest : List ℕ) (b : Bool) → begins rest w ≡ b �
 none_by w left [] b e t = refl
 none_by w left (x ∷ rest) b e t = let same : nat_eq w x ≡ false = e ∙ t in rw same refl
 
-pub goes_on : (wanted bytes left rest : List ℕ) (count want : ℕ) → Agrees wanted bytes left rest count → slice_get left 0 ≡ Some want
-    → begins rest want ≡ true → Agrees wanted bytes (drop 1 left) (drop 1 rest) (count + 1)
-goes_on wanted bytes [] rest count want a e t = absurd (cc)
-goes_on wanted bytes (w ∷ left) rest count want a e t =
-    let is : w ≡ want = cc in
-    let one = one_by w left rest _ (ap (begins rest) is) t in
+pub goes_on : (wanted bytes all left rest : List ℕ) (count want : ℕ) → Agrees wanted bytes all rest count → all ≡ want ∷ left
+    → begins rest want ≡ true → Agrees wanted bytes left (drop 1 rest) (count + 1)
+goes_on wanted bytes all left rest count want a e t =
+    let one = ap (λ l. agreed l rest) e ∙ one_by want left rest _ refl t in
+    let less = ap length e in
     let same = a.same in let size = a.size in
-    record { same = omega (arith, same, one); size = omega (arith, size) }
+    record { same = omega (arith, same, one); size = omega (arith, size, less) }
 
-pub ends : (wanted bytes left rest : List ℕ) (count want : ℕ) → Agrees wanted bytes left rest count → slice_get left 0 ≡ Some want
+pub ends : (wanted bytes all left rest : List ℕ) (count want : ℕ) → Agrees wanted bytes all rest count → all ≡ want ∷ left
     → begins rest want ≡ false → agreed wanted bytes ≡ count
-ends wanted bytes [] rest count want a e t = absurd (cc)
-ends wanted bytes (w ∷ left) rest count want a e t =
-    let is : w ≡ want = cc in
-    let none = none_by w left rest _ (ap (begins rest) is) t in
+ends wanted bytes all left rest count want a e t =
+    let none = ap (λ l. agreed l rest) e ∙ none_by want left rest _ refl t in
     let same = a.same in omega (arith, same, none)
 
-pub all : (wanted bytes left rest : List ℕ) (count : ℕ) → Agrees wanted bytes left rest count → slice_get left 0 ≡ None → agreed wanted bytes ≡ count
+pub all : (wanted bytes left rest : List ℕ) (count : ℕ) → Agrees wanted bytes left rest count → length left ≡ 0 → agreed wanted bytes ≡ count
 all wanted bytes [] rest count a e = let same = a.same in let none : agreed [] rest ≡ 0 = refl in omega (arith, same, none)
-all wanted bytes (w ∷ left) rest count a e = absurd (cc)
+all wanted bytes (w ∷ left) rest count a e = absurd (omega arith)
+
+-- the bytes behind the first, as a range of all
+pub behind_first : (rest : List ℕ) → drop 1 rest ≡ take (length rest - 1) (drop 1 rest)
+behind_first rest = let n = length-drop 1 rest in sym (take_all (length rest - 1) (drop 1 rest) (omega arith))
 
 pub begun : (wanted bytes : List ℕ) → Agrees wanted bytes wanted bytes 0
 begun wanted bytes = record { same = omega arith; size = omega arith }

@@ -1,6 +1,6 @@
 -- The greatest end of results, one by one; it lies in the part.
-use Rattle.std.proofs.Common.{◌≡◌, ℕ, max, refl, sym, subst, arith, List, [], ◌∷◌, drop, Option, Some, None, Bool, true, false}
-use Rattle.std.specs.Prelude.{slice_get, if◌then◌else◌}
+use Rattle.std.proofs.Common.{◌≡◌, ℕ, max, refl, sym, subst, arith, List, [], ◌∷◌, length, Option, Some, None, Bool, true, false}
+use Rattle.std.specs.Prelude.{if◌then◌else◌}
 use Rattle.ipg_core.specs.Tree.{Kid, Sub, Token, Number, Raw, Array, Many, items_of}
 use Rattle.ipg_core.specs.Touch.{Ends, touches}
 use Rattle.ipg_core.specs.Eval.{later as later_end}
@@ -26,30 +26,26 @@ module _ (src : Source) (st : Stored) (at n : ℕ) where
     pub is : IsResult src st at n row one
     pub later : Leaves rows done (max greatest (end_in one))
 
-  first_by : (row : Option Done) (rows : List (Option Done)) (done rest : List (Option core.Done)) (greatest : ℕ) → slice_get rows 0 ≡ Some row
-      → AreResults src st at n rows rest → reach_of done ≡ max greatest (reach_of rest) → First row (drop 1 rows) done greatest
-  first_by row [] done rest greatest e each same = absurd (cc)
-  first_by row (r ∷ rows) done [] greatest e each same = absurd each
-  first_by row (r ∷ rows) done (one ∷ rest) greatest e each same =
-      let is : r ≡ row = cc in record {
-        one = one;
-        is = subst (λ x. IsResult src st at n x one) is each.0;
-        later = record { rest = rest; each = each.1; same = omega (arith, same) };
-      }
+  first_by : (row : Option Done) (rows : List (Option Done)) (done rest : List (Option core.Done)) (greatest : ℕ)
+      → AreResults src st at n (row ∷ rows) rest → reach_of done ≡ max greatest (reach_of rest) → First row rows done greatest
+  first_by row rows done [] greatest each same = absurd each
+  first_by row rows done (one ∷ rest) greatest each same =
+      record { one = one; is = each.0; later = record { rest = rest; each = each.1; same = omega (arith, same) } }
 
-  pub first : (row : Option Done) (rows : List (Option Done)) (done : List (Option core.Done)) (greatest : ℕ) → slice_get rows 0 ≡ Some row
-      → Leaves rows done greatest → First row (drop 1 rows) done greatest
-  first row rows done greatest e left = first_by row rows done left.rest greatest e left.each left.same
+  pub first : (row : Option Done) (rows left : List (Option Done)) (done : List (Option core.Done)) (greatest : ℕ) → left ≡ row ∷ rows
+      → Leaves left done greatest → First row rows done greatest
+  first row rows left done greatest e leaves =
+      first_by row rows done leaves.rest greatest (subst (λ l. AreResults src st at n l leaves.rest) e leaves.each) leaves.same
 
-  last_by : (rows : List (Option Done)) (done rest : List (Option core.Done)) (greatest : ℕ) → slice_get rows 0 ≡ None
+  last_by : (rows : List (Option Done)) (done rest : List (Option core.Done)) (greatest : ℕ) → length rows ≡ 0
       → AreResults src st at n rows rest → reach_of done ≡ max greatest (reach_of rest) → greatest ≡ reach_of done
   last_by [] done [] greatest e each same = omega (arith, same)
   last_by [] done (one ∷ rest) greatest e each same = absurd each
-  last_by (row ∷ rows) done rest greatest e each same = absurd (cc)
+  last_by (row ∷ rows) done rest greatest e each same = absurd (omega arith)
 
-  pub last : (rows : List (Option Done)) (done : List (Option core.Done)) (greatest : ℕ) → slice_get rows 0 ≡ None
+  pub last : (rows : List (Option Done)) (done : List (Option core.Done)) (greatest : ℕ) → length rows ≡ 0
       → Leaves rows done greatest → greatest ≡ reach_of done
-  last rows done greatest e left = last_by rows done left.rest greatest e left.each left.same
+  last rows done greatest e leaves = last_by rows done leaves.rest greatest e leaves.each leaves.same
 
 -- ---- a result and its items
 

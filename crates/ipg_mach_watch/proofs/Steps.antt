@@ -1,6 +1,6 @@
 -- A term fails by its expressions, one after another.
-use Rattle.std.proofs.Common.{◌≡◌, ℕ, ◌+◌, arith, refl, sym, ap, ◌∙◌, subst, List, [], ◌∷◌, drop, length, Option, Some, None, true, false, ℤ}
-use Rattle.std.specs.Prelude.{slice_get, if◌then◌else◌}
+use Rattle.std.proofs.Common.{◌≡◌, ℕ, ◌+◌, arith, refl, sym, ap, ◌∙◌, subst, List, [], ◌∷◌, length, Option, Some, None, true, false, ℤ}
+use Rattle.std.specs.Prelude.{if◌then◌else◌}
 use Rattle.ipg_num.specs.declared.op.Answer.{Answer}
 use Rattle.ipg_num.specs.declared.op.Answer.TheVariants.{Val, Fail, Range}
 use Rattle.ipg_core.specs.declared.grammar.CoreExpr.{CoreExpr}
@@ -73,24 +73,21 @@ module _ (t : Rows) (f : Frame) (state : State) (branches : List (CoreExpr × Co
     pub each : Each (HoldsCase t) rows more
     pub same : pick_fails f state 0 branches other ≡ pick_fails f state branch (one ∷ more) other
 
-  first_by : (row : CaseRow) (left : List CaseRow) (branch : ℕ) (rest : List (CoreExpr × CoreSlot)) → slice_get left 0 ≡ Some row
-      → Each (HoldsCase t) left rest → pick_fails f state 0 branches other ≡ pick_fails f state branch rest other → First row (drop 1 left) branch
-  first_by row [] branch rest e each same = absurd (cc)
-  first_by row (r ∷ left) branch [] e each same = absurd each
-  first_by row (r ∷ left) branch (one ∷ rest) e each same =
-      let is : r ≡ row = cc in
-      record { one = one; more = rest; holds = subst (λ x. HoldsCase t x one) is each.0; each = each.1; same = same }
+  first_by : (row : CaseRow) (rows : List CaseRow) (branch : ℕ) (rest : List (CoreExpr × CoreSlot)) → Each (HoldsCase t) (row ∷ rows) rest
+      → pick_fails f state 0 branches other ≡ pick_fails f state branch rest other → First row rows branch
+  first_by row rows branch [] each same = absurd each
+  first_by row rows branch (one ∷ rest) each same = record { one = one; more = rest; holds = each.0; each = each.1; same = same }
 
-  pub first : (row : CaseRow) (left : List CaseRow) (branch : ℕ) → slice_get left 0 ≡ Some row → Picks left branch → First row (drop 1 left) branch
-  first row left branch e picks = first_by row left branch picks.rest e picks.each picks.same
+  pub first : (row : CaseRow) (rows left : List CaseRow) (branch : ℕ) → left ≡ row ∷ rows → Picks left branch → First row rows branch
+  first row rows left branch e picks = first_by row rows branch picks.rest (subst (λ l. Each (HoldsCase t) l picks.rest) e picks.each) picks.same
 
-  last_by : (left : List CaseRow) (branch : ℕ) (rest : List (CoreExpr × CoreSlot)) → slice_get left 0 ≡ None → Each (HoldsCase t) left rest
+  last_by : (left : List CaseRow) (branch : ℕ) (rest : List (CoreExpr × CoreSlot)) → length left ≡ 0 → Each (HoldsCase t) left rest
       → pick_fails f state branch rest other ≡ slot_fails f state branch None other
   last_by [] branch [] e each = refl
   last_by [] branch (one ∷ rest) e each = absurd each
-  last_by (row ∷ left) branch rest e each = absurd (cc)
+  last_by (row ∷ left) branch rest e each = absurd (omega arith)
 
-  pub last : (left : List CaseRow) (branch : ℕ) → slice_get left 0 ≡ None → Picks left branch
+  pub last : (left : List CaseRow) (branch : ℕ) → length left ≡ 0 → Picks left branch
       → pick_fails f state 0 branches other ≡ slot_fails f state branch None other
   last left branch e picks = picks.same ∙ last_by left branch picks.rest e picks.each
 
@@ -116,9 +113,3 @@ module _ (t : Rows) (f : Frame) (state : State) (branches : List (CoreExpr × Co
 
     pub ranges : value_in f state None one.one.0 ≡ value_of Range → pick_fails f state 0 branches other ≡ None
     ranges has = one.same ∙ ap (λ a. on_value branch a goes) (eval_is f state None one.one.0 Range has)
-
--- one row less is left
-pub one_less : {A : Type 0} (rows : List A) (row : A) (n all : ℕ) → slice_get rows 0 ≡ Some row → n + length rows ≡ all
-    → n + 1 + length (drop 1 rows) ≡ all
-one_less [] row n all e sizes = absurd (cc)
-one_less (r ∷ rows) row n all e sizes = omega (arith, sizes)

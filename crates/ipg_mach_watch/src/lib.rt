@@ -4,7 +4,6 @@
 mod findings;
 mod furthest;
 pub mod laws;
-mod lent;
 mod reach;
 mod reads;
 mod scenes;

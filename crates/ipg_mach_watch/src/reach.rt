@@ -1,6 +1,6 @@
 //! How far results reach.
 
-ghost use Rattle.std.specs.Prelude.{◌≡◌, ◌<◌, ◌≤◌, ◌^◌, ℕ, List, Option, drop, slice_get};
+ghost use Rattle.std.specs.Prelude.{◌≡◌, ◌<◌, ◌^◌, ℕ, List, Option};
 ghost use Rattle.ipg_core.specs.Tree as tree;
 ghost use Rattle.ipg_core.specs.Environment as core;
 ghost use Rattle.ipg_core.specs.Eval as eval;
@@ -10,7 +10,6 @@ ghost use Rattle.ipg_mach_results.specs.Ends.{AreShort};
 ghost use Rattle.ipg_mach_slot.specs.Now.{IsResult, AreResults};
 ghost use Rattle.ipg_mach_failures.specs.Failing as spec;
 
-use crate::lent::{behind_first, first};
 use ipg_mach_nodes::{Kid, Store};
 use ipg_mach_results::laws::within_are_short;
 use ipg_mach_results::{ends_of, greatest_end, items_of, touches};
@@ -69,9 +68,9 @@ pub(crate) fn done_end<A: Allocator + Clone + Drop>(
 {
     let mut left = rows;
     let mut greatest = 0u64;
-    while let Some(row) = first(left) {
-        greatest = greatest.max(row_end(store, tables, row));
-        left = behind_first(left);
+    while let Some((row, rest)) = left.split_first() {
+        greatest = greatest.max(row_end(store, tables, *row));
+        left = rest;
     }
     greatest
 }

@@ -17,6 +17,9 @@ use ipg_mach_results::laws::within_are_short;
 use ipg_mach_term::TermEntry;
 use std::alloc::{AllocError, Allocator};
 
+/// A place past 64 bits counts as want of memory.
+const PAST_64_BITS: AllocError = AllocError;
+
 /// The call, at its term at hand.
 pub(crate) fn call_in<A: Allocator + Clone + Drop>(scene: &Scene<'_, A>) -> Call
     ensures { (src : Source) (c : OpenCall) → IsScene src scene.entry.now c → result ≡ call_of c }
@@ -81,7 +84,7 @@ fn failure<A: Allocator + Clone + Drop>(
 {
     let place = match u64::from(scene.from).checked_add(place_of(scene, miss)) {
         Some(place) => place,
-        None => return Err(AllocError),
+        None => return Err(PAST_64_BITS),
     };
     Ok(Failure {
         rule: scene.rule,

@@ -7,7 +7,6 @@ ghost use Rattle.ipg_core.specs.Meaning.{item_end};
 ghost use Rattle.ipg_mach_failures.specs.Failing as spec;
 ghost use Rattle.ipg_mach_watch.specs.Agreeing.{begins};
 
-use crate::lent::{behind_first, first};
 use ipg_core::grammar::{Primitive, Sym};
 use ipg_mach_failures::{Cause, Miss};
 use ipg_mach_results::width;
@@ -17,10 +16,7 @@ use ipg_mach_slot::PartSite;
 fn begins_with(bytes: &[u8], want: u8) -> bool
     ensures { result ≡ begins bytes.now want }
 {
-    match first(bytes) {
-        Some(byte) => byte == want,
-        None => false,
-    }
+    bytes.first() == Some(&want)
 }
 
 /// How many bytes agree with those that are wanted, before the first that doesn't.
@@ -31,12 +27,12 @@ fn agreed(wanted: &[u8], bytes: &[u8]) -> u64
     let mut left = wanted;
     let mut rest = bytes;
     let mut count = 0u64;
-    while let Some(want) = first(left) {
-        if !begins_with(rest, want) {
+    while let Some((want, others)) = left.split_first() {
+        if !begins_with(rest, *want) {
             return count;
         }
-        left = behind_first(left);
-        rest = behind_first(rest);
+        left = others;
+        rest = &rest[1..];
         count += 1;
     }
     count

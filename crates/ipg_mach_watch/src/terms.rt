@@ -1,6 +1,6 @@
 //! Terms that fail, by the rows of their expressions.
 
-ghost use Rattle.std.specs.Prelude.{◌≡◌, ◌≤◌, ℕ, suc, ℤ, List, length, Option, Some, None, drop, slice_get};
+ghost use Rattle.std.specs.Prelude.{◌≡◌, ◌≤◌, ℕ, suc, ℤ, List, length, Option, Some, None, slice_get};
 ghost use Rattle.ipg_core.specs.Part as part;
 ghost use Rattle.ipg_core.specs.declared.grammar.CoreExpr.{CoreExpr};
 ghost use Rattle.ipg_core.specs.declared.grammar.CoreSlot.{CoreSlot};
@@ -15,7 +15,6 @@ ghost use Rattle.ipg_mach_term.specs.declared.entry.TermEntry.TheVariants as ent
 ghost use Rattle.ipg_mach_failures.specs.declared.failure.Cause.TheVariants as cause;
 ghost use Rattle.ipg_mach_failures.specs.Failing as spec;
 
-use crate::lent::{behind_first, first};
 use crate::symbols::{symbol, turn};
 use ipg_mach_failures::{Cause, Miss};
 use ipg_mach_slot::{PartSite, interval, is_zero, value};
@@ -118,13 +117,13 @@ fn pick<R: Results>(
 {
     let mut left = cases;
     let mut branch = 0;
-    while let Some(case) = first(left) {
+    while let Some((case, rest)) = left.split_first() {
         match value(site.tables, results, case.cond, area) {
             Answer::Val(x) => {
                 if !is_zero(x) {
                     return slot(site, results, branch, case.slot, area);
                 }
-                left = behind_first(left);
+                left = rest;
                 branch += 1;
             }
             Answer::Fail => return no_value(branch),

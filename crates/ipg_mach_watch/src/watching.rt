@@ -22,7 +22,10 @@ use ipg_mach_failures::Call;
 use ipg_table::tables::Tables;
 use std::alloc::{AllocError, Allocator};
 
-/// Watches a machine until its evaluation has ended. A run of 2^64 moves counts as want of memory.
+/// 2^64 moves count as want of memory.
+const TOO_MANY_MOVES: AllocError = AllocError;
+
+/// Watches a machine until its evaluation has ended.
 fn run<'m, A: Allocator + Clone + Drop>(
     machine: &mut Machine<'m, A>,
     watch: &mut Watch<A>,
@@ -37,7 +40,7 @@ fn run<'m, A: Allocator + Clone + Drop>(
             Turn::More => left -= 1,
         }
     }
-    Err(AllocError)
+    Err(TOO_MANY_MOVES)
 }
 
 /// A value left 64 bits in the term at hand of this call.
@@ -62,6 +65,9 @@ fn end(ended: Option<Ended>, last: Option<Call>) -> Option<End>
     }
 }
 
+/// Nothing is found before the end.
+const NOT_ENDED: AllocError = AllocError;
+
 /// What is found, once the evaluation has ended.
 fn findings<A: Allocator + Clone + Drop>(
     end: Option<End>,
@@ -75,7 +81,7 @@ fn findings<A: Allocator + Clone + Drop>(
             told: furthest.told,
             more: furthest.more,
         }),
-        None => Err(AllocError),
+        None => Err(NOT_ENDED),
     }
 }
 

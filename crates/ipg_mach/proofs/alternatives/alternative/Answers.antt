@@ -1,4 +1,3 @@
-use Rattle.std.proofs.Common.{◌∙◌}
 use Rattle.ipg_mach_moves.specs.Moves.{alts_of}
 use Rattle.ipg_core.specs.Grammar.{rule_at}
 use Rattle.ipg_mach.proofs.Rows as rows

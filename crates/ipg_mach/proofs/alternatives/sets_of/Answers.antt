@@ -1,4 +1,4 @@
-use Rattle.std.proofs.Common.{◌∙◌, subst, drop, sym}
+use Rattle.std.proofs.Common.{◌∙◌, subst, drop}
 use Rattle.ipg_mach_moves.specs.Moves.{alts_of}
 use Rattle.ipg_core.specs.Grammar.{rule_at}
 use Rattle.ipg_mach.specs.Calls.{IsNext}

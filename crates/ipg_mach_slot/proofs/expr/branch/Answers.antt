@@ -1,5 +1,6 @@
 use Rattle.std.proofs.Common.{w64, refl, sym, ap, ◌∙◌, subst}
 use Rattle.std.proofs.lemmas.Int.{to_z-of_z}
+use Rattle.std.proofs.lemmas.Option.{MatchOption-at_none}
 use Rattle.ipg_core.specs.Eval.{is_zero}
 use Rattle.ipg_mach_slot.specs.Found.{IsFound}
 use Rattle.ipg_mach_slot.proofs.Picks as picks
@@ -12,22 +13,21 @@ pub loop-case-preserved : goal.loop-case-preserved
 loop-case-preserved g c = (
   λ f place state branches last stands each.
       let t = c.args.site.now.tables.now in
-      let one = picks.first t f place state branches last c.in-Some.case c.loop-case.left.now (sym c.in-Some.ensures)
+      let one = picks.first t f place state branches last c.in-Some.case.now c.in-Some.rest.now c.loop-case.left.now c.in-Some.ensures.cases.0
       (c.loop-case.invariant.0 f place state branches last stands each) in
-      subst (picks.Picks t f place state branches last) (sym c.behind_first-left.ensures)
-      (picks.passes t f place state branches last c.in-Some.case _ one c.in-Val.x
+      picks.passes t f place state branches last c.in-Some.case.now _ one c.in-Val.x
       (ap is_zero (sym (to_z-of_z w64 c.in-Val.x c.in-Val.ensures.sized)) ∙ sym c.is_zero.ensures ∙ c.if-not-is_zero.false)
-      (c.in-Val.ensures.value f state _ one.cond stands one.holds.cond)),
+      (c.in-Val.ensures.value f state _ one.cond stands one.holds.cond),
   c.in-Val.ensures.area ∙ c.loop-case.invariant.1,
 )
 
 pub returns-then-not-is_zero-clause-found : goal.returns-then-not-is_zero-clause-found
 returns-then-not-is_zero-clause-found g c src st at f place state branches last stands each holds shares =
     let t = c.args.site.now.tables.now in
-    let one = picks.first t f place state branches last c.in-Some.case c.loop-case.left.now (sym c.in-Some.ensures)
+    let one = picks.first t f place state branches last c.in-Some.case.now c.in-Some.rest.now c.loop-case.left.now c.in-Some.ensures.cases.0
     (c.loop-case.invariant.0 f place state branches last stands each) in
     subst (IsFound src st at f state.own c.slot.result)
-    (sym (picks.takes t f place state branches last c.in-Some.case _ one c.in-Val.x
+    (sym (picks.takes t f place state branches last c.in-Some.case.now _ one c.in-Val.x
     (ap is_zero (sym (to_z-of_z w64 c.in-Val.x c.in-Val.ensures.sized)) ∙ sym c.is_zero.ensures ∙ c.if-not-is_zero.true)
     (c.in-Val.ensures.value f state _ one.cond stands one.holds.cond)))
     (c.slot.ensures.found src st at f one.later state _ one.slot stands one.holds.slot shares)
@@ -35,21 +35,21 @@ returns-then-not-is_zero-clause-found g c src st at f place state branches last 
 pub returns-in-Fail-clause-found : goal.returns-in-Fail-clause-found
 returns-in-Fail-clause-found g c src st at f place state branches last stands each holds shares =
     let t = c.args.site.now.tables.now in
-    let one = picks.first t f place state branches last c.in-Some.case c.loop-case.left.now (sym c.in-Some.ensures)
+    let one = picks.first t f place state branches last c.in-Some.case.now c.in-Some.rest.now c.loop-case.left.now c.in-Some.ensures.cases.0
     (c.loop-case.invariant.0 f place state branches last stands each) in
-    picks.fails t f place state branches last c.in-Some.case _ one (c.in-Fail.ensures.value f state _ one.cond stands one.holds.cond)
+    picks.fails t f place state branches last c.in-Some.case.now _ one (c.in-Fail.ensures.value f state _ one.cond stands one.holds.cond)
 
 pub returns-in-Range-clause-found : goal.returns-in-Range-clause-found
 returns-in-Range-clause-found g c src st at f place state branches last stands each holds shares =
     let t = c.args.site.now.tables.now in
-    let one = picks.first t f place state branches last c.in-Some.case c.loop-case.left.now (sym c.in-Some.ensures)
+    let one = picks.first t f place state branches last c.in-Some.case.now c.in-Some.rest.now c.loop-case.left.now c.in-Some.ensures.cases.0
     (c.loop-case.invariant.0 f place state branches last stands each) in
-    picks.ranges t f place state branches last c.in-Some.case _ one (c.in-Range.ensures.value f state _ one.cond stands one.holds.cond)
+    picks.ranges t f place state branches last c.in-Some.case.now _ one (c.in-Range.ensures.value f state _ one.cond stands one.holds.cond)
 
 pub returns-clause-found : goal.returns-clause-found
 returns-clause-found g c src st at f place state branches last stands each holds shares =
     let t = c.args.site.now.tables.now in
     let left = c.loop-case.invariant.0 f place state branches last stands each in
     subst (IsFound src st at f state.own c.slot-2.result)
-    (sym (picks.at_last t f place state branches last c.loop-case.left.now (sym c.first.ensures ∙ c.in_default.is) left))
+    (sym (picks.at_last t f place state branches last c.loop-case.left.now (MatchOption-at_none _ _ c.in_default.is c.split_first.ensures.cases) left))
     (c.slot-2.ensures.found src st at f left.later state _ last stands holds shares)

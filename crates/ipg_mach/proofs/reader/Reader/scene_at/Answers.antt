@@ -1,9 +1,8 @@
-use Rattle.std.proofs.Common.{◌≡◌, rules, refl, sym, ap, ◌∙◌, subst, length, arith}
+use Rattle.std.proofs.Common.{◌≡◌, rules, sym, ap, ◌∙◌, subst, length, arith}
 use Rattle.ipg_core.specs.Part.{part}
 use Rattle.ipg_table.specs.Rows.{Rows, HoldsTerm}
-use Rattle.ipg_mach_slot.specs.Now.{lent, AreResults}
+use Rattle.ipg_mach_slot.specs.Now.{lent}
 use Rattle.ipg_mach_term.specs.Advance.{IsEntry}
-use Rattle.ipg_mach_node.specs.Items.{HasItems}
 use Rattle.ipg_mach.specs.Lending.{Lends}
 use Rattle.ipg_mach.specs.Piled.{below, above}
 use Rattle.ipg_mach.specs.Calls.{size_of, items_in}

@@ -1,4 +1,5 @@
 use Rattle.std.proofs.Common.{sym, ap, ◌∙◌}
+use Rattle.std.specs.Option.{option_copied}
 use Rattle.ipg_core.specs.Run.{stop}
 use Rattle.ipg_mach_moves.specs.Moves.{first_left, always}
 use Rattle.ipg_table.specs.Rows.{HoldsInstr}
@@ -10,7 +11,8 @@ pub returns-in-Some : goal.returns-in-Some
 returns-in-Some g c src frames lower call ask answer work asks ends valid inside sub =
     let t = c.args.tables.now in
     let top = c.args.self.now in
-    let one = rows.some_left (HoldsInstr t call.terms) top.frame.left.now call.left _ work.at_work.is_open.left (sym c.first.ensures ∙ c.in-Some.is) in
+    let one = rows.some_left (HoldsInstr t call.terms) top.frame.left.now call.left _ work.at_work.is_open.left
+    (sym c.first.ensures.value ∙ ap option_copied c.in-Some.is) in
     answered.answers src top.store top.frame call ask answer c.args.kid c.taken.result c.answered_is_taken.ensures one.0 _ one.1.term one.2 one.1.is_term asks
     (λ given parsed. c.taken.ensures src top.frame.from _ one.0 call.state _ call.entry one.1.term given work.at_work.is_open.call.syms one.1.holds work.entry
     parsed)
@@ -21,5 +23,5 @@ unfolding stop
 returns-in-None g c src frames lower call ask answer work asks ends valid inside sub =
     let left = work.at_work.is_open.left in
     let none = rows.none_left (HoldsInstr c.args.tables.now call.terms) c.args.self.now.frame.left.now call.left left
-    (sym c.first.ensures ∙ c.in-None.is) in
+    (sym c.first.ensures.value ∙ ap option_copied c.in-None.is) in
     ap (λ l. (first_left (always answer) call l).answer) none

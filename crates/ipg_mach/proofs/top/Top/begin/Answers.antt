@@ -1,5 +1,5 @@
 use Rattle.ipg_mach.specs.declared.frame.HeldAnswer.TheVariants.{NoTree}
-use Rattle.std.proofs.Common.{refl, sym, ◌∙◌, subst, drop, Some, None}
+use Rattle.std.proofs.Common.{refl, sym, subst, drop, Some, None}
 use Rattle.std.proofs.lemmas.Result.{on_ok_weaker}
 use Rattle.ipg_core.specs.Grammar.{rule_at}
 use Rattle.ipg_mach_moves.specs.Moves.{alts_of, begins}

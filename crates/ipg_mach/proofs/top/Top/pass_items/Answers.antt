@@ -6,6 +6,6 @@ use Rattle.ipg_mach.proofs.Working as working
 use Rattle.ipg_mach.proofs.top.Top.pass_items.Goals as goal
 
 pub returns-clause-highest : goal.returns-clause-highest
-returns-clause-highest g c src frames lower items call one work is =
+returns-clause-highest g c src frames lower items call one some work is =
     on_ok_weaker c.pass.result (subst (IsHighest c.args.tables.now src (shown c.pass.new.self) frames lower) (working.as_past call _ (Ok (Past _)) refl))
-    (c.pass.ensures.highest src frames lower items _ (c.in_ok-set_items.ensures.work c.args.tables.now src frames lower items call one work is))
+    (c.pass.ensures.highest src frames lower items _ (c.in_ok-set_items.ensures.work c.args.tables.now src frames lower items call one some work is))

@@ -6,18 +6,17 @@ use Rattle.ipg_mach.proofs.Working as working
 use Rattle.ipg_mach.proofs.Rows as rows
 use Rattle.ipg_mach.proofs.top.Top.run_on.Goals as goal
 
-pub returns-in-Some-clause-highest : goal.returns-in-Some-clause-highest
-returns-in-Some-clause-highest g c src frames lower call work outside =
+pub returns-then-is_empty-clause-highest : goal.returns-then-is_empty-clause-highest
+returns-then-is_empty-clause-highest g c src frames lower call work outside =
     let t = c.args.tables.now in
-    let s = shown c.args.self.now in
-    let one = rows.some_left (HoldsInstr t call.terms) s.frame.left.now call.left _ work.is_open.left (sym c.first.ensures ∙ c.in-Some.is) in
-    working.goes t src s frames lower call (one.0, one.2) outside work
+    let none = rows.empty_left (HoldsInstr t call.terms) c.args.self.now.frame.left.now call.left work.is_open.left
+    (sym c.is_empty.ensures ∙ c.if-is_empty.true) in
+    on_ok_weaker c.close.result (working.closed t src (shown c.close.new.self) frames lower call none) (c.close.ensures.holds src frames lower _ call work)
 
-pub returns-in-None-clause-highest : goal.returns-in-None-clause-highest
-returns-in-None-clause-highest g c src frames lower call work outside =
+pub returns-else-is_empty-clause-highest : goal.returns-else-is_empty-clause-highest
+returns-else-is_empty-clause-highest g c src frames lower call work outside =
     let t = c.args.tables.now in
     let s = shown c.args.self.now in
-    on_ok_weaker c.close.result
-    (working.closed t src (shown c.close.new.self) frames lower call
-    (rows.none_left (HoldsInstr t call.terms) s.frame.left.now call.left work.is_open.left (sym c.first.ensures ∙ c.in-None.is)))
-    (c.close.ensures.holds src frames lower _ call work)
+    let one = rows.one_left (HoldsInstr t call.terms) s.frame.left.now call.left work.is_open.left
+    (sym c.is_empty.ensures ∙ c.if-is_empty.false) in
+    working.goes t src s frames lower call one outside work

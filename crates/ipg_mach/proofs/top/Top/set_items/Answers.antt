@@ -6,13 +6,13 @@ use Rattle.ipg_mach.proofs.Stores as stores
 use Rattle.ipg_mach.proofs.top.Top.set_items.Goals as goal
 
 pub returns-clause-work : goal.returns-clause-work
-returns-clause-work g c t src frames lower items call one work is =
+returns-clause-work g c t src frames lower items call one some work is =
     let s = shown c.args.self.now in
     let grown = working.grown t src s frames lower items call work c.results_stay.ensures c.items_stay.ensures c.past_items.new.store
     c.in_ok-done.ensures.grows in
     let done = c.in_ok-done.ensures.result src s.frame.from (size_of s.frame) one items is
     (subst (λ rows. HasItems src s.store s.frame.from (size_of s.frame) rows items) (sym c.items-items.ensures) work.is_open.have) in
-    c.set_result.ensures.work t src frames lower items call _ grown done
+    c.set_result.ensures.work t src frames lower items call _ some grown done
 
 pub returns-clause-keeps : goal.returns-clause-keeps
 returns-clause-keeps g c mark =

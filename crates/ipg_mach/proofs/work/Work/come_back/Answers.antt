@@ -43,5 +43,5 @@ returns g c src e call lower key answer at holds is_lower entry =
     let adv = c.answered-adv.ensures src frames lower call awaits.ask answer working awaits.asks awaits.bounded valid (omega arith) sub in
     on_ok_weaker c.turned.result
     (λ both. stepping.goes_on src _ _ resumed (shown c.turned.new.self) frames lower _ s.counts e.tally both.1 both.0 at.tally)
-    (stepping.both_ok _ _ c.turned.result (c.turned.ensures.highest src frames lower call _ kept.mark working adv)
+    (stepping.both_ok _ _ c.turned.result (c.turned.ensures.highest src frames lower call (moves.always answer) kept.mark working adv)
     (c.turned.ensures.keeps kept.mark working.at_work.mark))

@@ -1,7 +1,6 @@
-use Rattle.std.proofs.Common.{◌≡◌, ◌+◌, ◌-◌, ◌<◌, ◌≤◌, arith, refl, sym, ap, ◌∙◌, subst, suc}
-use Rattle.ipg_mach_moves.specs.Moves.{moves, ended}
+use Rattle.std.proofs.Common.{◌≡◌, arith, sym, ◌∙◌, subst, suc}
+use Rattle.ipg_mach_moves.specs.Moves.{moves}
 use Rattle.ipg_mach.specs.Stage.{staged, IsAt}
-use Rattle.ipg_mach.specs.Turning.{turn_of}
 use Rattle.ipg_mach.proofs.Ending as ending
 use Rattle.ipg_mach.proofs.work.Work.go.Goals as goal
 

@@ -1,5 +1,6 @@
 use Rattle.std.proofs.Common.{sym, subst, Some}
 use Rattle.std.proofs.lemmas.Result.{on_ok_weaker}
+use Rattle.ipg_mach_moves.specs.Moves.{always}
 use Rattle.ipg_mach_nodes.specs.Stored.{before}
 use Rattle.ipg_mach_term.specs.Advance.{EndsBy}
 use Rattle.ipg_mach.specs.Calls.{shown, IsSub}
@@ -25,5 +26,5 @@ returns g c src e call rule key answer q at works begins ends entry =
     on_ok_weaker c.turned.result
     (λ both. stepping.goes_on src s e at (shown c.turned.new.self) s.frames e.lower _ c.with_known-self.result _ both.1 both.0
     (c.with_known-self.ensures e.tally at.tally))
-    (stepping.both_ok _ _ c.turned.result (c.turned.ensures.highest src s.frames e.lower call _ at.floor work adv)
+    (stepping.both_ok _ _ c.turned.result (c.turned.ensures.highest src s.frames e.lower call (always answer) at.floor work adv)
     (c.turned.ensures.keeps at.floor work.at_work.mark))

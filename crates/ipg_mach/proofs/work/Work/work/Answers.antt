@@ -24,7 +24,7 @@ returns-in-Makes g c src e call at highest =
     (sym made.0)
     (on_ok_weaker c.turned.result
     (λ both. stepping.goes_on src stage e now (shown c.turned.new.self) s.frames e.lower _ s.counts e.tally both.1 both.0 at.tally)
-    (stepping.both_ok _ _ c.turned.result (c.turned.ensures.highest src s.frames e.lower call _ at.floor works_now made.1)
+    (stepping.both_ok _ _ c.turned.result (c.turned.ensures.highest src s.frames e.lower call silent at.floor works_now made.1)
     (c.turned.ensures.keeps at.floor work.at_work.mark)))
 
 pub returns-in-Calls : goal.returns-in-Calls
