@@ -34,6 +34,11 @@ use Rattle.ipg_app.specs.Explained.{Explains, Refuses, explained_said}
 use Rattle.ipg_app.specs.Followed.{Cleared, Clears}
 use Rattle.ipg_app.specs.Reasons.{Reason, listed, read_reason, name_reason, cycle_places, CoreOrReason, IsCycle, IsLoose, IsRefused}
 use Rattle.ipg_app.specs.Reasons.{IsStuck, IsUnnamed, IsUnordered, IsUnread, Judged}
+use Rattle.ipg_app.specs.declared.early.Early.{Early}
+use Rattle.ipg_app.specs.declared.said.Settled.{Settled}
+use Rattle.ipg_app.specs.Early.{AnswersOrSays}
+use Rattle.ipg_app.specs.Lines.{said_of}
+use Rattle.ipg_app.proofs.Instead.{answers_on}
 use Rattle.ipg_app.proofs.OneCore.{not_both, from_once}
 use Rattle.ipg_app.proofs.Stages.{from_ordered, from_unordered}
 
@@ -91,6 +96,14 @@ reason_behind g n c r is same h = inr (n, is, subst (λ x. IsUnordered g x r) sa
 pub of_text : (text : List ℕ) (g : written.Grammar) (answer : Answer) → grammar_in text ≡ Ok g → CoreFrom g answer → CoreOf text answer
 of_text text g answer is h = subst (λ r. On r CoreFrom answer) (sym is) h
 
+-- what is known of a grammar's core is known of that of the grammar's text
+pub text_reads : (text : List ℕ) (g : written.Grammar) (r : Result Grammar (Early Settled)) → grammar_in text ≡ Ok g
+    → AnswersOrSays r (λ core. CoreFrom g (Ok core)) (λ s. CoreFrom g (Err (said_of s)))
+    → AnswersOrSays r (λ core. CoreOf text (Ok core)) (λ s. CoreOf text (Err (said_of s)))
+text_reads text g r is h =
+    answers_on r (λ core. CoreFrom g (Ok core)) (λ core. CoreOf text (Ok core)) (λ s. CoreFrom g (Err (said_of s))) (λ s. CoreOf text (Err (said_of s)))
+    (λ core h. of_text text g (Ok core) is h) (λ s h. of_text text g (Err (said_of s)) is h) h
+
 pub unreadable : (text : List ℕ) (said : Said) → grammar_in text ≡ Err said → CoreOf text (Err said)
 unreadable text said is = subst (λ r. On r CoreFrom (Err said)) (sym is) refl
 
@@ -112,10 +125,6 @@ refuses_too_long name text said r is told long =
     let reason = read_reason read.TooLong in
     let same : said ≡ explained_said name text (Some reason) = told ∙ ap (λ x. explained_said name [] (Some x)) is in
     (reason, inl (record { fault = read.TooLong; reads = too_long text long; is = refl }), same)
-
--- what is refused is explained
-pub refuses_explains : (name text : List ℕ) (said : Said) → Refuses name text said → Explains name text said
-refuses_explains name text said (reason, judged, is) = (Some reason, judged, is)
 
 -- ---- a text has one reason
 

@@ -1,6 +1,6 @@
 -- For words, and files of which something is told, the program says one thing.
-use Rattle.std.proofs.Common.{◌≡◌, ◌≢◌, ℕ, suc, zero, ◌+◌, ◌<◌, ◌≤◌, ◌⊎◌, inl, inr, List, [], ◌∷◌, ◌++◌, take, drop, Result, Ok, Err, Option, Some, None}
-use Rattle.std.proofs.Common.{refl, sym, ap, ◌∙◌, subst, arith, append_assoc}
+use Rattle.std.proofs.Common.{◌≡◌, ◌≢◌, ℕ, suc, zero, ◌+◌, ◌<◌, ◌≤◌, ◌⊎◌, inl, inr, List, [], ◌∷◌, ◌++◌, length, take, drop}
+use Rattle.std.proofs.Common.{Result, Ok, Err, Option, Some, None, refl, sym, ap, ◌∙◌, subst, arith, append_assoc}
 use Rattle.ipg_core.specs.Grammar.{Grammar}
 use Rattle.ipg_formats.specs.declared.Kind.{Kind}
 use Rattle.ipg_formats.specs.Names.{kind_of}
@@ -15,10 +15,10 @@ use Rattle.ipg_proof.specs.Texts.{IsTextFault}
 use Rattle.ipg_edit_script.specs.declared.script.Edit as scripts
 use Rattle.ipg_edit_script.specs.Laws.{OneScript}
 use Rattle.ipg_edit_script.specs.Scripts.{AreEdits, script_text}
-use Rattle.ipg_reader.specs.Faults as first
+use Rattle.ipg_reader.specs.Faults.{Continues, IsFirstFault}
 use Rattle.ipg_query_path.specs.declared.path.Query as paths
 use Rattle.ipg_query_path.specs.Laws.{OnePath}
-use Rattle.ipg_query_path.specs.Paths.{IsPath, IsFirstFault}
+use Rattle.ipg_query_path.specs.Paths.{path_text, FitsPath}
 use Rattle.ipg_app_words.specs.Request as words
 use Rattle.ipg_app_words.specs.Request.{Request, Use, Fmt, Trial, Query, View, Load, Explain, Help, Version, request_of}
 use Rattle.ipg_app.specs.declared.task.Show.{Show}
@@ -55,14 +55,9 @@ begun (suc k) zero text less = absurd (omega (arith, less))
 begun (suc k) (suc n) [] less = refl
 begun (suc k) (suc n) (b ∷ text) less = ap (λ l. b ∷ l) (begun k n text (omega (arith, less)))
 
--- what goes on from more bytes goes on from fewer
-fewer : {C : Type 0} (Is : C → List ℕ → Type 0) (k n : ℕ) (text : List ℕ) → k ≤ n → (c : C) × (rest : List ℕ) × Is c (take n text ++ rest)
-    → (c : C) × (rest : List ℕ) × Is c (take k text ++ rest)
-fewer Is k n text less (c, rest, is) = (
-  c,
-  drop k (take n text) ++ rest,
-  subst (Is c) (ap (λ l. l ++ rest) (begun k n text less) ∙ append_assoc (take k text) (drop k (take n text)) rest) is,
-)
+-- more of the text and what stands behind it is less of the text and what stands behind that
+cut : (k n : ℕ) (text rest : List ℕ) → k ≤ n → take n text ++ rest ≡ take k text ++ (drop k (take n text) ++ rest)
+cut k n text rest less = ap (λ l. l ++ rest) (begun k n text less) ∙ append_assoc (take k text) (drop k (take n text)) rest
 
 order : (a b : ℕ) → (a ≡ b) ⊎ ((a < b) ⊎ (b < a))
 order zero zero = inl refl
@@ -73,46 +68,31 @@ order (suc a) (suc b) = elim (order a b) [
   | inr other ↦ elim other [ inl less ↦ inr (inl (omega (arith, less))) | inr more ↦ inr (inr (omega (arith, more))) ]
 ]
 
-no_text_before : (text : List ℕ) (a b : ℕ) → IsTextFault text a → IsTextFault text b → a < b → ⊥
-no_text_before text a b p q less =
-    let more = fewer cert.IsTextOf (a + 1) b text (omega (arith, less)) q.before in
-    p.there (omega (arith, less, q.within)) more
+-- what goes on from more bytes goes on from fewer, so it stops at one place
+module _ (GoesOn : List ℕ → Type 0) (text : List ℕ) (fewer : (k n : ℕ) → k ≤ n → GoesOn (take n text) → GoesOn (take k text)) where
+  abbrev Stops : ℕ → Type 0
+  Stops at = (at ≤ length text) × GoesOn (take at text) × (at < length text → ¬ GoesOn (take (at + 1) text))
+
+  none_before : (a b : ℕ) → Stops a → Stops b → a < b → ⊥
+  none_before a b (one, goes, stops) (within, begins, other) less = stops (omega (arith, less, within)) (fewer (a + 1) b (omega (arith, less)) begins)
+
+  one_place : (a b : ℕ) → Stops a → Stops b → a ≡ b
+  one_place a b p q = elim (order a b) [
+    | inl e ↦ e
+    | inr apart ↦ elim apart [ inl less ↦ absurd (none_before a b p q less) | inr more ↦ absurd (none_before b a q p more) ]
+  ]
 
 one_text_fault : (text : List ℕ) (a b : ℕ) → IsTextFault text a → IsTextFault text b → a ≡ b
-one_text_fault text a b p q = elim (order a b) [
-  | inl e ↦ e
-  | inr apart ↦ elim apart [ inl less ↦ absurd (no_text_before text a b p q less) | inr more ↦ absurd (no_text_before text b a q p more) ]
-]
+one_text_fault text a b p q =
+    one_place (λ bytes. (c : Certificate) × (rest : List ℕ) × cert.IsTextOf c (bytes ++ rest)) text
+    (λ k n less (c, rest, is). (c, drop k (take n text) ++ rest, subst (cert.IsTextOf c) (cut k n text rest less) is))
+    a b (p.within, p.before, p.there) (q.within, q.before, q.there)
 
-no_path_before : (text : List ℕ) (a b : ℕ) → IsFirstFault text a → IsFirstFault text b → a < b → ⊥
-no_path_before text a b p q less =
-    let more = fewer IsPath (a + 1) b text (omega (arith, less)) q.before in
-    p.there (omega (arith, less, q.within)) more
-
-one_path_fault : (text : List ℕ) (a b : ℕ) → IsFirstFault text a → IsFirstFault text b → a ≡ b
-one_path_fault text a b p q = elim (order a b) [
-  | inl e ↦ e
-  | inr apart ↦ elim apart [ inl less ↦ absurd (no_path_before text a b p q less) | inr more ↦ absurd (no_path_before text b a q p more) ]
-]
-
--- a script of these edits is the text
-abbrev IsScriptOf : List scripts.Edit → List ℕ → Type 0
-IsScriptOf edits text = AreEdits edits × (script_text edits ≡ text)
-
-abbrev IsScriptFault : List ℕ → ℕ → Type 0
-IsScriptFault text at = first.IsFirstFault AreEdits script_text text at
-
-no_script_before : (text : List ℕ) (a b : ℕ) → IsScriptFault text a → IsScriptFault text b → a < b → ⊥
-no_script_before text a b p q less =
-    let whole = q.before in
-    let more = fewer IsScriptOf (a + 1) b text (omega (arith, less)) (whole.0, whole.1, (whole.2, whole.3)) in
-    p.there (omega (arith, less, q.within)) (more.0, more.1, more.2.0, more.2.1)
-
-one_script_fault : (text : List ℕ) (a b : ℕ) → IsScriptFault text a → IsScriptFault text b → a ≡ b
-one_script_fault text a b p q = elim (order a b) [
-  | inl e ↦ e
-  | inr apart ↦ elim apart [ inl less ↦ absurd (no_script_before text a b p q less) | inr more ↦ absurd (no_script_before text b a q p more) ]
-]
+one_fault : {A : Type 0} (Is : A → Type 0) (spell : A → List ℕ) (text : List ℕ) (a b : ℕ) → IsFirstFault Is spell text a → IsFirstFault Is spell text b
+    → a ≡ b
+one_fault Is spell text a b p q =
+    one_place (Continues Is spell) text (λ k n less (x, rest, is, e). (x, drop k (take n text) ++ rest, is, e ∙ cut k n text rest less))
+    a b (p.within, p.before, p.there) (q.within, q.before, q.there)
 
 -- ---- what is found is one
 
@@ -124,15 +104,15 @@ reads_same text (Err one) (Err other) p q = ap Err (p.is ∙ ap cert_text (one_t
 
 path_same : OnePath → (text : List ℕ) (x y : Result paths.Query Said) → ReadsPath text x → ReadsPath text y → x ≡ y
 path_same one_path text (Ok a) (Ok b) p q = ap Ok (one_path text a b p q)
-path_same one_path text (Ok a) (Err said) p q = absurd (q.fault.whole a p)
-path_same one_path text (Err said) (Ok b) p q = absurd (p.fault.whole b q)
-path_same one_path text (Err one) (Err other) p q = ap Err (p.is ∙ ap query_syntax (one_path_fault text p.at q.at p.fault q.fault) ∙ sym q.is)
+path_same one_path text (Ok a) (Err said) p q = absurd (q.fault.ends a p.fits p.written)
+path_same one_path text (Err said) (Ok b) p q = absurd (p.fault.ends b q.fits q.written)
+path_same one_path text (Err one) (Err other) p q = ap Err (p.is ∙ ap query_syntax (one_fault FitsPath path_text text p.at q.at p.fault q.fault) ∙ sym q.is)
 
 script_same : OneScript → (text : List ℕ) (x y : Result (List scripts.Edit) Said) → ReadsScript text x → ReadsScript text y → x ≡ y
 script_same one_script text (Ok a) (Ok b) p q = ap Ok (one_script text a b p q)
 script_same one_script text (Ok a) (Err said) p q = absurd (q.fault.ends a p.each p.written)
 script_same one_script text (Err said) (Ok b) p q = absurd (p.fault.ends b q.each q.written)
-script_same one_script text (Err one) (Err other) p q = ap Err (p.is ∙ ap edit_text (one_script_fault text p.at q.at p.fault q.fault) ∙ sym q.is)
+script_same one_script text (Err one) (Err other) p q = ap Err (p.is ∙ ap edit_text (one_fault AreEdits script_text text p.at q.at p.fault q.fault) ∙ sym q.is)
 
 unloaded : (fault : LoadFault) (said : Said) → fault ≡ none.Memory → load_said fault ≡ Some said → ⊥
 unloaded fault said e is = let none = sym (ap load_said e) ∙ is in absurd (cc)

@@ -1,9 +1,8 @@
 -- A reply: how it is settled, and how it goes out.
-use Rattle.std.proofs.Common.{◌≡◌, ℕ, ◌⊎◌, inl, inr, List, [], Option, None, refl, sym, subst, append-nil, Result, Ok, Err, IsErrAnd, arith}
+use Rattle.std.proofs.Common.{◌≡◌, ℕ, ◌⊎◌, inl, inr, List, Option, None, refl, sym, subst, Result, Ok, Err, IsErrAnd, arith}
 use Rattle.ipg_outside.specs.Faults.{Rose}
 use Rattle.ipg_outside.specs.Files.{Told}
-use Rattle.ipg_outside.specs.Sink.{Output, HandsOn, Breaks, Tells}
-use Rattle.ipg_tree.specs.Puts.{Whole}
+use Rattle.ipg_outside.specs.Sink.{Output}
 use Rattle.ipg_core.specs.Grammar.{Grammar}
 use Rattle.ipg_core.specs.Meaning.{Means}
 use Rattle.ipg_core.specs.Run.{Stop}
@@ -16,7 +15,7 @@ use Rattle.ipg_app.specs.Said.{Said, done}
 use Rattle.ipg_app.specs.Shown.{Shows, Misses, gap_said}
 use Rattle.ipg_app.specs.Order.{Order}
 use Rattle.ipg_app.specs.Reply.{Parses, ParseSays, order_of}
-use Rattle.ipg_app.specs.Run.{Outside, Settles, Writes, Runs, OutOfMemory, Replied, RepliesWithoutFault, Surely}
+use Rattle.ipg_app.specs.Run.{Outside, Settles, Runs, OutOfMemory, Replied, RepliesWithoutFault, Surely}
 use Rattle.ipg_app.specs.Lines.{said_of}
 use Rattle.ipg_app.specs.Early.{SaysSo}
 use Rattle.ipg_app.specs.Settled.{IsReplied, IsSettled, IsDue, MaySay, GoesOut, Replies, fault_status}
@@ -26,7 +25,6 @@ use Rattle.ipg_app.specs.declared.reply.Reply.TheVariants.{Text, Parse, Edits}
 use Rattle.ipg_app.specs.declared.said.Settled.{Settled}
 use Rattle.ipg_app.specs.declared.status.Status.{Status}
 use Rattle.ipg_app.proofs.Instead.{answers_on, exits_on}
-use Rattle.ipg_app.proofs.Written.{Progress, all-out, broken}
 
 -- ---- what is settled
 
@@ -62,20 +60,6 @@ module _ (told : List ℕ → Told) (before after : List ℕ → ℕ) (order : O
   said_of_reply (Text settled) said h e = subst (λ x. Settles told before after order x) (sym e) h
   said_of_reply (Parse due) said h parses = h.1 said parses
   said_of_reply (Edits due) said h is = h.1 said is
-
--- ---- what goes out
-
--- all of a text was taken
-whole_taken : (text : List ℕ) (before after : Option Output) (counted counts : ℕ) → Whole text before counted after counts → Progress before after text []
-whole_taken text before after counted counts h = record { done = text; is = sym (append-nil text); told = h.told }
-
-pub whole_out : (text : List ℕ) (before mid after : Option Output) (counted m : ℕ) → Whole text before counted mid m → Tells mid after HandsOn
-    → Tells before after (Writes text)
-whole_out text before mid after counted m h on = all-out before mid after text [] refl (whole_taken text before mid counted m h) on
-
-pub whole_broken : (text : List ℕ) (before mid after : Option Output) (counted m : ℕ) → Whole text before counted mid m → Tells mid after (Breaks [])
-    → Tells before after (Breaks text)
-whole_broken text before mid after counted m h off = broken before mid after text [] [] (whole_taken text before mid counted m h) off
 
 -- ---- the run
 

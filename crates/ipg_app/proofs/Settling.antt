@@ -1,5 +1,5 @@
 -- What is settled, step by step.
-use Rattle.std.proofs.Common.{◌≡◌, ℕ, ◌≤◌, ◌<◌, ◌^◌, inl, inr, List, length, true, false, cond, nat_le, Result, Ok, Err, Option, Some, None, refl, sym}
+use Rattle.std.proofs.Common.{◌≡◌, ℕ, ◌≤◌, ◌<◌, ◌^◌, inl, inr, List, length, true, cond, nat_le, Result, Ok, Err, Option, Some, None, refl, sym}
 use Rattle.std.proofs.Common.{subst, ap, ◌∙◌, arith}
 use Rattle.std.proofs.lemmas.Bool.Decides.{nat_tests}
 use Rattle.ipg_outside.specs.Files.{Told, MayHold}
@@ -24,15 +24,20 @@ use Rattle.ipg_edit_script.specs.declared.script.Edit.{Edit}
 use Rattle.ipg_app.specs.Editing.{ReadsScript}
 use Rattle.ipg_app.specs.Run.{Settles}
 use Rattle.ipg_app.specs.declared.text.GrammarText.{GrammarText}
-use Rattle.ipg_app.specs.Found.{AreBytes, FoundBy, FoundText, IsText, bytes_of, input_in_file, silence}
+use Rattle.ipg_app.specs.declared.text.GrammarText.TheVariants as code
+use Rattle.ipg_app.specs.Found.{FoundBy, FoundText, IsText, bytes_of, input_in_file, silence}
 use Rattle.ipg_app.proofs.Written.{later}
 
 -- a text of so many bytes, or of too many
 pub these_bytes : (text : GrammarText) (bytes these : List ℕ) → bytes_of text ≡ Some these → IsText text bytes → bytes ≡ these
-these_bytes text bytes these e is = subst (λ o. AreBytes o bytes) e is
+these_bytes (code.BuiltIn kind) bytes these e is = cc
+these_bytes (code.Read held) bytes these e is = cc
+these_bytes code.TooLong bytes these e is = absurd (cc)
 
 pub too_many : (text : GrammarText) (bytes : List ℕ) → bytes_of text ≡ None → IsText text bytes → 2 ^ 20 < length bytes
-too_many text bytes e is = subst (λ o. AreBytes o bytes) e is
+too_many (code.BuiltIn kind) bytes e is = absurd (cc)
+too_many (code.Read held) bytes e is = absurd (cc)
+too_many code.TooLong bytes e is = is
 
 -- the bytes of a text that was found
 abbrev bytes_by : (kind : Option Kind) (t : Told) (text : GrammarText) → FoundBy kind t text → List ℕ
@@ -207,18 +212,7 @@ module _ (told then : List ℕ → Told) (same : (n : List ℕ) → then n ≡ t
   settles_then before between after order said counts (inr f) =
       inr (record { name = f.name; turn = turn_then order f.name f.turn; rose = later _ _ _ (counts f.name) f.rose; is = f.is })
 
--- an input that is too long
-input_too_long : (bytes : List ℕ) → max_input < length bytes → input_in bytes ≡ Err too_large
-input_too_long bytes h = ap (λ b. cond b (Ok bytes) (Err too_large)) (let e : nat_le (length bytes) max_input ≡ false = grind (arith, nat_tests) in e)
-
--- a file that is longer than an input may be
-pub too_large_on : (told : List ℕ → Told) (before after : List ℕ → ℕ) (name : List ℕ) (next : List ℕ → Order) (said : Said) (bytes : List ℕ)
-    → MayHold (told name) bytes → max_input < length bytes → said ≡ too_large → Settles told before after (input_in_file name next) said
-too_large_on told before after name next said bytes held longer is =
-    goes_on told before after name (λ b. have (input_in b) next) said bytes held
-    (settles_by told before after (input_in bytes) next said too_large (input_too_long bytes longer) is)
-
--- an input that isn't
+-- an input that isn't too long
 input_fits : (bytes : List ℕ) → length bytes ≤ max_input → input_in bytes ≡ Ok bytes
 input_fits bytes h = ap (λ b. cond b (Ok bytes) (Err too_large)) (let e : nat_le (length bytes) max_input ≡ true = grind (arith, nat_tests) in e)
 

@@ -9,9 +9,9 @@ use Rattle.ipg_mach_moves.specs.Moves.{Key}
 use Rattle.ipg_mach_count_laws.specs.Kept.{IsFresh}
 use Rattle.ipg_edit_laws.specs.Edited.{edited}
 use Rattle.ipg_edit_laws.specs.Known.{keys_after}
+use Rattle.ipg_reader.specs.Faults.{IsFirstFault}
 use Rattle.ipg_edit_script.specs.declared.script.Edit.{Edit}
-use Rattle.ipg_edit_script.specs.declared.reading.ScriptFault.TheVariants.{EditText}
-use Rattle.ipg_edit_script.specs.Scripts.{IsScript, IsFault}
+use Rattle.ipg_edit_script.specs.Scripts.{script_text, AreEdits, IsScript}
 use Rattle.ipg_edit.specs.Edits.{IsAllowed}
 use Rattle.ipg_app.specs.Said.{Said, done, refused}
 
@@ -23,7 +23,7 @@ edit_text at = refused (codes "E2 EditText " ++ decimal at)
 -- no script begins with the bytes up to that place and with it, or the text ends there too early
 pub record IsNoScript (text : List ℕ) (said : Said) : Type 0 where
   pub at : ℕ
-  pub fault : IsFault text (EditText at)
+  pub fault : IsFirstFault AreEdits script_text text at
   pub is : said ≡ edit_text at
 
 abbrev pub ReadsScript : List ℕ → Result (List Edit) Said → Type 0

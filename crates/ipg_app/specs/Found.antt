@@ -17,13 +17,11 @@ bytes_of (text.BuiltIn kind) = Some (text_of kind)
 bytes_of (text.Read bytes) = Some bytes.items
 bytes_of text.TooLong = None
 
-abbrev pub AreBytes : Option (List ℕ) → List ℕ → Type 0
-AreBytes (Some these) bytes = bytes ≡ these
-AreBytes None bytes = 2 ^ 20 < length bytes
-
 -- it is that of these bytes; of too many none is kept
 abbrev pub IsText : GrammarText → List ℕ → Type 0
-IsText text bytes = AreBytes (bytes_of text) bytes
+IsText (text.BuiltIn kind) bytes = bytes ≡ text_of kind
+IsText (text.Read these) bytes = bytes ≡ these.items
+IsText text.TooLong bytes = 2 ^ 20 < length bytes
 
 -- a name of which this is told may hold the text
 pub record HeldText (told : Told) (text : GrammarText) : Type 0 where

@@ -32,6 +32,9 @@ use ipg_order::{OrderFault, order};
 use ipg_touch::{loose, must_touch};
 use std::alloc::{AllocError, Global};
 
+/// A grammar that comes to more counts as want of memory.
+const TOO_MUCH_TO_COMPLETE: AllocError = AllocError;
+
 /// The core grammar of a grammar, or what is said of the first of its faults: G6 to G12, then G14.
 pub fn core_of(alloc: Global, g: &Grammar) -> Result<Core, Early<Settled>>
     requires { IsReadable g.now }
@@ -55,7 +58,7 @@ fn completed_in(alloc: Global, named: NamedGrammar) -> Result<Completed, AllocEr
     ensures { IfOk result (λ c. c ≡ completed named) }
 {
     if MOST_COMPLETED < completed_size(named.rules()) {
-        return Err(AllocError);
+        return Err(TOO_MUCH_TO_COMPLETE);
     }
     complete(alloc, named)
 }

@@ -23,7 +23,7 @@ impl<S: Drop> From<AllocError> for Early<S> {
     }
 }
 
-/// Of a reason that is said, without its places.
+/// A reason is said by its words alone; where the text is at fault is for `explain`.
 impl From<Early<Reason>> for Early<Settled> {
     ghost from_gives = { λ early e. e ≡ of_reason early };
 

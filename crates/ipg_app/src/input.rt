@@ -7,14 +7,18 @@ ghost use Rattle.ipg_app.specs.Lines.{said_of};
 ghost use Rattle.ipg_app.specs.Run.{Settles};
 
 use crate::early::Early;
-use crate::said::{Settled, line};
+use crate::said::{Settled, line, read_fault};
 use crate::status::Status;
 use ipg_outside::{FileFault, Files};
 use std::alloc::Global;
 
+/// The most bytes of an input: 1 GiB.
 const MAX_INPUT: u64 = 1 << 30;
 
-/// The bytes of a file, or what is said where it can't be read or is longer than an input may be.
+/// The bytes of a file.
+///
+/// # Errors
+/// What is said of a file that can't be read, or is longer than an input may be.
 pub fn input_in_file<F: Files>(
     alloc: Global,
     name: &str,
@@ -27,9 +31,7 @@ pub fn input_in_file<F: Files>(
 {
     match files.read_all(alloc, name, MAX_INPUT) {
         Ok(input) => Ok(input),
-        Err(FileFault::Failed) => {
-            Err(Early::Said(line(alloc, Status::ReadFault, b"read fault")?))
-        }
+        Err(FileFault::Failed) => Err(Early::Said(read_fault(alloc)?)),
         Err(FileFault::TooLarge(_)) => {
             Err(Early::Said(line(alloc, Status::TooLarge, b"too large")?))
         }

@@ -7,7 +7,8 @@ ghost use Rattle.ipg_app.specs.Path.{ReadsPath, query_syntax};
 use crate::early::Early;
 use crate::said::{Settled, line};
 use crate::status::Status;
-use ipg_query_path::{Query, QueryFault, read};
+use ipg_query_path::{Query, read};
+use ipg_reader::Fault;
 use itoa::Buffer;
 use std::alloc::{AllocError, Global};
 
@@ -27,7 +28,7 @@ pub fn path_in(alloc: Global, text: &str) -> Result<Query, Early<Settled>>
 {
     match read(alloc, text.as_bytes()) {
         Ok(query) => Ok(query),
-        Err(QueryFault::QuerySyntax { at }) => Err(Early::Said(syntax(alloc, at)?)),
-        Err(QueryFault::Memory) => Err(Early::Memory),
+        Err(Fault::At(at)) => Err(Early::Said(syntax(alloc, at)?)),
+        Err(Fault::Memory) => Err(Early::Memory),
     }
 }

@@ -22,6 +22,13 @@ pub fn line(alloc: Global, status: Status, words: &[u8]) -> Result<Settled, Allo
     Ok(Settled { status, text })
 }
 
+/// What is said of a file that can't be read.
+pub fn read_fault(alloc: Global) -> Result<Settled, AllocError>
+    ensures { IfOk result (λ settled. said_of settled ≡ spec.read_fault) }
+{
+    line(alloc, Status::ReadFault, b"read fault")
+}
+
 /// What is said of words that are no command.
 pub fn usage(alloc: Global) -> Result<Settled, AllocError>
     ensures { IfOk result (λ settled. said_of settled ≡ spec.usage) }

@@ -7,8 +7,9 @@ ghost use Rattle.ipg_app.specs.Editing.{ReadsScript, edit_text};
 use crate::early::Early;
 use crate::said::{Settled, line};
 use crate::status::Status;
-use ipg_edit_script::{Edit, ScriptFault, read};
+use ipg_edit_script::{Edit, read};
 use ipg_num::List;
+use ipg_reader::Fault;
 use itoa::Buffer;
 use std::alloc::{AllocError, Global};
 
@@ -28,7 +29,7 @@ pub fn script_in(alloc: Global, text: &[u8]) -> Result<List<Edit>, Early<Settled
 {
     match read(alloc, text) {
         Ok(edits) => Ok(edits),
-        Err(ScriptFault::EditText { at }) => Err(Early::Said(no_script(alloc, at)?)),
-        Err(ScriptFault::Memory) => Err(Early::Memory),
+        Err(Fault::At(at)) => Err(Early::Said(no_script(alloc, at)?)),
+        Err(Fault::Memory) => Err(Early::Memory),
     }
 }

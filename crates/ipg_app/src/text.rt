@@ -11,12 +11,11 @@ ghost use Rattle.ipg_app.specs.Order.{contents};
 ghost use Rattle.ipg_app.specs.Reply.{text_under};
 ghost use Rattle.ipg_app.specs.Run.{Settles};
 
-use crate::core_of::core_in_text;
+use crate::core_of::core_of;
 use crate::early::Early;
 use crate::grammar::grammar_in;
 use crate::refusal::refusal;
-use crate::said::{Settled, line};
-use crate::status::Status;
+use crate::said::{Settled, read_fault};
 use ipg_ast::Grammar;
 use ipg_core::accepted::Core;
 use ipg_formats::{Kind, kind_named, text};
@@ -24,6 +23,7 @@ use ipg_outside::{FileFault, Files};
 use ipg_read_tokens::ReadFault;
 use std::alloc::Global;
 
+/// The most bytes of a text in a file: 1 MiB.
 const MAX_TEXT: u64 = 1 << 20;
 
 /// The text of a grammar.
@@ -48,7 +48,10 @@ impl GrammarText {
     }
 }
 
-/// The text under a name, built in or a file's, or what is said where it can't be read.
+/// The text under a name: a built-in one by its name, else a file's.
+///
+/// # Errors
+/// What is said of a file that can't be read; of one that is longer than a text may be, the text is `TooLong`.
 pub fn text_under<F: Files>(
     alloc: Global,
     name: &str,
@@ -65,7 +68,7 @@ pub fn text_under<F: Files>(
     }
 }
 
-/// The text in a file.
+/// The text in a file; see [`text_under`].
 fn text_in_file<F: Files>(
     alloc: Global,
     name: &str,
@@ -79,14 +82,15 @@ fn text_in_file<F: Files>(
     match files.read_all(alloc, name, MAX_TEXT) {
         Ok(text) => Ok(GrammarText::Read(text)),
         Err(FileFault::TooLarge(_)) => Ok(GrammarText::TooLong),
-        Err(FileFault::Failed) => {
-            Err(Early::Said(line(alloc, Status::ReadFault, b"read fault")?))
-        }
+        Err(FileFault::Failed) => Err(Early::Said(read_fault(alloc)?)),
         Err(FileFault::Memory) => Err(Early::Memory),
     }
 }
 
-/// The grammar of a text, or what is said of a text that is none.
+/// The grammar of a text.
+///
+/// # Errors
+/// What is said of a text that is too long or none of a grammar: G1 to G5.
 pub fn grammar_of(alloc: Global, text: &GrammarText) -> Result<Grammar, Early<Settled>>
     ensures read { (bytes : List ℕ) → IsText text.now bytes
         → AnswersOrSays result (λ g. grammar_in bytes ≡ Ok g) (λ settled. grammar_in bytes ≡ Err (said_of settled)) }
@@ -99,13 +103,14 @@ pub fn grammar_of(alloc: Global, text: &GrammarText) -> Result<Grammar, Early<Se
     }
 }
 
-/// The core grammar of a text, or what is said of a text that has none.
+/// The core grammar of a text.
+///
+/// # Errors
+/// What is said of the first of its faults: G1 to G12, then G14.
 pub fn core_of_text(alloc: Global, text: &GrammarText) -> Result<Core, Early<Settled>>
     ensures { (bytes : List ℕ) → IsText text.now bytes
         → AnswersOrSays result (λ core. CoreOf bytes (Ok core)) (λ settled. CoreOf bytes (Err (said_of settled))) }
 {
-    match text.bytes() {
-        Some(bytes) => core_in_text(alloc, bytes),
-        None => Err(Early::Said(refusal(alloc, &ReadFault::TooLong)?)),
-    }
+    let g = grammar_of(alloc, text)?;
+    core_of(alloc, &g)
 }

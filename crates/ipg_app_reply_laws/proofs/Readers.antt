@@ -1,9 +1,9 @@
 -- A text is of the language that it is read for, or has a first byte with which nothing of that goes on.
 use Rattle.std.proofs.Common.{◌≡◌, ℕ, zero, suc, ◌+◌, ◌<◌, ◌≤◌, ◌⊎◌, inl, inr, refl, subst, arith, List, [], ◌∷◌, length, take, None}
+use Rattle.ipg_reader.specs.Faults.{Continues, IsFirstFault}
 use Rattle.ipg_query_path.specs.declared.path.Query.{Query}
 use Rattle.ipg_query_path.specs.declared.path.Step.TheVariants.{Children}
-use Rattle.ipg_query_path.specs.Paths as path
-use Rattle.ipg_query_path.specs.Paths.{IsPath}
+use Rattle.ipg_query_path.specs.Paths.{path_text, FitsPath, IsPath}
 use Rattle.ipg_app_reply_laws.proofs.Classical.{Somehow, some, ◌>>=◌, by, middle, not_not, First, first_below, NoneBelow}
 
 -- ---- the first byte at fault
@@ -43,12 +43,20 @@ module _ (GoesOn : List ℕ → Type 0) (from_none : GoesOn []) (text : List ℕ
 abbrev all_children : Query
 all_children = record { steps = Children ∷ []; field = None }
 
-path_from_none : path.GoesOn []
-path_from_none = (all_children, 42 ∷ [], record { some = omega arith; steps = (tt, tt); field = tt; written = refl })
+path_from_none : Continues FitsPath path_text []
+path_from_none = (all_children, 42 ∷ [], record { some = omega arith; steps = (tt, tt); field = tt }, refl)
 
-pub reads_path : (text : List ℕ) → Somehow (((q : Query) × IsPath q text) ⊎ ((at : ℕ) × path.IsFirstFault text at))
+pub reads_path : (text : List ℕ) → Somehow (((q : Query) × IsPath q text) ⊎ ((at : ℕ) × IsFirstFault FitsPath path_text text at))
 reads_path text = do
   whole ← middle ((q : Query) × IsPath q text)
   by whole (λ is. some (inl is)) (λ none. do
-    f ← first_fault path.GoesOn path_from_none text
-    some (inr (f.at, record { within = f.within; before = f.before; there = f.there; whole = λ q is. none (q, is) })))
+    f ← first_fault (Continues FitsPath path_text) path_from_none text
+    some (inr (
+      f.at,
+      record {
+        within = f.within;
+        before = f.before;
+        there = f.there;
+        ends = λ q fits e. none (q, record { fits = fits; written = e });
+      },
+    )))

@@ -1,6 +1,7 @@
 //! Scripts of edits.
 
-use ipg_edit_script::{Edit, ScriptFault, read};
+use ipg_edit_script::{Edit, read};
+use ipg_reader::Fault;
 use std::test::*;
 
 /// Texts that are no script, with the first byte at fault.
@@ -45,8 +46,6 @@ fn no_bytes_are_no_edits(rt: HostRuntime) -> Result<(), Fail> {
 #[test]
 fn the_first_byte_at_fault(rt: HostRuntime) {
     for (text, place) in NONE {
-        assert!(rt;
-            matches!(read(rt.alloc(), text), Err(ScriptFault::EditText { at }) if at == place)
-        );
+        assert!(rt; matches!(read(rt.alloc(), text), Err(Fault::At(at)) if at == place));
     }
 }

@@ -13,8 +13,8 @@ returns-in_err-checked-clause-settled g c =
     let counts = g.F.Files.faults c.args.files.now in
     let core = c.args.core in
     let next : Grammar → Order = edit_file c.args.input.now c.args.script.now in
-    reply_exits told counts counts (edit c.args.input.now c.args.script.now core) c.from_residual.result c.in_err-checked.field-0.0 (λ said. Checks core (Err said))
-    c.from_residual.ensures.1 (λ said h. not_accepted told counts counts core next said h) c.in_err-checked.ensures.checks
+    reply_exits told counts counts (edit c.args.input.now c.args.script.now core) c.from_residual.result c.in_err-checked.field-0.0
+    (λ said. Checks core (Err said)) c.from_residual.ensures.1 (λ said h. not_accepted told counts counts core next said h) c.in_err-checked.ensures.checks
 
 pub returns-clause-settled : goal.returns-clause-settled
 returns-clause-settled g c =

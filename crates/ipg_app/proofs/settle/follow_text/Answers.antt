@@ -30,4 +30,5 @@ returns-in_ok-told-in-Err-Said-clause-settled g c =
     let text = c.args.text.now in
     let reason = reason_of c.in-Err-Said.reason in
     let clears : Clears text (Err reason) = rw c.in-Err-Said.field-0-is at c.in-Err-Said.ensures in
-    not_cleared told counts counts name text (follow name text c.args.input.now) (said_of c.in_ok-told-in-Err-Said.field-0) reason clears c.in_ok-told-in-Err-Said.ensures
+    not_cleared told counts counts name text (follow name text c.args.input.now) (said_of c.in_ok-told-in-Err-Said.field-0) reason clears
+    c.in_ok-told-in-Err-Said.ensures

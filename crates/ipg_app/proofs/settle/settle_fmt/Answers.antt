@@ -31,7 +31,8 @@ returns-in_err-grammar-clause-settled g c =
     let is = found_is told name text found in
     let next : List ℕ → Order = λ text. grammar_of text formatted in
     said_exits c.from_residual-in_err-grammar.result c.in_err-grammar.field-0.0 (λ said. grammar_in bytes ≡ Err said) (Settles told before after (fmt name))
-    c.from_residual-in_err-grammar.ensures.1 (λ said e. text_on told before after name next said text found (no_grammar_on told before after bytes formatted said e))
+    c.from_residual-in_err-grammar.ensures.1
+    (λ said e. text_on told before after name next said text found (no_grammar_on told before after bytes formatted said e))
     (c.in_err-grammar.ensures.read bytes is)
 
 pub returns-clause-settled : goal.returns-clause-settled
