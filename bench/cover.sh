@@ -20,7 +20,9 @@ head -c 33554432 /dev/zero >"$work/once"
 head -c 67108864 /dev/zero >"$work/twice"
 echo 'S -> many U8 Bytes ;' >"$work/numbers.ipg"
 echo 'S -> Bytes ;' >"$work/raw.ipg"
-python3 bench/turns.py --goal 2.2 "rebuild of 64 MiB of raw bytes, and of 32" "$ipg" rebuild "$work/raw.ipg" "$work/twice" -- "$ipg" rebuild "$work/raw.ipg" "$work/once"
+python3 bench/turns.py --goal 2.2 "rebuild of 64 MiB of raw bytes, and of 32" \
+  "$ipg" rebuild "$work/raw.ipg" "$work/twice" -- "$ipg" rebuild "$work/raw.ipg" "$work/once"
 head -c 1000000 /dev/zero >"$work/once"
 head -c 2000000 /dev/zero >"$work/twice"
-python3 bench/turns.py --goal 2.2 "rebuild of 2,000,000 numbers, and of 1,000,000" "$ipg" rebuild "$work/numbers.ipg" "$work/twice" -- "$ipg" rebuild "$work/numbers.ipg" "$work/once"
+python3 bench/turns.py --goal 2.2 "rebuild of 2,000,000 numbers, and of 1,000,000" \
+  "$ipg" rebuild "$work/numbers.ipg" "$work/twice" -- "$ipg" rebuild "$work/numbers.ipg" "$work/once"

@@ -5,7 +5,8 @@ cd "$(dirname "$0")/../.." || exit 1
 top=$PWD
 . .ci/skips.sh
 archive=crates/ipg_c/out/libipg_c.a
-if [ ! -f "$archive" ] || [ -n "$(find crates/ipg_c/src crates/ipg_c_trees/src crates/ipg_tree_rows/src crates/ipg_app/src -newer "$archive" -print -quit)" ]; then
+sources=(crates/{ipg_c,ipg_c_trees,ipg_tree_rows,ipg_app}/src)
+if [ ! -f "$archive" ] || [ -n "$(find "${sources[@]}" -newer "$archive" -print -quit)" ]; then
   skip library "an archive that was built here"
   exit 0
 fi
