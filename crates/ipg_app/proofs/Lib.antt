@@ -1,6 +1,7 @@
 pub mod Written
 pub mod Instead
 pub mod Settling
+pub mod Heads
 pub mod Stages
 pub mod Replying
 pub mod OneCore

@@ -1,6 +1,7 @@
 -- Why a text has no core grammar by which parsing ends: what is said of it, of which kind it is, where in the text, and what is noted.
 use Rattle.std.specs.Prelude.{◌≡◌, ◌⊎◌, ℕ, ℤ, List, [], ◌∷◌, flat_map, slice_get, Result, Ok, Err, Option, None, Some}
 use Rattle.ipg_ast.specs.declared.grammar.Grammar as written
+use Rattle.ipg_ast.specs.declared.grammar.Rule.{Rule, out-Rule}
 use Rattle.ipg_read_tokens.specs.declared.fault.ReadFault.{ReadFault}
 use Rattle.ipg_read_tokens.specs.declared.fault.ReadFault.TheVariants as read
 use Rattle.ipg_read_tokens.specs.declared.fault.Which.{Which}
@@ -25,7 +26,7 @@ use Rattle.ipg_proof.specs.Proves.{Accepts}
 use Rattle.ipg_term.specs.Loops.{Loops}
 use Rattle.ipg_app_explain.specs.declared.why.Why.{Why}
 use Rattle.ipg_app_explain.specs.declared.why.Why.TheVariants as why
-use Rattle.ipg_app_explain.specs.Terms.{term_place, call_place}
+use Rattle.ipg_app_explain.specs.Terms.{all_rules, term_place, call_place}
 use Rattle.ipg_app_values.specs.Notes.{AreNotes}
 use Rattle.ipg_app.specs.Said.{Said}
 use Rattle.ipg_app.specs.Refusal.{fault_said, name_said, circular, no_touch}
@@ -82,6 +83,20 @@ pub record IsUnnamed (g : written.Grammar) (reason : Reason) : Type 0 where
   pub is : reason ≡ name_reason fault
 
 -- ---- terms: G12, then G14
+
+-- the completed grammar is that of the text
+pub record IsCompleted (g : written.Grammar) (c : Unordered) : Type 0 where
+  pub n : Resolved
+  pub resolves : resolved g ≡ Ok n
+  pub completes : c ≡ completed n
+
+abbrev pub head_of : Option Rule → List ℕ
+head_of None = []
+head_of (Some rule) = (out-Rule rule).name.name
+
+-- the name at the head of a rule of the text, by the rule's number
+abbrev pub head_at : written.Grammar → ℕ → List ℕ
+head_at g r = head_of (slice_get (all_rules g) r)
 
 -- the place is that of the leftmost term that has no turn
 pub record IsStuck (g : written.Grammar) (c : Unordered) (reason : Reason) : Type 0 where

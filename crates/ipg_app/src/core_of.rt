@@ -1,13 +1,12 @@
 //! The core grammar of a grammar as it is written.
-ghost use Rattle.std.specs.Prelude.{◌≡◌, [], Ok, Err, IfOk, map, slice_get};
+ghost use Rattle.std.specs.Prelude.{◌≡◌, [], Ok, Err, IfOk, slice_get};
 ghost use Rattle.ipg_complete.specs.Completion.{completed};
-ghost use Rattle.ipg_core.specs.Grammar.{name_at};
 ghost use Rattle.ipg_core.specs.Good.{Good};
 ghost use Rattle.ipg_names.specs.Readable.{IsReadable};
 ghost use Rattle.ipg_app.specs.CoreOf.{CoreOf, resolved, Orders, Touches, OrdersAndTouches, CoreFrom, name_of};
 ghost use Rattle.ipg_app.specs.Early.{AnswersOrSays};
-ghost use Rattle.ipg_app.specs.Lines.{said_of, line_bytes};
-ghost use Rattle.ipg_app.specs.Reasons.{CoreOrReason, IsLoose, IsStuck, IsUnnamed, IsUnordered};
+ghost use Rattle.ipg_app.specs.Lines.{said_of};
+ghost use Rattle.ipg_app.specs.Reasons.{CoreOrReason, IsCompleted, IsLoose, IsStuck, IsUnnamed, IsUnordered, head_at};
 ghost use Rattle.ipg_app.specs.Reasons.{listed};
 ghost use Rattle.ipg_app.specs.Refusal as spec;
 ghost use Rattle.ipg_app.specs.Seen.{reason_of};
@@ -20,10 +19,10 @@ use crate::reasons::{Reason, name_reason, reason_at};
 use crate::refusal::{TermPlace, circular, no_touch};
 use crate::room::{MOST_COMPLETED, completed_size};
 use crate::said::Settled;
-use ipg_app_explain::{TermAt, Why, term_place};
+use ipg_app_explain::{TermAt, Why, rule_at, term_place};
 use ipg_ast::Grammar;
 use ipg_complete::complete;
-use ipg_complete::completed::{Completed, CompletedRule};
+use ipg_complete::completed::Completed;
 use ipg_core::accepted::Core;
 use ipg_core::grammar::CoreRule;
 use ipg_names::{NameFault, NamedGrammar, resolve};
@@ -83,42 +82,52 @@ fn named_in(alloc: Global, g: &Grammar) -> Result<NamedGrammar, Early<Reason>>
 }
 
 fn core_in(alloc: Global, g: &Grammar, c: Completed) -> Result<Core, Early<Reason>>
-    ensures { AnswersOrSays result (λ core. OrdersAndTouches c (Ok core)) (λ reason. IsUnordered g.now c (reason_of reason)) }
+    ensures { IsCompleted g.now c
+        → AnswersOrSays result (λ core. OrdersAndTouches c (Ok core)) (λ reason. IsUnordered g.now c (reason_of reason)) }
 {
     let core = ordered_in(alloc, g, c)?;
     touching(alloc, g, core)
 }
 
 fn ordered_in(alloc: Global, g: &Grammar, c: Completed) -> Result<Core, Early<Reason>>
-    ensures { AnswersOrSays result (λ core. Orders c (Ok core)) (λ reason. IsStuck g.now c (reason_of reason)) }
+    ensures { IsCompleted g.now c → AnswersOrSays result (λ core. Orders c (Ok core)) (λ reason. IsStuck g.now c (reason_of reason)) }
 {
-    let heads = heads(alloc, c.rules())?;
     match order(alloc, c) {
         Ok(core) => {
             good(&core);
             Ok(core)
         }
         Err(OrderFault::Circular { rule, alt, term }) => {
-            let name = head_at(&heads, rule);
-            let reason = stuck(alloc, g, name, TermAt { rule, alt, term })?;
+            let reason = stuck(alloc, g, TermAt { rule, alt, term })?;
             Err(Early::Said(reason))
         }
         Err(OrderFault::Memory) => Err(Early::Memory),
     }
 }
 
-/// The reason of a term that has no turn, in a rule of this name.
-fn stuck(alloc: Global, g: &Grammar, rule: &[u8], at: TermAt) -> Result<Reason, AllocError>
+/// The reason of a term that has no turn.
+fn stuck(alloc: Global, g: &Grammar, at: TermAt) -> Result<Reason, AllocError>
     ensures { IfOk result (λ r. reason_of r ≡ record {
-      said = spec.circular rule.now at.alt at.term;
+      said = spec.circular (head_at g.now at.rule) at.alt at.term;
       why = why.Circular;
       places = listed (explain.term_place g.now at.rule at.alt at.term);
       notes = [];
     }) }
 {
-    let TermAt { alt, term, .. } = at;
+    let TermAt { rule, alt, term } = at;
+    let rule = head_at(g, rule);
     let said = circular(alloc, TermPlace { rule, alt, term })?;
     reason_at(alloc, said, Why::Circular, term_place(g, at))
+}
+
+/// The name at the head of a rule, by the rule's number; none of one that there isn't.
+fn head_at(g: &Grammar, rule: u32) -> &[u8]
+    ensures { result.now ≡ head_at g.now rule }
+{
+    match rule_at(g, rule) {
+        Some(rule) => rule.name.name.as_slice(),
+        None => b"",
+    }
 }
 
 /// A core grammar is good, by its type.
@@ -126,26 +135,6 @@ fn good(core: &Core)
     ensures { Good core.now }
 {
     core.rules();
-}
-
-/// The rules' names, which are needed once the terms have gone into the core grammar.
-fn heads(alloc: Global, rules: &[CompletedRule]) -> Result<Vec<Vec<u8>>, AllocError>
-    ensures { IfOk result (λ heads. map line_bytes heads.items ≡ map (λ rule. rule.name) rules.now) }
-{
-    let mut heads = Vec::with_capacity(alloc, rules.len())?;
-    for rule in rules {
-        heads.push(Vec::from_slice(alloc, rule.name.as_slice())?)?;
-    }
-    Ok(heads)
-}
-
-fn head_at(heads: &[Vec<u8>], rule: u32) -> &[u8]
-    ensures { result.now ≡ name_at (map line_bytes heads.now) rule }
-{
-    match item_at(heads, rule as usize) {
-        Some(head) => head,
-        None => b"",
-    }
 }
 
 /// The grammar, or the reason of its first loose repetition.

@@ -14,5 +14,5 @@ mod words;
 
 pub use furthest::{Ending, Subject, tell};
 pub use named::{add_label, cut, loop_name, rule_name};
-pub use terms::{TermAt, call_place, term_place};
+pub use terms::{TermAt, call_place, rule_at, term_place};
 pub use why::{Source, Why, explain};

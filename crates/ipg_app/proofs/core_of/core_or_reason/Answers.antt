@@ -23,4 +23,4 @@ returns c =
     answers_on c.core_in.result (λ core. OrdersAndTouches whole (Ok core)) (λ core. CoreOrReason g (Ok core))
     (λ r. IsUnordered g whole (reason_of r)) (λ r. CoreOrReason g (Err (reason_of r)))
     (λ core h. core_behind g named whole core is same h) (λ r h. reason_behind g named whole (reason_of r) is same h)
-    c.core_in.ensures
+    (c.core_in.ensures (record { n = named; resolves = is; completes = same }))
