@@ -1,5 +1,6 @@
 -- The rules of a completed grammar bear the names at the heads of the text's rules, in their order.
-use Rattle.std.proofs.Common.{◌≡◌, ℕ, ◌+◌, List, [], ◌∷◌, ◌++◌, length, map, flat_map, Option, None, Some, Ok, refl, sym, ap, ◌∙◌, slice_get}
+use Rattle.std.proofs.Common.{◌≡◌, ℕ, ◌+◌, List, [], ◌∷◌, ◌++◌, length, map, flat_map, slice_get}
+use Rattle.std.proofs.Common.{Option, None, Some, Ok, refl, sym, ap, ◌∙◌}
 use Rattle.std.specs.Option.{option_map}
 use Rattle.std.proofs.lemmas.List.{map-append}
 use Rattle.std.proofs.lemmas.Option.{slice_get-map}
@@ -76,6 +77,7 @@ head_by None = refl
 head_by (Some rule) = refl
 
 -- a rule's name in the completed grammar is the one at its head
-pub name_is_head : (g : written.Grammar) (c : Unordered) (r : ℕ) → IsCompleted g c → name_at (map (λ (x : CompletedRule). x.name) c.rules) r ≡ head_at g r
+pub name_is_head : (g : written.Grammar) (c : Unordered) (r : ℕ) → IsCompleted g c
+    → name_at (map (λ (x : CompletedRule). x.name) c.rules) r ≡ head_at g r
 name_is_head g c r is =
     ap (λ names. name_at names r) (heads g c is) ∙ ap or_empty (slice_get-map head (all_rules g) r) ∙ head_by (slice_get (all_rules g) r)

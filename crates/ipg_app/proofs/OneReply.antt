@@ -1,6 +1,6 @@
 -- For words, and files of which something is told, the program says one thing.
-use Rattle.std.proofs.Common.{◌≡◌, ◌≢◌, ℕ, suc, zero, ◌+◌, ◌<◌, ◌≤◌, ◌⊎◌, inl, inr, List, [], ◌∷◌, ◌++◌, length, take, drop}
-use Rattle.std.proofs.Common.{Result, Ok, Err, Option, Some, None, refl, sym, ap, ◌∙◌, subst, arith, append_assoc}
+use Rattle.std.proofs.Common.{◌≡◌, ◌≢◌, ℕ, suc, zero, ◌+◌, ◌<◌, ◌≤◌, ◌⊎◌, inl, inr}
+use Rattle.std.proofs.Common.{List, [], ◌∷◌, ◌++◌, length, take, drop, Result, Ok, Err, Option, Some, None, refl, sym, ap, ◌∙◌, subst, arith, append_assoc}
 use Rattle.ipg_core.specs.Grammar.{Grammar}
 use Rattle.ipg_formats.specs.declared.Kind.{Kind}
 use Rattle.ipg_formats.specs.Names.{kind_of}
@@ -88,8 +88,8 @@ one_text_fault text a b p q =
     (λ k n less (c, rest, is). (c, drop k (take n text) ++ rest, subst (cert.IsTextOf c) (cut k n text rest less) is))
     a b (p.within, p.before, p.there) (q.within, q.before, q.there)
 
-one_fault : {A : Type 0} (Is : A → Type 0) (spell : A → List ℕ) (text : List ℕ) (a b : ℕ) → IsFirstFault Is spell text a → IsFirstFault Is spell text b
-    → a ≡ b
+one_fault : {A : Type 0} (Is : A → Type 0) (spell : A → List ℕ) (text : List ℕ) (a b : ℕ) → IsFirstFault Is spell text a
+    → IsFirstFault Is spell text b → a ≡ b
 one_fault Is spell text a b p q =
     one_place (Continues Is spell) text (λ k n less (x, rest, is, e). (x, drop k (take n text) ++ rest, is, e ∙ cut k n text rest less))
     a b (p.within, p.before, p.there) (q.within, q.before, q.there)
@@ -106,13 +106,15 @@ path_same : OnePath → (text : List ℕ) (x y : Result paths.Query Said) → Re
 path_same one_path text (Ok a) (Ok b) p q = ap Ok (one_path text a b p q)
 path_same one_path text (Ok a) (Err said) p q = absurd (q.fault.ends a p.fits p.written)
 path_same one_path text (Err said) (Ok b) p q = absurd (p.fault.ends b q.fits q.written)
-path_same one_path text (Err one) (Err other) p q = ap Err (p.is ∙ ap query_syntax (one_fault FitsPath path_text text p.at q.at p.fault q.fault) ∙ sym q.is)
+path_same one_path text (Err one) (Err other) p q =
+    ap Err (p.is ∙ ap query_syntax (one_fault FitsPath path_text text p.at q.at p.fault q.fault) ∙ sym q.is)
 
 script_same : OneScript → (text : List ℕ) (x y : Result (List scripts.Edit) Said) → ReadsScript text x → ReadsScript text y → x ≡ y
 script_same one_script text (Ok a) (Ok b) p q = ap Ok (one_script text a b p q)
 script_same one_script text (Ok a) (Err said) p q = absurd (q.fault.ends a p.each p.written)
 script_same one_script text (Err said) (Ok b) p q = absurd (p.fault.ends b q.each q.written)
-script_same one_script text (Err one) (Err other) p q = ap Err (p.is ∙ ap edit_text (one_fault AreEdits script_text text p.at q.at p.fault q.fault) ∙ sym q.is)
+script_same one_script text (Err one) (Err other) p q =
+    ap Err (p.is ∙ ap edit_text (one_fault AreEdits script_text text p.at q.at p.fault q.fault) ∙ sym q.is)
 
 unloaded : (fault : LoadFault) (said : Said) → fault ≡ none.Memory → load_said fault ≡ Some said → ⊥
 unloaded fault said e is = let none = sym (ap load_said e) ∙ is in absurd (cc)

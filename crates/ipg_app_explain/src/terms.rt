@@ -65,7 +65,8 @@ fn in_families(rules: &[Rule], number: usize) -> Option<&Rule>
     None
 }
 
-/// A rule by its number.
+/// A rule by its number, from 0 in the order of the heads, where a local rule stands behind its holder's head; None where
+/// there is no such rule.
 pub fn rule_at(g: &Grammar, number: u32) -> Option<&Rule>
     ensures { option_copied result ≡ slice_get (all_rules g.now) number }
 {

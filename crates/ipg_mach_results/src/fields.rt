@@ -36,7 +36,8 @@ pub(crate) fn has_items(kid: Kid) -> bool
     matches!(kid, Kid::Array { .. } | Kid::Many { .. })
 }
 
-/// An attribute of a number, by its name.
+/// An attribute of a number by its name: `val` of one of up to 32 bits, which `low` holds, or `lo` and `hi`, the halves of
+/// one of 64. None where it has no attribute of that name.
 pub fn number_attr(prim: Primitive, name: &[u8], high: u32, low: u32) -> Option<i64>
     ensures { result ≡ spec.number_attr prim name.now high low }
 {

@@ -76,8 +76,8 @@ module _ {L : Type 0} (left : L → ℕ) where
         omega (arith, e, less)
 
   -- without the innermost level there are no more steps
-  pub fewer_around : (other room : ℕ) (levels around : List L) (level : L) (n : ℕ) → other ≡ room → levels ≡ level ∷ around → steps room levels ≤ n
-      → steps other around ≤ n
+  pub fewer_around : (other room : ℕ) (levels around : List L) (level : L) (n : ℕ) → other ≡ room → levels ≡ level ∷ around
+      → steps room levels ≤ n → steps other around ≤ n
   fewer_around other room levels around level n same is le =
       let e = ap (λ r. steps r around) same in
       let all = ap (steps room) is in

@@ -27,14 +27,14 @@ pub struct Visit {
     pub node: Option<Node>,
 }
 
-/// An interval of a part.
+/// An interval of a part: its bytes from `from` up to `to`, counted from the part's first byte.
 #[derive(Clone, Copy)]
 pub struct Interval {
     pub from: u32,
     pub to: u32,
 }
 
-/// The interval of a child in a part of so many bytes; that of an array and a repetition is the whole part.
+/// The interval of a child in a part of `size` bytes; that of an array and a repetition is the whole part.
 pub fn interval_of(kid: Kid, size: u32) -> Interval
     ensures { (src : Source) (st : Stored) (at : ℕ) (one : tree.Kid) → StandsKid src st at kid one
         → (result.from ≡ from_of one) × (result.to ≡ end_in size one) }
