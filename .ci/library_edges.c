@@ -57,6 +57,8 @@ int main(void) {
   ipg_file files[] = {{IPG_TEXT("g"), IPG_TEXT("S -> \"a\" ;")}, {IPG_TEXT("in"), IPG_TEXT("a")}, {IPG_TEXT("in"), IPG_TEXT("b")}};
   ipg_file torn_name[] = {{{(const unsigned char *)"\xff", 1}, IPG_TEXT("S -> \"a\" ;")}};
 
+  none[0] = IPG_NONE;
+  expect("texts are expressions", IPG_TEXT("two").size == 3 && none[0].size == 0 && none[0].at);
   expect("no words are `usage`", ipg_run(none, 0, files, 0, room, sizeof room, &size) == IPG_USAGE);
   expect("an empty word is `usage`", ipg_run(none, 1, files, 0, room, sizeof room, &size) == IPG_USAGE);
   expect("a word that is no text is `usage`", ipg_run(torn, 1, files, 0, room, sizeof room, &size) == IPG_USAGE);

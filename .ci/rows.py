@@ -22,6 +22,7 @@ HERE = os.path.dirname(os.path.abspath(__file__))
 ROWS = {
     "rows": "rows worked by hand",
     "loads": "table files and inputs of independent implementations",
+    "symbols": "table files of independent implementations whose references have any symbols",
     "covers": "grammars of independent implementations",
     "rebuilds": "grammars and inputs of independent implementations",
     "edits": "grammars, inputs and scripts of independent implementations",

@@ -3,8 +3,9 @@
   view_lines.py COMMAND [COUNT [SEED]]
 
 Taken are the samples of formats/, COUNT random grammars with inputs (300 if it isn't given), real files of the built-in grammars,
-and rows by hand. Each tree is also viewed by some paths, of names that it has. Where there is no tree, `view` says what `parse` says,
-and of what is no path what `query` says. Ends with status 1 where something differs.
+and rows by hand. Each tree is also viewed by some paths, of names that it has. Where the first gap begins, `rebuild` says so; where
+there is none, it gives the file. Where there is no tree, `view` says what `parse` says, and of what is no path what `query` says. Ends
+with status 1 where something differs.
 """
 
 import itertools
@@ -40,6 +41,15 @@ ROWS = [
         "00000000  00 01" + " " * 43 + "|..              |    gap 0..2",
         "00000006  06 07" + " " * 43 + "|..              |    gap 6..8",
         "00000009  09 0a" + " " * 43 + "|..              |    gap 9..11"]),
+    ("a string in a longer interval", 'S -> "ab"[0, EOI] ;\n', b"abcdefgh", [
+        "00000000" + " " * 70 + "S 0..8",
+        "00000000  61 62" + " " * 43 + "|ab              |    tok",
+        "00000002  63 64 65 66 67 68" + " " * 31 + "|cdefgh          |    gap 2..8"]),
+    ("a number in a longer interval", "S -> U16LE[1, EOI] ;\n", bytes(range(5)), [
+        "00000000" + " " * 70 + "S 0..5",
+        "00000001  01 02" + " " * 43 + "|..              |    U16LE 513",
+        "00000000  00" + " " * 46 + "|.               |    gap 0..1",
+        "00000003  03 04" + " " * 43 + "|..              |    gap 3..5"]),
     ("bytes that go on", "Top -> Bytes ;\n", b"\x1b[31m" + bytes(range(0x70, 0xa0)), [
         "00000000" + " " * 70 + "Top 0..53",
         "00000000  1b 5b 33 31 6d 70 71 72 73 74 75 76 77 78 79 7a |.[31mpqrstuvwxyz|    Bytes 53",
@@ -106,6 +116,13 @@ def piece_lines(data, depth, start, end, text):
     return lines
 
 
+def size_of(one):
+    """How many bytes a leaf has: a string those of its text, a number those of its width, raw bytes all of their interval."""
+    if one["prim"] == "Bytes":
+        return one["to"] - one["from"]
+    return len(one["hex"]) // 2 if one["prim"] == "tok" else int(one["prim"][1:].rstrip("BEL")) // 8
+
+
 def object_lines(one, depth, data):
     if "rule" in one:
         words = [one["rule"], f"{one['from']}..{one['to']}"] + [f"{name}={value}" for name, value in one["attrs"].items()]
@@ -119,7 +136,7 @@ def object_lines(one, depth, data):
         text = f"Bytes {one['to'] - one['from']}"
     else:
         text = f"{one['prim']} {one['val'] if 'val' in one else (one['hi'] << 32) + one['lo']}"
-    return piece_lines(data, depth, one["from"], one["to"], text)
+    return piece_lines(data, depth, one["from"], one["from"] + size_of(one), text)
 
 
 def gaps(had):
@@ -146,15 +163,19 @@ def below_lines(one, data):
     return lines
 
 
-def lines_of(tree, data):
+def gaps_of(tree, data):
     left, had = [tree], bytearray(len(data))
     while left:
         one = left.pop()
         if "prim" in one:
-            had[one["from"]:one["to"]] = b"\1" * (one["to"] - one["from"])
+            had[one["from"]:one["from"] + size_of(one)] = b"\1" * size_of(one)
         left += inner(one)
+    return gaps(had)
+
+
+def lines_of(tree, data):
     lines = below_lines(tree, data)
-    for start, end in gaps(had):
+    for start, end in gaps_of(tree, data):
         lines += piece_lines(data, 1, start, end, f"gap {start}..{end}")
     return lines
 
@@ -194,7 +215,7 @@ def touched(one):
         return {"start": one["start"], "end": one["end"]}
     if one["prim"] == "Bytes":
         return {"start": one["from"], "end": one["to"]}
-    count = len(one["hex"]) // 2 if one["prim"] == "tok" else int(one["prim"][1:].rstrip("BEL")) // 8
+    count = size_of(one)
     return {"start": one["from"], "end": one["from"] + count} if count else {"start": one["to"], "end": one["from"]}
 
 
@@ -243,6 +264,14 @@ def why_picked_differs(command, grammar, path, text, due):
     return None if why is None else f"{text}: {why}"
 
 
+def why_rebuilt_differs(command, paths, tree, data):
+    """What differs where the leaves are put back, or None: the least byte of the first gap is told, or there is the file."""
+    missed = gaps_of(tree, data)
+    due = (2, b"refused V4 Gap %d\n" % missed[0][0]) if missed else (0, data)
+    done = run(command, ["rebuild", *paths])
+    return None if (done.returncode, done.stdout) == due else f"rebuild: {done.stdout[:60]!r} is said, where {due[1][:60]!r} is due"
+
+
 def why_differs(command, grammar, path, rng):
     """What differs of a grammar and a file, or None."""
     parsed, done = run(command, ["parse", grammar, path]), run(command, ["view", grammar, path])
@@ -253,7 +282,7 @@ def why_differs(command, grammar, path, rng):
     tree = json.loads(run(command, ["json", grammar, path]).stdout)
     with open(path, "rb") as file:
         data = file.read()
-    whys = [first_other(done.stdout, lines_of(tree, data))]
+    whys = [first_other(done.stdout, lines_of(tree, data)), why_rebuilt_differs(command, (grammar, path), tree, data)]
     whys += [why_picked_differs(command, grammar, path, text, picked_lines(tree, data, text)) for text in paths_of(tree, rng)]
     return next((why for why in whys if why is not None), None)
 

@@ -1,5 +1,5 @@
 #!/usr/bin/env bash
-# Tries the edits of the crates that are named, or of all that have more-edits/, those of must-fail/ with them: in a copy of
+# Tries the edits of the crates that are named, or of all that have any, of must-fail/, wrong-bodies/ and more-edits/: in a copy of
 # the checkout, by `rt must-fail`, which begins with what checks on this machine kept, and tries nothing again that hasn't
 # changed. Prints a line for each edit, and last how many there are; ends with 0 where all were refused. A crate may have none.
 set -u
@@ -8,14 +8,14 @@ copy=$(mktemp -d) || exit 1
 trap 'rm -rf "$copy"' EXIT
 tar -c --exclude=out crates crates.txt HANDLES | tar -x -C "$copy" || exit 1
 
-# together NAME: puts the crate's more-edits/ into its must-fail/; fails where two have one name
+# together NAME: puts the crate's other edits into its must-fail/; fails where two have one name
 together() {
   local crate="$copy/crates/$1" edit
   mkdir -p "$crate/must-fail" || return 1
-  for edit in "$crate"/more-edits/*; do
+  for edit in "$crate"/wrong-bodies/* "$crate"/more-edits/*; do
     [ -e "$edit" ] || continue
     if [ -e "$crate/must-fail/${edit##*/}" ]; then
-      echo "$1: ${edit##*/} stands in must-fail/ and in more-edits/"
+      echo "$1: ${edit##*/} stands twice"
       return 1
     fi
     mv "$edit" "$crate/must-fail/" || return 1
@@ -34,7 +34,9 @@ tried() {
 }
 
 if [ $# -eq 0 ]; then
-  for more in crates/*/more-edits; do set -- "$@" "$(basename "$(dirname "$more")")"; done
+  for crate in crates/*/; do
+    set -- "$@" "$(basename "$crate")"
+  done
 fi
 status=0 edits=0 refused=0
 for name; do

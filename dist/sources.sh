@@ -72,9 +72,32 @@ is_built() {
   [ -z "$(cd "$top" && find crates.txt "${folders[@]}" -newer "$built" -print -quit)" ]
 }
 
-# how many crates are proved at a time: as many as there are processors, and 4 GiB of memory for each
+# how many crates are proved at a time: as many as there are processors, and as half of the free memory holds at 4 GiB each
 at_once() {
-  awk -v most="$(nproc)" '/^MemAvailable:/ { n = int($2 / 2 ^ 22) } END { print n < 1 ? 1 : n < most ? n : most }' /proc/meminfo
+  awk -v most="$(nproc)" '/^MemAvailable:/ { n = int($2 / 2 ^ 23) } END { print n < 1 ? 1 : n < most ? n : most }' /proc/meminfo
+}
+
+# how many processes the system has ended for want of memory since it was started
+ended_by_system() {
+  awk '$1 == "oom_kill" { print $2 }' /proc/vmstat 2>/dev/null
+}
+
+# proving COMMAND..: runs a command of the kit, and shows what it says on standard error. Where it fails, and the system ended a
+# process for want of memory meanwhile, it says so, and which crate was at work: the kit then names no fault.
+proving() {
+  local log status=0 ended
+  log=$(mktemp) && ended=$(ended_by_system) || return 1
+  # what it says goes to a file: a pipe whose reader lags costs a prover its verdict
+  "$@" >"$log" 2>&1 </dev/null &
+  local run=$!
+  tail -f -n +1 --pid="$run" "$log" >&2
+  wait "$run" || status=$?
+  if [ "$status" -ne 0 ] && { [ "$(ended_by_system)" != "$ended" ] || grep -q 'was killed' "$log"; }; then
+    echo "A prover was ended by the system, at work on $(sed -n 's/^rt: chose --jobs [0-9]* for //p; s/^== //p' "$log" | tail -n 1)," \
+      "for want of memory; $(awk '/^MemAvailable:/ { print int($2 / 1024) }' /proc/meminfo) MiB are free now. Run it again when less else runs." >&2
+  fi
+  rm -f "$log"
+  return "$status"
 }
 
 # Proves and builds the program here; what is edited meanwhile is newer than it. Where none was built yet, crates are proved
@@ -82,8 +105,8 @@ at_once() {
 build() {
   local began
   began=$(date +%s.%N)
-  [ -e "$program" ] || (cd "$top/crates" && rt all check --jobs "$(at_once)") </dev/null >&2
-  (cd "$top/crates/ipg" && rt run -- parse data/row.ipg data/row.bin) </dev/null >&2 || return 1
+  [ -e "$program" ] || (cd "$top/crates" && proving rt all check --jobs "$(at_once)")
+  (cd "$top/crates/ipg" && proving rt run -- parse data/row.ipg data/row.bin) || return 1
   touch -d "@$began" "$program" || true
 }
 
@@ -94,5 +117,5 @@ library_sources() {
 }
 
 build_library() {
-  (cd "$top/crates/ipg_c" && rt lib) </dev/null >&2 && rm -rf "$top/lib/out" && make -s -C "$top/lib" >&2
+  (cd "$top/crates/ipg_c" && proving rt lib) && rm -rf "$top/lib/out" && make -s -C "$top/lib" >&2
 }

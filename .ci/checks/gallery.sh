@@ -1,5 +1,5 @@
 #!/usr/bin/env bash
-# The grammars of formats/ on samples, against what other programs and python3's own modules say of them.
+# The grammars of formats/ on samples, against what other programs and python3's own modules say of them; and on files of this machine.
 set -u
 cd "$(dirname "$0")/../.." || exit 1
 . .ci/skips.sh
@@ -14,4 +14,7 @@ is_built || program=dist/ipg
 for tool in $(python3 .ci/gallery.py --missing); do
   skip "gallery-$tool" "$tool"
 done
-exec python3 .ci/gallery.py "$program"
+python3 .ci/gallery.py "$program"
+status=$?
+python3 -B .ci/gallery_files.py "$program" || status=1
+exit "$status"

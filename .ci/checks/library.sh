@@ -4,22 +4,30 @@ set -u
 cd "$(dirname "$0")/../.." || exit 1
 top=$PWD
 . .ci/skips.sh
-archive=crates/ipg_c/out/libipg_c.a
-sources=(crates/{ipg_c,ipg_c_trees,ipg_tree_rows,ipg_app}/src)
-if [ ! -f "$archive" ] || [ -n "$(find "${sources[@]}" -newer "$archive" -print -quit)" ]; then
-  skip library "an archive that was built here"
-  exit 0
-fi
+. dist/sources.sh
 command -v cc >/dev/null && command -v c++ >/dev/null && command -v python3 >/dev/null || {
   skip library "a C compiler and python3"
   exit 0
 }
-rm -rf lib/out && make -s -C lib || exit 1
-out=$top/lib/out
-. dist/sources.sh
 folder=$(mktemp -d) || exit 1
 trap 'rm -rf "$folder"' EXIT
 failed=0
+
+# the archive that was built here, both ways to link it; else the shared library that is kept, where it is of these sources
+archive=crates/ipg_c/out/libipg_c.a
+mapfile -t folders < <(own_folders ipg_c)
+if [ -f "$archive" ] && [ -z "$(find crates.txt "${folders[@]}" -newer "$archive" -print -quit)" ]; then
+  rm -rf lib/out && make -s -C lib || exit 1
+  out=$top/lib/out
+  linked=("$out/libipg.a")
+elif [ "$(sources ipg_c)" = "$(tail -n +2 dist/LIBRARY)" ]; then
+  out=$folder/lib
+  mkdir "$out" && cp dist/libipg.so "$out/libipg.so.1" && ln -s libipg.so.1 "$out/libipg.so" || exit 1
+  linked=("-L$out" -lipg "-Wl,-rpath,$out")
+else
+  skip library "an archive that was built here, or a library that is kept of these sources"
+  exit 0
+fi
 
 # says WHAT COMMAND..: runs a command, and says whether it did
 says() {
@@ -32,10 +40,10 @@ says() {
 }
 
 flags="-Wall -Wextra -Werror -O1 -I lib/include"
-cc $flags -std=c99 lib/examples/elf_sections.c "$out/libipg.a" -o "$folder/elf_sections" || exit 1
-c++ $flags -std=c++11 lib/examples/gif_list.cpp "$out/libipg.a" -o "$folder/gif_list" || exit 1
-cc $flags -std=c99 .ci/library_edges.c "$out/libipg.a" -o "$folder/edges" || exit 1
-cc $flags -std=c99 .ci/library_threads.c "$out/libipg.a" -lpthread -o "$folder/threads" || exit 1
+cc $flags -std=c99 lib/examples/elf_sections.c "${linked[@]}" -o "$folder/elf_sections" || exit 1
+c++ $flags -std=c++11 lib/examples/gif_list.cpp "${linked[@]}" -o "$folder/gif_list" || exit 1
+cc $flags -std=c99 .ci/library_edges.c "${linked[@]}" -o "$folder/edges" || exit 1
+cc $flags -std=c99 .ci/library_threads.c "${linked[@]}" -lpthread -o "$folder/threads" || exit 1
 printf 'GIF89a\1\0\1\0\0\0\0\x2c\3\0\4\0\1\0\1\0\0\2\2\x4c\1\0\x3b' >"$folder/one.gif"
 
 says "no names of the archive but its own are seen in libipg.so" test "$(nm -D --defined-only "$out/libipg.so" | awk '$2 == "T"' | wc -l)" -eq 3
@@ -67,7 +75,7 @@ if command -v valgrind >/dev/null; then
 else
   skip library_valgrind valgrind
 fi
-if cc $flags -std=c99 -g -fsanitize=address .ci/library_edges.c "$out/libipg.a" -o "$folder/edges_asan" 2>/dev/null; then
+if cc $flags -std=c99 -g -fsanitize=address .ci/library_edges.c "${linked[@]}" -o "$folder/edges_asan" 2>/dev/null; then
   says "the address sanitizer finds nothing in the edges" "$folder/edges_asan"
 else
   skip library_sanitizer "the address sanitizer"

@@ -122,6 +122,13 @@ for memo in on off; do
   fi
 done
 
+: >"$folder/nothing"
+./ipg edit "$folder/deep.ipg" "$folder/zeros" "$folder/nothing" >"$folder/out"
+if [ $? -ne 0 ] || [ "$(head -n 1 "$folder/out")" != '0 tree bodies=100001' ] || [ "$(wc -l <"$folder/out")" -ne 200003 ]; then
+  echo "program: a tree of 100,000 levels, by edit"
+  failed=1
+fi
+
 # a chain of rules, each of which calls the next one twice on the same part: 2^41 runs without the memo
 for ((k = 40; k > 0; k--)); do echo "F$k -> F$((k - 1))[0, EOI] \"no\"[0, EOI] / F$((k - 1))[0, EOI] ;"; done >"$folder/twice.ipg"
 echo 'F0 -> "x" ;' >>"$folder/twice.ipg"

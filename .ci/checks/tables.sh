@@ -1,5 +1,6 @@
 #!/usr/bin/env bash
-# Table files, cut or changed: `load` refuses each as a second reader does, that was written from the pages alone.
+# Table files, cut or changed: `load` refuses each as a second reader does, and `table` writes bodies as a second writer does; both were
+# written from the pages.
 set -u
 cd "$(dirname "$0")/../.." || exit 1
 top=$PWD
@@ -11,4 +12,4 @@ command -v python3 >/dev/null || {
 }
 ./ipg fmt crates/ipg/data/row.ipg >/dev/null || exit 1
 is_built || program=dist/ipg
-exec python3 -B .ci/table_files.py against "$program"
+python3 -B .ci/table_files.py against "$program" && exec python3 -B .ci/table_writer.py "$program"

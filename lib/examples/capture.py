@@ -1,4 +1,4 @@
-"""How many packets a capture has of each length, and the first and the last time: as `tcpdump` counts them.
+"""How many packets a capture has of each length: as `tcpdump` counts them.
 
 python3 capture.py FILE, with the package ../python on the path
 """
@@ -12,10 +12,9 @@ import ipg
 
 def main(name):
     with open(name, "rb") as file, mmap.mmap(file.fileno(), 0, access=mmap.ACCESS_READ) as data:
-        capture = ipg.builtin("pcap").parse(data)
-    packets = [node for node in capture.walk() if node.rule == "Rec"]
-    print(len(packets), "packets")
-    for size, count in sorted(collections.Counter(packet.cap for packet in packets).items()):
+        lengths = ipg.builtin("pcap").parse(data).column("Rec", "cap")
+    print(len(lengths), "packets")
+    for size, count in sorted(collections.Counter(lengths).items()):
         print(size, count)
 
 

@@ -32,11 +32,11 @@ typedef struct ipg_file {
   ipg_bytes bytes;
 } ipg_file;
 
-/* The bytes of a string constant, without its last zero; and no bytes. */
+/* The bytes of a string constant, without its last zero; and no bytes. Both are expressions. */
 #ifdef __cplusplus
 #define IPG_TEXT(text) ipg_bytes{reinterpret_cast<const unsigned char *>(text), sizeof(text) - 1}
 #else
-#define IPG_TEXT(text) {(const unsigned char *)(text), sizeof(text) - 1}
+#define IPG_TEXT(text) ((ipg_bytes){(const unsigned char *)(text), sizeof(text) - 1})
 #endif
 #define IPG_NONE IPG_TEXT("")
 

@@ -5,7 +5,7 @@
 mod tests;
 
 use ipg_app::run::run;
-use ipg_app::status::Status;
+use ipg_app_text::status::Status;
 use ipg_outside::{DiskFiles, StdSink};
 use std::alloc::AllocError;
 use std::io::ErrorKind;

@@ -3,13 +3,15 @@ use Rattle.std.proofs.Common.{ℕ, inl, inr, List, [], ◌++◌, Ok, Err, Some, 
 use Rattle.std.specs.Prelude.{codes, flat_map, ◌∷◌}
 use Rattle.ipg_app_explain.specs.Spot.{spot_lines}
 use Rattle.ipg_app_explain.specs.Why.{advice, first_word, wrong}
-use Rattle.ipg_app.specs.Said.{Said, done_line}
-use Rattle.ipg_app.specs.CoreOf.{On, CoreFrom}
-use Rattle.ipg_app.specs.Found.{Says}
+use Rattle.ipg_app_text.specs.Said.{Said, done_line}
+use Rattle.ipg_app_text.specs.CoreOf.{On, CoreFrom}
+use Rattle.ipg_app_text.specs.Found.{Says}
 use Rattle.ipg_app.specs.Laws.{BeginsAsCheck}
-use Rattle.ipg_app.specs.Reasons.{Reason, Judged}
-use Rattle.ipg_app.specs.Reply.{core_of, check}
-use Rattle.ipg_app.proofs.OneReason.{of_text, unread, without_core}
+use Rattle.ipg_app_text.specs.Reasons.{Reason}
+use Rattle.ipg_app_grammar.specs.Judged.{Judged}
+use Rattle.ipg_app_text.specs.Steps.{core_of}
+use Rattle.ipg_app_grammar.specs.Commands.{check}
+use Rattle.ipg_app_text.specs.Reasoned.{of_text, unread, without_core}
 
 -- the reason's own line is what `check` says
 checked : (text : List ℕ) (r : Reason) → Judged text (Some r) → Says (core_of text check) r.said

@@ -1,9 +1,6 @@
-pub mod Written
-pub mod Instead
 pub mod Settling
-pub mod Heads
-pub mod Stages
 pub mod Replying
+pub mod Nesting
 pub mod OneCore
 pub mod OneCheck
 pub mod OneReason
@@ -11,14 +8,8 @@ pub mod Explained
 pub mod OneVerdict
 pub mod OneParse
 pub mod OneFollowed
-pub mod Meant
-pub mod Nesting
-pub mod Hits
 pub mod Verified
-pub mod Pieces
 pub mod Rebuilt
-pub mod Told
-pub mod Behind
 pub mod OneEdits
 pub mod OneTrial
 pub mod OneReply

@@ -16,7 +16,7 @@ use Rattle.ipg_order.specs.Answer.{without_orders}
 use Rattle.ipg_touch.specs.Loose.{loose}
 use Rattle.ipg_store_body.specs.Fits.{NestsRule}
 use Rattle.ipg_store_depth_laws.specs.Shallow.{IsOfText, TextNests}
-use Rattle.ipg_app.specs.CoreOf.{Answer, On, or_fault, unless_fault, unless_loose, CoreFrom, CoreOf, Orders, Touches, OrdersAndTouches}
+use Rattle.ipg_app_text.specs.CoreOf.{Answer, On, or_fault, unless_fault, unless_loose, CoreFrom, CoreOf, Orders, Touches, OrdersAndTouches}
 
 same_core : (g core : Grammar) (at : Option (ℕ × ℕ × ℕ)) → Ok core ≡ unless_loose g at → core ≡ g
 same_core g core None e = let both : Answer = Ok core in cc

@@ -3,8 +3,8 @@ use Rattle.std.proofs.Common.{◌≡◌, Ok, Err, sym, ap, ◌∙◌}
 use Rattle.ipg_core.specs.Grammar.{Grammar}
 use Rattle.ipg_lin.specs.Formula.{assigned}
 use Rattle.ipg_term.specs.Laws.{LoopsArentAccepted, OneLoops}
-use Rattle.ipg_app.specs.Said.{Said}
-use Rattle.ipg_app.specs.Checks.{may_loop, IsLoop}
+use Rattle.ipg_app_text.specs.Said.{Said}
+use Rattle.ipg_app_grammar.specs.Checks.{may_loop, IsLoop}
 use Rattle.ipg_app.specs.Laws.{OneCheck}
 
 module _ (loops_arent_accepted : LoopsArentAccepted) (one_loops : OneLoops) where

@@ -11,9 +11,9 @@ use Rattle.ipg_order.specs.Answer.{IsFirstStuck}
 use Rattle.ipg_order.specs.Laws.{OrdersOnce, GoodIsNotStuck, StuckOnce}
 use Rattle.ipg_touch.specs.Loose.{loose}
 use Rattle.ipg_touch.specs.Laws.{OneLimit}
-use Rattle.ipg_app.specs.Said.{Said}
-use Rattle.ipg_app.specs.Refusal.{circular}
-use Rattle.ipg_app.specs.CoreOf.{Answer, On, grammar_in, resolved, Circles, Orders, unless_loose, Touches, OrdersAndTouches, CoreFrom}
+use Rattle.ipg_app_text.specs.Said.{Said}
+use Rattle.ipg_app_text.specs.Refusal.{circular}
+use Rattle.ipg_app_text.specs.CoreOf.{Answer, On, grammar_in, resolved, Circles, Orders, unless_loose, Touches, OrdersAndTouches, CoreFrom}
 use Rattle.ipg_app.specs.Laws.{OneCore}
 
 on_once : {A : Type 0} (r : Result A Said) (next : A → Answer → Type 0) → ((a : A) (x y : Answer) → next a x → next a y → x ≡ y)

@@ -11,7 +11,7 @@ use Rattle.ipg_mach_count_laws.specs.Kept.{AreAmong, AreSame, AreKnown, keys_of}
 use Rattle.ipg_mach_count_laws.specs.Laws.{FreshAtAnyHeight, OneFresh, KeysAreKnown}
 use Rattle.ipg_edit_laws.specs.Known.{known_after, KeysAfterAreKnown}
 use Rattle.ipg_edit_script.specs.declared.script.Edit.{Edit}
-use Rattle.ipg_app.specs.Editing.{Turns, EditsSay, answer_line, counted, words_of, tree_of, kept_behind, kept_by, edited_by, before, edits_said}
+use Rattle.ipg_app_tree.specs.Editing.{Turns, EditsSay, answer_line, counted, words_of, tree_of, kept_behind, kept_by, edited_by, before, edits_said}
 use Rattle.ipg_app.specs.Laws.{OneEdits}
 use Rattle.ipg_app.proofs.OneParse.{one_answer}
 

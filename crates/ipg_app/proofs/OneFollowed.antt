@@ -6,10 +6,10 @@ use Rattle.ipg_core.specs.Run.{Stop, NoTree, OutOfRange, Deep}
 use Rattle.ipg_mach_watch.specs.declared.findings.End.{End}
 use Rattle.ipg_mach_watch.specs.declared.findings.End.TheVariants as end
 use Rattle.ipg_mach_watch.specs.Laws.{OneFindings, EndIsMeant, IsEnd}
-use Rattle.ipg_app.specs.declared.task.Show.TheVariants.{Lines}
-use Rattle.ipg_app.specs.Said.{Said}
-use Rattle.ipg_app.specs.Followed.{found_said, status_of}
-use Rattle.ipg_app.specs.Reply.{ParseSays}
+use Rattle.ipg_app_tree.specs.declared.show.Show.TheVariants.{Lines}
+use Rattle.ipg_app_text.specs.Said.{Said}
+use Rattle.ipg_app_grammar.specs.Followed.{found_said, status_of}
+use Rattle.ipg_app_tree.specs.Parses.{ParseSays}
 use Rattle.ipg_app.specs.Laws.{OneFollowed, FollowEndsAsParse}
 
 pub followed_same : OneFindings → OneFollowed

@@ -8,11 +8,11 @@ use Rattle.ipg_core.specs.Laws.{HeightsAgree}
 use Rattle.ipg_cover_leaves.specs.declared.fault.PutFault.TheVariants.{Gap}
 use Rattle.ipg_cover_leaves.specs.Laws.{AnswersAreOne}
 use Rattle.ipg_cover_leaves.specs.Leaves.{leaves_of}
-use Rattle.ipg_app.specs.declared.task.Show.{Show}
-use Rattle.ipg_app.specs.declared.task.Show.TheVariants as show
-use Rattle.ipg_app.specs.Said.{Said, done}
-use Rattle.ipg_app.specs.Shown.{Shows, Misses, TreeSays, gap_said}
-use Rattle.ipg_app.specs.Reply.{ParseSays}
+use Rattle.ipg_app_tree.specs.declared.show.Show.{Show}
+use Rattle.ipg_app_tree.specs.declared.show.Show.TheVariants as show
+use Rattle.ipg_app_text.specs.Said.{Said, done}
+use Rattle.ipg_app_tree.specs.Shown.{Shows, Misses, TreeSays, gap_said}
+use Rattle.ipg_app_tree.specs.Parses.{ParseSays}
 use Rattle.ipg_app.specs.Laws.{OneParse}
 
 module _ (heights : HeightsAgree) where

@@ -8,11 +8,8 @@ use Rattle.ipg_complete.specs.Unordered as unordered
 use Rattle.ipg_complete.specs.Unordered.{Unordered}
 use Rattle.ipg_complete.specs.Completion.{completed}
 use Rattle.ipg_lin.specs.Formula.{assigned}
-use Rattle.ipg_names.specs.declared.fault.NameFault.{NameFault}
-use Rattle.ipg_names.specs.declared.fault.NameFault.TheVariants as name
 use Rattle.ipg_names.specs.Resolved.{Resolved, names_of}
 use Rattle.ipg_order.specs.Laws.{OrdersOnce, GoodIsNotStuck, StuckOnce}
-use Rattle.ipg_read_tokens.specs.declared.fault.ReadFault.{ReadFault}
 use Rattle.ipg_read_tokens.specs.declared.fault.ReadFault.TheVariants as read
 use Rattle.std.proofs.lemmas.Bool.Decides.{nat_tests}
 use Rattle.ipg_read_tokens.specs.Lexical.{lexed}
@@ -25,92 +22,21 @@ use Rattle.ipg_app_explain.specs.declared.why.Why.TheVariants as why
 use Rattle.ipg_app_explain.specs.Terms.{term_place}
 use Rattle.ipg_app_values.specs.Laws.{NotedOnce}
 use Rattle.ipg_app_values.specs.Notes.{AreNotes}
-use Rattle.ipg_app.specs.Said.{Said}
-use Rattle.ipg_app.specs.Refusal.{fault_said, name_said, circular, no_touch}
-use Rattle.ipg_app.specs.Checks.{may_loop}
-use Rattle.ipg_app.specs.CoreOf.{Answer, Circles, On, grammar_in, or_fault, resolved, unless_fault, unless_loose}
-use Rattle.ipg_app.specs.CoreOf.{name_of, Orders, OrdersAndTouches, CoreFrom, CoreOf}
-use Rattle.ipg_app.specs.Explained.{Explains, Refuses, explained_said}
-use Rattle.ipg_app.specs.Followed.{Cleared, Clears}
-use Rattle.ipg_app.specs.Reasons.{Reason, listed, read_reason, name_reason, cycle_places, CoreOrReason, IsCycle, IsLoose, IsRefused}
-use Rattle.ipg_app.specs.Reasons.{IsStuck, IsUnnamed, IsUnordered, IsUnread, Judged}
-use Rattle.ipg_app.specs.declared.early.Early.{Early}
-use Rattle.ipg_app.specs.declared.said.Settled.{Settled}
-use Rattle.ipg_app.specs.Early.{AnswersOrSays}
-use Rattle.ipg_app.specs.Lines.{said_of}
-use Rattle.ipg_app.proofs.Instead.{answers_on}
+use Rattle.ipg_app_text.specs.Said.{Said}
+use Rattle.ipg_app_text.specs.Refusal.{circular, name_said, no_touch}
+use Rattle.ipg_app_grammar.specs.Checks.{may_loop}
+use Rattle.ipg_app_text.specs.CoreOf.{Answer, Circles, On, grammar_in, resolved, unless_fault}
+use Rattle.ipg_app_text.specs.CoreOf.{name_of, Orders, CoreFrom, CoreOf}
+use Rattle.ipg_app_grammar.specs.Explained.{Explains, Refuses, explained_said}
+use Rattle.ipg_app_grammar.specs.Followed.{Cleared, Clears}
+use Rattle.ipg_app_text.specs.Reasons.{Reason, listed, read_reason, name_reason, CoreOrReason, IsLoose}
+use Rattle.ipg_app_grammar.specs.Judged.{cycle_places, IsCycle, IsRefused}
+use Rattle.ipg_app_text.specs.Reasons.{IsStuck, IsUnnamed, IsUnordered}
+use Rattle.ipg_app_grammar.specs.Judged.{Judged}
 use Rattle.ipg_app.proofs.OneCore.{not_both, from_once}
-use Rattle.ipg_app.proofs.Stages.{from_ordered, from_unordered}
-
-said_of_name : (fault : NameFault) → (name_reason fault).said ≡ name_said fault
-said_of_name (name.DuplicateRule at) = refl
-said_of_name (name.UnknownRule at) = refl
-said_of_name (name.DuplicateAttr at) = refl
-said_of_name (name.UnknownAttr at) = refl
-said_of_name (name.PartAttr at) = refl
-said_of_name (name.NoOccurrence at) = refl
-said_of_name name.Memory = refl
-
-said_of_read : (fault : ReadFault) → (read_reason fault).said ≡ fault_said fault
-said_of_read read.TooLong = refl
-said_of_read (read.Lex at) = refl
-said_of_read (read.Number at) = refl
-said_of_read (read.Syntax at) = refl
-said_of_read (read.Limit which at) = refl
-said_of_read read.Memory = refl
+use Rattle.ipg_app_text.specs.Reasoned.{of_text, unread, without_core}
 
 -- ---- what is said is what refuses the grammar
-
-abbrev Behind : Resolved → Answer → Type 0
-Behind n answer = OrdersAndTouches (completed n) answer
-
-unnamed : (g : written.Grammar) (r : Reason) → IsUnnamed g r → resolved g ≡ Err r.said
-unnamed g r h =
-    let said : r.said ≡ name_said h.fault = ap (λ (x : Reason). x.said) h.is ∙ said_of_name h.fault in
-    ap (λ f. unless_fault f (names_of g)) h.first ∙ ap Err (sym said)
-
-disordered : (g : written.Grammar) (c : Unordered) (r : Reason) → IsUnordered g c r → OrdersAndTouches c (Err r.said)
-disordered g c r (inl h) =
-    from_unordered c r.said (record { at = h.at; term = h.term; first = h.first; is = ap (λ (x : Reason). x.said) h.is })
-disordered g c r (inr (core, orders, h)) = from_ordered c core (Err r.said) orders (record {
-  marks = h.marks;
-  limit = h.limit;
-  is = ap (λ (x : Reason). Err x.said) h.is ∙ sym (ap (unless_loose core) h.found);
-})
-
-pub without_core : (g : written.Grammar) (r : Reason) → CoreOrReason g (Err r) → CoreFrom g (Err r.said)
-without_core g r (inl h) = subst (λ x. On x Behind (Err r.said)) (sym (unnamed g r h)) refl
-without_core g r (inr (n, is, h)) = subst (λ x. On x Behind (Err r.said)) (sym is) (disordered g (completed n) r h)
-
--- what comes of the completed grammar comes of the grammar as it is written
-pub core_behind : (g : written.Grammar) (n : Resolved) (c : Unordered) (core : Grammar) → resolved g ≡ Ok n → c ≡ completed n
-    → OrdersAndTouches c (Ok core) → CoreOrReason g (Ok core)
-core_behind g n c core is same h =
-    let behind = subst (λ x. OrdersAndTouches x (Ok core)) same h in
-    subst (λ x. On x Behind (Ok core)) (sym is) behind
-
-pub reason_behind : (g : written.Grammar) (n : Resolved) (c : Unordered) (r : Reason) → resolved g ≡ Ok n → c ≡ completed n → IsUnordered g c r
-    → CoreOrReason g (Err r)
-reason_behind g n c r is same h = inr (n, is, subst (λ x. IsUnordered g x r) same h)
-
-pub of_text : (text : List ℕ) (g : written.Grammar) (answer : Answer) → grammar_in text ≡ Ok g → CoreFrom g answer → CoreOf text answer
-of_text text g answer is h = subst (λ r. On r CoreFrom answer) (sym is) h
-
--- what is known of a grammar's core is known of that of the grammar's text
-pub text_reads : (text : List ℕ) (g : written.Grammar) (r : Result Grammar (Early Settled)) → grammar_in text ≡ Ok g
-    → AnswersOrSays r (λ core. CoreFrom g (Ok core)) (λ s. CoreFrom g (Err (said_of s)))
-    → AnswersOrSays r (λ core. CoreOf text (Ok core)) (λ s. CoreOf text (Err (said_of s)))
-text_reads text g r is h =
-    answers_on r (λ core. CoreFrom g (Ok core)) (λ core. CoreOf text (Ok core)) (λ s. CoreFrom g (Err (said_of s))) (λ s. CoreOf text (Err (said_of s)))
-    (λ core h. of_text text g (Ok core) is h) (λ s h. of_text text g (Err (said_of s)) is h) h
-
-pub unreadable : (text : List ℕ) (said : Said) → grammar_in text ≡ Err said → CoreOf text (Err said)
-unreadable text said is = subst (λ r. On r CoreFrom (Err said)) (sym is) refl
-
-pub unread : (text : List ℕ) (r : Reason) → IsUnread text r → grammar_in text ≡ Err r.said
-unread text r h =
-    let said : r.said ≡ fault_said h.fault = ap (λ (x : Reason). x.said) h.is ∙ said_of_read h.fault in
-    ap or_fault h.reads ∙ ap Err (sym said)
 
 -- a text that isn't read to its end
 pub too_long : (text : List ℕ) → 2 ^ 20 < length text → read_of text ≡ Err read.TooLong
@@ -133,6 +59,10 @@ same_grammar r g other p q = let both : Ok g ≡ Ok other = sym p ∙ q in cc
 
 apart : {A : Type 0} (r : Result A Said) (a : A) (said : Said) → r ≡ Ok a → r ≡ Err said → ⊥
 apart r a said p q = let both : Ok a ≡ Err said = sym p ∙ q in absurd (cc)
+
+-- a name of it is at fault, so its names aren't resolved
+not_resolved : (g : written.Grammar) (r : Reason) (n : Resolved) → IsUnnamed g r → resolved g ≡ Ok n → ⊥
+not_resolved g r n h is = apart (resolved g) n (name_said h.fault) is (ap (λ f. unless_fault f (names_of g)) h.first)
 
 abbrev stuck_reason : written.Grammar → List ℕ → ℕ × ℕ → ℕ → Reason
 stuck_reason g rule at term = record { said = circular rule at.1 term; why = why.Circular; places = listed (term_place g at.0 at.1 term); notes = [] }
@@ -194,8 +124,8 @@ module _ (one_limit : OneLimit) (orders_once : OrdersOnce) (good_is_not_stuck : 
 
   without_same : (g : written.Grammar) (r s : Reason) → CoreOrReason g (Err r) → CoreOrReason g (Err s) → r ≡ s
   without_same g r s (inl h) (inl k) = unnamed_same g r s h k
-  without_same g r s (inl h) (inr (n, is, k)) = absurd (apart (resolved g) n r.said is (unnamed g r h))
-  without_same g r s (inr (n, is, h)) (inl k) = absurd (apart (resolved g) n s.said is (unnamed g s k))
+  without_same g r s (inl h) (inr (n, is, k)) = absurd (not_resolved g r n h is)
+  without_same g r s (inr (n, is, h)) (inl k) = absurd (not_resolved g s n k is)
   without_same g r s (inr (n, is, h)) (inr (m, too, k)) =
       let both : Ok n ≡ Ok m = sym is ∙ too in
       let same : n ≡ m = cc in

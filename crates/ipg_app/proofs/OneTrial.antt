@@ -7,9 +7,9 @@ use Rattle.ipg_core.specs.Tree.{Tree}
 use Rattle.ipg_mach_count_laws.specs.Laws.{AllWhereNoneKept, FreshAtAnyHeight, OneReach}
 use Rattle.ipg_formats.specs.declared.Kind.{Kind}
 use Rattle.ipg_formats.specs.Sample.{sample_of}
-use Rattle.ipg_app.specs.declared.measuring.Size.{Size}
-use Rattle.ipg_app.specs.Measured.{IsSize}
-use Rattle.ipg_app.specs.Said.{Said, done_line}
+use Rattle.ipg_app_tree.specs.declared.measuring.Size.{Size}
+use Rattle.ipg_app_tree.specs.Measured.{IsSize}
+use Rattle.ipg_app_text.specs.Said.{Said, done_line}
 use Rattle.ipg_app.specs.Trial.{IsTried, size_words}
 use Rattle.ipg_app.specs.Laws.{OneTrial}
 use Rattle.ipg_app.proofs.OneParse.{one_answer}

@@ -2,14 +2,15 @@
 use Rattle.std.proofs.Common.{◌≡◌, ◌≢◌, ℕ, ◌⊎◌, inl, inr, List, Ok, Err, Option, Some, None, refl, sym, ◌∙◌, subst}
 use Rattle.ipg_outside.specs.Files.{Told, untold, absent, holds, MayHold}
 use Rattle.ipg_core.specs.Grammar.{Grammar}
-use Rattle.ipg_app.specs.Said.{Said, read_fault}
-use Rattle.ipg_app.specs.CoreOf.{Answer, CoreOf}
-use Rattle.ipg_app.specs.Checks.{Checks}
-use Rattle.ipg_app.specs.Order.{Order, Answers, only, have, finds}
+use Rattle.ipg_app_text.specs.Said.{Said, read_fault}
+use Rattle.ipg_app_text.specs.CoreOf.{Answer, CoreOf}
+use Rattle.ipg_app_grammar.specs.Checks.{Checks}
+use Rattle.ipg_app_text.specs.Order.{Order, Answers, only, have, finds}
 use Rattle.ipg_formats.specs.declared.Kind.{Kind}
 use Rattle.ipg_formats.specs.Names.{kind_of}
 use Rattle.ipg_formats.specs.Text.{text_of}
-use Rattle.ipg_app.specs.Reply.{text_by, core_of, check}
+use Rattle.ipg_app_text.specs.Steps.{text_by, core_of}
+use Rattle.ipg_app_grammar.specs.Commands.{check}
 use Rattle.ipg_app.specs.Laws.{OneCore, OneCheck, OneVerdict}
 
 -- one value is found, and one thing is said behind it

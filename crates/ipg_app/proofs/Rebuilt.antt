@@ -1,8 +1,8 @@
 -- A grammar that leaves no byte out gives its inputs back.
 use Rattle.std.proofs.Common.{inl, Ok, refl}
 use Rattle.ipg_cover_laws.specs.Covered.{CoveredComesBack}
-use Rattle.ipg_app.specs.declared.task.Show.TheVariants.{Bytes}
-use Rattle.ipg_app.specs.Said.{done}
+use Rattle.ipg_app_tree.specs.declared.show.Show.TheVariants.{Bytes}
+use Rattle.ipg_app_text.specs.Said.{done}
 use Rattle.ipg_app.specs.Laws.{OneParse, CoveredIsRebuilt}
 
 pub covered_is_rebuilt : OneParse → CoveredComesBack → CoveredIsRebuilt

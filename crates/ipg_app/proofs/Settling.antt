@@ -4,29 +4,32 @@ use Rattle.std.proofs.Common.{subst, ap, ◌∙◌, arith}
 use Rattle.std.proofs.lemmas.Bool.Decides.{nat_tests}
 use Rattle.ipg_outside.specs.Files.{Told, MayHold}
 use Rattle.ipg_ast.specs.declared.grammar.Grammar as written
-use Rattle.ipg_app.specs.Said.{Said, too_large}
+use Rattle.ipg_app_text.specs.Said.{Said, too_large}
 use Rattle.ipg_core.specs.Grammar.{Grammar}
-use Rattle.ipg_app.specs.CoreOf.{grammar_in, CoreOf}
-use Rattle.ipg_app.specs.Checks.{Checks}
-use Rattle.ipg_app.specs.Order.{Order, says, finds, reads, Answers, Turn, have}
+use Rattle.ipg_app_text.specs.CoreOf.{grammar_in, CoreOf}
+use Rattle.ipg_app_grammar.specs.Checks.{Checks}
+use Rattle.ipg_app_text.specs.Order.{Order, says, finds, reads, Answers, Turn, have}
 use Rattle.ipg_formats.specs.declared.Kind.{Kind}
 use Rattle.ipg_formats.specs.Names.{kind_of}
 use Rattle.ipg_formats.specs.Text.{text_of}
-use Rattle.ipg_app.specs.Reply.{input_in, text_by, text_under, grammar_of, core_of, accepted, path_in, script_in, held_in, max_input}
-use Rattle.ipg_app.specs.Reply.{cleared, explain_by, explain_text, follow}
-use Rattle.ipg_app.specs.Explained.{Refuses, explained_said}
-use Rattle.ipg_app.specs.Followed.{Cleared, Clears}
-use Rattle.ipg_app.specs.Reasons.{Reason}
-use Rattle.ipg_app.specs.Tables.{Loads}
+use Rattle.ipg_app.specs.Reply.{path_in, script_in}
+use Rattle.ipg_app_text.specs.Steps.{input_in, text_by, text_under, grammar_of, core_of, max_input}
+use Rattle.ipg_app_grammar.specs.Commands.{accepted, held_in}
+use Rattle.ipg_app.specs.Reply.{explain_by, explain_text, follow}
+use Rattle.ipg_app_grammar.specs.Commands.{cleared}
+use Rattle.ipg_app_grammar.specs.Explained.{Refuses, explained_said}
+use Rattle.ipg_app_grammar.specs.Followed.{Cleared, Clears}
+use Rattle.ipg_app_text.specs.Reasons.{Reason}
+use Rattle.ipg_app_grammar.specs.Tables.{Loads}
 use Rattle.ipg_query_path.specs.declared.path.Query.{Query}
-use Rattle.ipg_app.specs.Path.{ReadsPath}
+use Rattle.ipg_app_tree.specs.Path.{ReadsPath}
 use Rattle.ipg_edit_script.specs.declared.script.Edit.{Edit}
-use Rattle.ipg_app.specs.Editing.{ReadsScript}
-use Rattle.ipg_app.specs.Run.{Settles}
-use Rattle.ipg_app.specs.declared.text.GrammarText.{GrammarText}
-use Rattle.ipg_app.specs.declared.text.GrammarText.TheVariants as code
-use Rattle.ipg_app.specs.Found.{FoundBy, FoundText, IsText, bytes_of, input_in_file, silence}
-use Rattle.ipg_app.proofs.Written.{later}
+use Rattle.ipg_app_tree.specs.Editing.{ReadsScript}
+use Rattle.ipg_app_text.specs.Settles.{Settles}
+use Rattle.ipg_app_text.specs.declared.text.GrammarText.{GrammarText}
+use Rattle.ipg_app_text.specs.declared.text.GrammarText.TheVariants as code
+use Rattle.ipg_app_text.specs.Found.{FoundBy, FoundText, IsText, bytes_of, input_in_file, silence}
+use Rattle.ipg_app_tree.proofs.Written.{later}
 
 -- a text of so many bytes, or of too many
 pub these_bytes : (text : GrammarText) (bytes these : List ℕ) → bytes_of text ≡ Some these → IsText text bytes → bytes ≡ these

@@ -19,10 +19,12 @@ use Rattle.ipg_proof.specs.Calls.{calls_of, checked, dead_edges, cycles_of, live
 use Rattle.ipg_proof.specs.Places.{Rise, IsFirstOff, IsFirstOther, IsMismatch, AreInPlace}
 use Rattle.ipg_proof.specs.Proves.{Proves, AreChecked, IsUnsound, IsFault, first_false}
 use Rattle.ipg_proof.specs.Texts.{IsTextOf}
-use Rattle.ipg_app.specs.Said.{Said, done}
-use Rattle.ipg_app.specs.Order.{Answers, have, says}
-use Rattle.ipg_app.specs.Certificate.{Certifies, Reads, Judges, proof_said, verified}
-use Rattle.ipg_app.specs.Reply.{judge, verify, max_input}
+use Rattle.ipg_app_text.specs.Said.{Said, done}
+use Rattle.ipg_app_text.specs.Order.{Answers, have, says}
+use Rattle.ipg_app_grammar.specs.Certificate.{Certifies, Reads, Judges, proof_said, verified}
+use Rattle.ipg_app.specs.Reply.{verify}
+use Rattle.ipg_app_grammar.specs.Commands.{judge}
+use Rattle.ipg_app_text.specs.Steps.{max_input}
 use Rattle.ipg_app.specs.Laws.{CertIsVerified}
 
 -- ---- what proves a grammar has no fault

@@ -8,23 +8,26 @@ use Rattle.ipg_core.specs.Good.{Good}
 use Rattle.ipg_core.specs.Grown.{IsInput}
 use Rattle.ipg_core.specs.Meaning.{Means}
 use Rattle.ipg_core.specs.Tree.{Tree}
-use Rattle.ipg_app.specs.Covering.{IsCovered}
-use Rattle.ipg_app.specs.declared.task.Show.TheVariants.{Bytes, Lines}
-use Rattle.ipg_app.specs.Said.{Said, done}
-use Rattle.ipg_app.specs.Order.{Answers}
-use Rattle.ipg_app.specs.declared.task.Show.{Show}
-use Rattle.ipg_app.specs.Reply.{use_order, order_of, core_of, check, Check, verify, max_input, Parses}
-use Rattle.ipg_app.specs.Explained.{Explains}
-use Rattle.ipg_app.specs.Followed.{Cleared, Clears, Follows}
-use Rattle.ipg_app.specs.Reasons.{Reason}
+use Rattle.ipg_app_grammar.specs.Covering.{IsCovered}
+use Rattle.ipg_app_tree.specs.declared.show.Show.TheVariants.{Bytes, Lines}
+use Rattle.ipg_app_text.specs.Said.{Said, done}
+use Rattle.ipg_app_text.specs.Order.{Answers}
+use Rattle.ipg_app_tree.specs.declared.show.Show.{Show}
+use Rattle.ipg_app.specs.Reply.{use_order, order_of, Check, verify}
+use Rattle.ipg_app_text.specs.Steps.{core_of, max_input}
+use Rattle.ipg_app_grammar.specs.Commands.{check}
+use Rattle.ipg_app_tree.specs.Parses.{Parses}
+use Rattle.ipg_app_grammar.specs.Explained.{Explains}
+use Rattle.ipg_app_grammar.specs.Followed.{Cleared, Clears, Follows}
+use Rattle.ipg_app_text.specs.Reasons.{Reason}
 use Rattle.ipg_app_explain.specs.Furthest.{Subject}
-use Rattle.ipg_app.specs.Found.{Says}
+use Rattle.ipg_app_text.specs.Found.{Says}
 use Rattle.ipg_app.specs.Trial.{Tries}
 use Rattle.ipg_formats.specs.declared.Kind.{Kind}
-use Rattle.ipg_app.specs.Certificate.{Certifies, verified}
-use Rattle.ipg_app.specs.CoreOf.{Answer, CoreOf}
-use Rattle.ipg_app.specs.Checks.{Checks}
-use Rattle.ipg_app.specs.Editing.{Edits}
+use Rattle.ipg_app_grammar.specs.Certificate.{Certifies, verified}
+use Rattle.ipg_app_text.specs.CoreOf.{Answer, CoreOf}
+use Rattle.ipg_app_grammar.specs.Checks.{Checks}
+use Rattle.ipg_app_tree.specs.Editing.{Edits}
 use Rattle.ipg_edit_script.specs.declared.script.Edit.{Edit}
 
 -- a text has one core grammar, or is refused in one way

@@ -1,92 +1,28 @@
 -- The reply: for the program's words, the order in which it answers.
-use Rattle.std.specs.Prelude.{◌≡◌, ℕ, ◌^◌, List, length, nat_le, codes, Result, Ok, Err, Option, None, Some, if◌then◌else◌}
-use Rattle.ipg_ast.specs.declared.grammar.Grammar as written
-use Rattle.ipg_read_tokens.specs.Shaped.{canonical_text}
+use Rattle.std.specs.Prelude.{ℕ, List, Option, None, Some}
 use Rattle.ipg_core.specs.Grammar.{Grammar}
-use Rattle.ipg_core.specs.Tree.{Tree}
-use Rattle.ipg_core.specs.Run.{Stop, NoTree, OutOfRange, Deep}
-use Rattle.ipg_core.specs.Meaning.{Means}
 use Rattle.ipg_formats.specs.declared.Kind.{Kind}
 use Rattle.ipg_query_path.specs.declared.path.Query as paths
 use Rattle.ipg_edit_script.specs.declared.script.Edit as scripts
-use Rattle.ipg_formats.specs.Names.{kind_of}
 use Rattle.ipg_formats.specs.Text.{text_of}
 use Rattle.ipg_app_words.specs.Request as words
 use Rattle.ipg_app_words.specs.Request.{Request, Use, Fmt, Trial, Query, View, Load, Explain, Help, Version, request_of}
-use Rattle.ipg_app.specs.declared.task.Show.{Show}
-use Rattle.ipg_app.specs.declared.task.Show.TheVariants.{Lines, Picked, Bytes, Json, PickedView}
-use Rattle.ipg_app.specs.declared.task.Show.TheVariants as show
-use Rattle.ipg_app.specs.Said.{Said, done, done_line, usage, no_parse, range, too_large}
-use Rattle.ipg_app.specs.CoreOf.{grammar_in, CoreOf}
-use Rattle.ipg_app.specs.Checks.{Checks}
-use Rattle.ipg_app.specs.Certificate.{Certifies, Reads, Judges}
-use Rattle.ipg_app.specs.Tables.{Tables, Loads}
-use Rattle.ipg_app.specs.Covering.{CoverSays}
-use Rattle.ipg_app.specs.Editing.{ReadsScript, Edits}
-use Rattle.ipg_app.specs.Path.{ReadsPath}
-use Rattle.ipg_app.specs.Explained.{Explains}
-use Rattle.ipg_app.specs.Followed.{Cleared, Clears, Follows, or_told, subject}
-use Rattle.ipg_app.specs.Helped.{help_said, version_said}
-use Rattle.ipg_app.specs.Shown.{TreeSays}
+use Rattle.ipg_app_tree.specs.declared.show.Show.{Show}
+use Rattle.ipg_app_tree.specs.declared.show.Show.TheVariants.{Lines, Picked, Bytes, Json, PickedView}
+use Rattle.ipg_app_tree.specs.declared.show.Show.TheVariants as show
+use Rattle.ipg_app_text.specs.Said.{usage}
+use Rattle.ipg_app_tree.specs.Editing.{ReadsScript, Edits}
+use Rattle.ipg_app_tree.specs.Path.{ReadsPath}
+use Rattle.ipg_app_grammar.specs.Explained.{Explains}
+use Rattle.ipg_app_grammar.specs.Followed.{Cleared, Follows, subject}
+use Rattle.ipg_app_grammar.specs.Helped.{help_said, version_said}
 use Rattle.ipg_app.specs.Trial.{Tries, kind_by, parts_in}
-use Rattle.ipg_app.specs.Order.{Order, Step, says, only, found, have, contents, ◌>>=◌}
+use Rattle.ipg_app_text.specs.Order.{Order, Step, says, only, found, have, contents, ◌>>=◌}
+use Rattle.ipg_app_text.specs.Steps.{core_of, core_under, grammar_under, input_in, text_under}
+use Rattle.ipg_app_tree.specs.Parses.{Parses}
+use Rattle.ipg_app_grammar.specs.Commands.{accepted, cert, check, cleared, cover, formatted, held_in, judge, table}
 
 -- ---- steps
-
--- the text of a built-in grammar, by its name, or of a file
-abbrev pub text_by : Option Kind → List ℕ → Step (List ℕ)
-text_by (Some kind) name next = next (text_of kind)
-text_by None name next = contents name next
-
-abbrev pub text_under : List ℕ → Step (List ℕ)
-text_under name = text_by (kind_of name) name
-
--- G1 to G5
-abbrev pub grammar_of : List ℕ → Step written.Grammar
-grammar_of text = have (grammar_in text)
-
-abbrev pub grammar_under : List ℕ → Step written.Grammar
-grammar_under name next = do
-  text ← text_under name
-  grammar_of text next
-
--- G1 to G12, then G14
-abbrev pub core_of : List ℕ → Step Grammar
-core_of text next = do
-  answer ← found (CoreOf text)
-  g ← have answer
-  next g
-
-abbrev pub core_under : List ℕ → Step Grammar
-core_under name next = do
-  text ← text_under name
-  core_of text next
-
--- G13
-abbrev pub accepted : Grammar → Step Grammar
-accepted g next = do
-  answer ← found (Checks g)
-  same ← have answer
-  next same
-
-abbrev pub max_input : ℕ
-max_input = 2 ^ 30
-
-abbrev pub input_in : List ℕ → Result (List ℕ) Said
-input_in bytes = if nat_le (length bytes) max_input then Ok bytes else Err too_large
-
--- what is said of a parse, by what is to be shown of a tree; nothing of one that has no answer
-abbrev pub ParseSays : Show → Grammar → List ℕ → Result Tree Stop → Said → Type 0
-ParseSays show g input (Ok tree) said = TreeSays show g input tree said
-ParseSays show g input (Err NoTree) said = said ≡ no_parse
-ParseSays show g input (Err OutOfRange) said = said ≡ range
-ParseSays show g input (Err Deep) said = ⊥
-
--- what is said of the parse of an input by a grammar
-pub record Parses (show : Show) (g : Grammar) (input : List ℕ) (said : Said) : Type 0 where
-  pub answer : Result Tree Stop
-  pub means : Means g input answer
-  pub is : ParseSays show g input answer said
 
 -- Q1
 abbrev pub path_in : List ℕ → Step paths.Query
@@ -115,26 +51,6 @@ parse show name g = do
   same ← accepted g
   parse_input show name same
 
-abbrev pub check : Grammar → Order
-check g = do
-  same ← accepted g
-  only (done_line (codes "accepted"))
-
-abbrev pub cert : Grammar → Order
-cert g = do
-  same ← accepted g
-  says (Certifies same)
-
-abbrev pub table : Grammar → Order
-table g = do
-  same ← accepted g
-  says (Tables same)
-
-abbrev pub cover : Grammar → Order
-cover g = do
-  same ← accepted g
-  says (CoverSays same)
-
 abbrev pub edits_of : List ℕ → Grammar → List ℕ → Order
 edits_of text g input = do
   edits ← script_in text
@@ -158,13 +74,6 @@ edit name script g = do
   same ← accepted g
   edit_file name script same
 
--- C1, then C2 and C3
-abbrev pub judge : List ℕ → Grammar → Order
-judge text g = do
-  read ← found (Reads text)
-  c ← have read
-  says (Judges g c)
-
 abbrev pub verify : List ℕ → Grammar → Order
 verify name g = do
   bytes ← contents name
@@ -172,13 +81,6 @@ verify name g = do
   judge text g
 
 -- ---- the command that reads a table file
-
--- L1 to L6
-abbrev pub held_in : List ℕ → Step Grammar
-held_in file next = do
-  answer ← found (Loads file)
-  g ← have answer
-  next g
 
 abbrev pub load_in : List ℕ → List ℕ → Order
 load_in input file = do
@@ -212,22 +114,12 @@ trial name n = do
 
 -- ---- the command that reads a text alone
 
-abbrev pub formatted : written.Grammar → Order
-formatted g = only (done (canonical_text g))
-
 abbrev pub fmt : List ℕ → Order
 fmt grammar = do
   g ← grammar_under grammar
   formatted g
 
 -- ---- the command that tells where an input stopped being what a grammar wants
-
--- the same of a text, where it is refused
-abbrev pub cleared : (name text : List ℕ) → Step Cleared
-cleared name text next = do
-  answer ← found (Clears text)
-  made ← have (or_told name text answer)
-  next made
 
 abbrev pub follow : (name text input : List ℕ) → Cleared → Order
 follow name text input made = do

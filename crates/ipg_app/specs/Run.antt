@@ -1,13 +1,15 @@
 -- What a run did: one of four cases.
-use Rattle.std.specs.Prelude.{◌≡◌, ℕ, ◌⊎◌, List, [], ◌++◌, Option}
+use Rattle.std.specs.Prelude.{◌≡◌, ℕ, ◌⊎◌, List, Option}
 use Rattle.ipg_outside.specs.Faults.{Rose}
 use Rattle.ipg_outside.specs.Files.{Told}
-use Rattle.ipg_outside.specs.Sink.{Output, given, Breaks, Tells}
-use Rattle.ipg_app.specs.Said.{Said, read_fault}
-use Rattle.ipg_app.specs.Order.{Order, Answers, Turn}
+use Rattle.ipg_outside.specs.Sink.{Output, Breaks, Tells}
+use Rattle.ipg_app_text.specs.Said.{Said}
+use Rattle.ipg_app_text.specs.Order.{Answers}
 use Rattle.ipg_app.specs.Reply.{order_of}
-use Rattle.ipg_app.specs.declared.status.Status.{Status}
-use Rattle.ipg_app.specs.declared.status.Status.TheVariants as status
+use Rattle.ipg_app_text.specs.declared.status.Status.{Status}
+use Rattle.ipg_app_text.specs.declared.status.Status.TheVariants as status
+use Rattle.ipg_app_text.specs.Settles.{Settles}
+use Rattle.ipg_app_tree.specs.Out.{Writes}
 
 -- the outside at a moment
 pub record Outside : Type 0 where
@@ -15,22 +17,6 @@ pub record Outside : Type 0 where
   pub read_faults : List ℕ → ℕ
   pub output : Option Output
   pub write_faults : ℕ
-
--- exactly this text went out
-pub record Writes (text : List ℕ) (before after : Output) : Type 0 where
-  pub all : after.written ≡ given before ++ text
-  pub none_held : after.held ≡ []
-
--- a reading failed, of a name whose turn had come, and the fault was counted
-pub record FailsToRead (told : List ℕ → Told) (before after : List ℕ → ℕ) (order : Order) (said : Said) : Type 0 where
-  pub name : List ℕ
-  pub turn : Turn told order name
-  pub rose : Rose (before name) (after name)
-  pub is : said ≡ read_fault
-
--- what is to be said, by what is told and by the faults of this call
-abbrev pub Settles : (List ℕ → Told) → (List ℕ → ℕ) → (List ℕ → ℕ) → Order → Said → Type 0
-Settles told before after order said = Answers told order said ⊎ FailsToRead told before after order said
 
 -- the whole text went out
 pub record Ended (before after : Outside) (words : List (List ℕ)) (s : Status) : Type 0 where

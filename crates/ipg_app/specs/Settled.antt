@@ -1,20 +1,18 @@
 -- What functions promise each other of a reply: that it is settled, and that it goes out.
-use Rattle.std.specs.Prelude.{◌≡◌, ℕ, ◌≤◌, ◌⊎◌, ⊤, List, length, Option, Result}
-use Rattle.ipg_outside.specs.Faults.{Rose}
+use Rattle.std.specs.Prelude.{◌≡◌, ℕ, ◌≤◌, ⊤, List, length, Result}
 use Rattle.ipg_outside.specs.Files.{Told}
-use Rattle.ipg_outside.specs.Sink.{Output, Breaks, Tells}
-use Rattle.ipg_app.specs.declared.answering.AnswerFault.{AnswerFault}
-use Rattle.ipg_app.specs.declared.answering.AnswerFault.TheVariants as fault
-use Rattle.ipg_app.specs.Said.{Said}
-use Rattle.ipg_app.specs.Order.{Order}
-use Rattle.ipg_app.specs.Reply.{Parses, max_input, Task, Parse, Check, Cert, Verify, Table, Cover, Edit}
+use Rattle.ipg_app_text.specs.Said.{Said}
+use Rattle.ipg_app_text.specs.Order.{Order}
+use Rattle.ipg_app.specs.Reply.{Task, Parse, Check, Cert, Verify, Table, Cover, Edit}
+use Rattle.ipg_app_tree.specs.Parses.{Parses}
+use Rattle.ipg_app_text.specs.Steps.{max_input}
 use Rattle.ipg_edit_script.specs.Scripts.{AreEdits}
-use Rattle.ipg_app.specs.Editing.{Edits}
-use Rattle.ipg_app.specs.Run.{Settles, Writes}
-use Rattle.ipg_app.specs.Early.{AnswersOrSays}
-use Rattle.ipg_app.specs.Lines.{said_of}
-use Rattle.ipg_app.specs.declared.early.Early.{Early}
-use Rattle.ipg_app.specs.declared.said.Settled.{Settled}
+use Rattle.ipg_app_tree.specs.Editing.{Edits}
+use Rattle.ipg_app_text.specs.Settles.{Settles}
+use Rattle.ipg_app_text.specs.Early.{AnswersOrSays}
+use Rattle.ipg_app_text.specs.Lines.{said_of}
+use Rattle.ipg_app_text.specs.declared.early.Early.{Early}
+use Rattle.ipg_app_text.specs.declared.said.Settled.{Settled}
 use Rattle.ipg_app.specs.declared.reply.Reply.{Reply}
 use Rattle.ipg_app.specs.declared.reply.Reply.TheVariants as reply
 use Rattle.ipg_app.specs.declared.task.Task as code
@@ -23,8 +21,6 @@ use Rattle.ipg_mach.specs.declared.machine.Remember.{Remember}
 use Rattle.ipg_mach.specs.declared.machine.Remember.TheVariants as remember
 use Rattle.ipg_app_words.specs.declared.asking.Memo.{Memo}
 use Rattle.ipg_app_words.specs.declared.asking.Memo.TheVariants as memo
-use Rattle.ipg_app.specs.declared.status.Status.{Status}
-use Rattle.ipg_app.specs.declared.status.Status.TheVariants as status
 
 -- what is remembered of calls with the memo and without
 abbrev pub remember_of : Memo → Remember
@@ -68,19 +64,3 @@ IsSettled told before after order (reply.Edits due) =
 abbrev pub IsReplied : (List ℕ → Told) → (List ℕ → ℕ) → (List ℕ → ℕ) → Order → Result Reply (Early Settled) → Type 0
 IsReplied told before after order result =
     AnswersOrSays result (IsSettled told before after order) (λ settled. Settles told before after order (said_of settled))
-
--- ---- what goes out
-
--- all of what is said, or a prefix before a fault that was counted
-abbrev pub GoesOut : Said → Option Output → ℕ → Option Output → ℕ → Status → Type 0
-GoesOut said before counted after counts s =
-    ((s ≡ said.status) × Tells before after (Writes said.text)) ⊎ ((s ≡ status.WriteFault) × Rose counted counts × Tells before after (Breaks said.text))
-
--- one of these; or nothing, for want of memory
-abbrev pub Replies : (Said → Type 0) → Option Output → ℕ → Option Output → ℕ → Status → Type 0
-Replies P before counted after counts s =
-    ((said : Said) × P said × GoesOut said before counted after counts s) ⊎ ((s ≡ status.Memory) × (after ≡ before))
-
-abbrev pub fault_status : AnswerFault → Status
-fault_status fault.Memory = status.Memory
-fault_status fault.Write = status.WriteFault

@@ -7,9 +7,9 @@ use Rattle.ipg_core.specs.Meaning.{Means}
 use Rattle.ipg_formats.specs.declared.Kind.{Kind}
 use Rattle.ipg_formats.specs.declared.Kind.TheVariants.{Elf, Pe, Gif, Pcap}
 use Rattle.ipg_formats.specs.Sample.{sample_of}
-use Rattle.ipg_app.specs.declared.measuring.Size.{Size}
-use Rattle.ipg_app.specs.Measured.{IsSize}
-use Rattle.ipg_app.specs.Said.{Said, done_line, usage, no_parse, range}
+use Rattle.ipg_app_tree.specs.declared.measuring.Size.{Size}
+use Rattle.ipg_app_tree.specs.Measured.{IsSize}
+use Rattle.ipg_app_text.specs.Said.{Said, done_line, usage, no_parse, range}
 
 -- a value, or usage
 abbrev pub or_usage : {A : Type 0} → Option A → Result A Said

@@ -1,25 +1,15 @@
 //! What is to be written: a text, what is shown of the tree of an input, or its answers through edits.
-ghost use Rattle.ipg_app.specs.Settled.{MaySay, IsDue, Replies};
+ghost use Rattle.ipg_app.specs.Settled.{MaySay, IsDue};
+ghost use Rattle.ipg_app_tree.specs.Out.{Replies};
 
-use crate::answering::Room;
-use crate::editing::{DueEdits, edit};
-use crate::parse::parse;
-use crate::said::Settled;
-use crate::status::Status;
-use crate::task::Show;
-use crate::writing::say;
-use ipg_core::accepted::Checked;
+use ipg_app_text::said::Settled;
+use ipg_app_text::status::Status;
+use ipg_app_tree::due::Due;
+use ipg_app_tree::editing::{DueEdits, edit};
+use ipg_app_tree::parse::parse;
+use ipg_app_tree::writing::say;
 use ipg_outside::Sink;
 use std::alloc::Global;
-
-/// An input that was read, what it is parsed by, and what is shown of its tree.
-#[derive(Drop)]
-pub struct Due {
-    pub grammar: Checked,
-    pub input: Vec<u8>,
-    pub room: Room,
-    pub show: Show,
-}
 
 /// What is to be written.
 #[derive(Drop)]

@@ -5,7 +5,7 @@ ghost use Rattle.ipg_app.specs.Run.{Runs, RepliesWithoutFault};
 
 use crate::reply::put_reply;
 use crate::settle::settle;
-use crate::status::Status;
+use ipg_app_text::status::Status;
 use ipg_outside::{Files, Sink};
 use std::alloc::Global;
 

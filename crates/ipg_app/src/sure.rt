@@ -6,7 +6,7 @@ ghost use Rattle.ipg_outside.specs.Shelf.{bytes_in};
 ghost use Rattle.ipg_app.specs.Run.{Surely};
 
 use crate::run::run;
-use crate::status::Status;
+use ipg_app_text::status::Status;
 use ipg_outside::{SureFiles, SureSink};
 use std::alloc::Global;
 

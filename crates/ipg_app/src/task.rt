@@ -1,24 +1,7 @@
 //! What is done with a core grammar.
 
-use crate::answering::Room;
-use ipg_query_path::Query;
-
-/// What is shown of a tree.
-#[derive(Debug, Drop)]
-pub enum Show {
-    /// Its lines.
-    Lines,
-    /// What a path picks of it.
-    Picked(Query),
-    /// The bytes that its leaves put back.
-    Bytes,
-    /// Its JSON text.
-    Json,
-    /// Its lines beside the bytes.
-    View,
-    /// What a path picks of it, beside the bytes.
-    PickedView(Query),
-}
+use ipg_app_tree::answering::Room;
+use ipg_app_tree::show::Show;
 
 /// What is done with a core grammar.
 #[derive(Drop)]

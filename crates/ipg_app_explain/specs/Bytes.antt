@@ -1,17 +1,7 @@
 -- Bytes and numbers, for a person.
-use Rattle.std.specs.Prelude.{ℕ, ◌+◌, ◌-◌, ◌/◌, ◌%◌, List, [], ◌∷◌, ◌++◌, codes, decimal, take, map, flat_map, length, nat_eq, nat_lt, if◌then◌else◌}
+use Rattle.std.specs.Prelude.{ℕ, ◌-◌, List, [], ◌∷◌, ◌++◌, codes, decimal, take, map, length, nat_eq, if◌then◌else◌}
+use Rattle.hex.specs.Hex.{encode_lower}
 use Rattle.ipg_app_explain.specs.Spot.{seen_byte}
-
--- 0 to 9, then a to f
-abbrev pub digit : ℕ → ℕ
-digit d = if nat_lt d 10 then d + 48 else d + 87
-
-abbrev pub digits : ℕ → List ℕ
-digits b = digit (b / 16) ∷ digit (b % 16) ∷ []
-
--- two digits for each byte
-abbrev pub hex : List ℕ → List ℕ
-hex bytes = flat_map digits bytes
 
 -- so many bytes are shown at most
 abbrev pub most_shown : ℕ
@@ -24,7 +14,7 @@ more_mark n = if nat_eq n 0 then [] else 43 ∷ decimal n
 -- as text and in hexadecimal
 abbrev pub bytes_words : List ℕ → List ℕ
 bytes_words bytes =
-    34 ∷ (map seen_byte (take most_shown bytes) ++ (codes "\" (" ++ (hex (take most_shown bytes) ++ (more_mark (length bytes - most_shown) ++ codes ")"))))
+    34 ∷ (map seen_byte (take most_shown bytes) ++ (codes "\" (" ++ (encode_lower (take most_shown bytes) ++ (more_mark (length bytes - most_shown) ++ codes ")"))))
 
 abbrev pub bytes_unit : ℕ → List ℕ
 bytes_unit n = if nat_eq n 1 then codes " byte" else codes " bytes"

@@ -1,5 +1,8 @@
 -- What a term of a grammar asks for, and what its rule is called.
-use Rattle.std.specs.Prelude.{ℕ, List, [], ◌∷◌, ◌++◌, codes, map, take, length, slice_get, bytes_eq, Bool, true, false, ◌||◌, Option, None, Some, if◌then◌else◌}
+use Rattle.std.specs.Prelude.{ℕ, List, [], ◌∷◌, ◌++◌, map, take, length, slice_get, Bool, true, false, Option, None, Some}
+use Rattle.ipg_core.specs.declared.grammar.Primitive.{Primitive}
+use Rattle.ipg_core.specs.Lines.{primitive_of}
+use Rattle.ipg_core.specs.Touch.{width}
 use Rattle.ipg_ast.specs.declared.grammar.Grammar.{Grammar}
 use Rattle.ipg_ast.specs.declared.grammar.Rule.{Rule, out-Rule}
 use Rattle.ipg_ast.specs.declared.grammar.Term.{Term}
@@ -81,12 +84,13 @@ loop_in (Some (Pick at cases other)) = []
 abbrev pub loop_name : Grammar → (r a t : ℕ) → List ℕ
 loop_name g r a t = loop_in (term_at g r a t)
 
--- how many bytes a number takes, by its name
+-- how many bytes a number takes, by the word of its primitive
+abbrev pub width_if : Option Primitive → ℕ
+width_if None = 0
+width_if (Some prim) = width prim
+
 abbrev pub width_of : List ℕ → ℕ
-width_of name =
-    if bytes_eq name (codes "U8") then 1 else
-    (if bytes_eq name (codes "U16LE") || bytes_eq name (codes "U16BE") then 2 else
-    (if bytes_eq name (codes "U32LE") || bytes_eq name (codes "U32BE") then 4 else 8))
+width_of name = width_if (primitive_of name)
 
 abbrev pub what_size : What → ℕ
 what_size (Text bytes) = length bytes

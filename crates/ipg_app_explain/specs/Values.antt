@@ -3,9 +3,8 @@ use Rattle.std.specs.Prelude.{ℕ, ℤ, List, [], ◌∷◌, ◌++◌, codes, ma
 use Rattle.std.specs.Fmt.{signed_decimal}
 use Rattle.ipg_core.specs.declared.grammar.CoreField.{CoreField}
 use Rattle.ipg_core.specs.declared.grammar.CoreField.TheVariants.{Attr, Start, End}
-use Rattle.ipg_core.specs.declared.grammar.Primitive.{Primitive}
-use Rattle.ipg_core.specs.declared.grammar.Primitive.TheVariants.{U8, U16LE, U16BE, U32LE, U32BE, U64LE, U64BE, Bytes}
 use Rattle.ipg_core.specs.Grammar.{name_at}
+use Rattle.ipg_core.specs.Lines.{primitive_name}
 use Rattle.ipg_ast.specs.declared.grammar.Grammar.{Grammar}
 use Rattle.ipg_ast.specs.declared.grammar.Term.{Term}
 use Rattle.ipg_ast.specs.declared.grammar.Term.TheVariants.{Slot, Set, Test, Repeat, Many, Pick}
@@ -23,16 +22,6 @@ use Rattle.ipg_app_explain.specs.Spot.{seen_byte}
 use Rattle.ipg_app_explain.specs.Terms.{term_at}
 
 -- ---- what a result is called
-
-abbrev pub primitive_name : Primitive → List ℕ
-primitive_name U8 = codes "U8"
-primitive_name U16LE = codes "U16LE"
-primitive_name U16BE = codes "U16BE"
-primitive_name U32LE = codes "U32LE"
-primitive_name U32BE = codes "U32BE"
-primitive_name U64LE = codes "U64LE"
-primitive_name U64BE = codes "U64BE"
-primitive_name Bytes = codes "Bytes"
 
 -- a string in quotes
 abbrev pub quoted : List ℕ → List ℕ

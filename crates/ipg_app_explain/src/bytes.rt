@@ -1,10 +1,11 @@
 //! Bytes and numbers, for a person.
-ghost use Rattle.std.specs.Prelude.{◌≡◌, ◌++◌, ◌<◌, decimal, OnOk};
+ghost use Rattle.std.specs.Prelude.{◌≡◌, ◌++◌, ◌≤◌, length, decimal, OnOk};
 ghost use Rattle.std.specs.Fmt.{signed_decimal};
-ghost use Rattle.ipg_app_explain.specs.Bytes as spec;
-ghost use Rattle.ipg_app_explain.specs.Bytes.{bytes_words, bytes_unit, counted, extent, hex, more_mark};
+ghost use Rattle.hex.specs.Hex.{encode_lower};
+ghost use Rattle.ipg_app_explain.specs.Bytes.{bytes_words, bytes_unit, counted, extent, more_mark};
 
 use crate::spot::{add_seen, upto};
+use hex::encode_to_slice;
 use itoa::Buffer;
 use std::alloc::AllocError;
 
@@ -48,21 +49,14 @@ pub fn add_extent(out: &mut Vec<u8>, from: u32, to: u32) -> Result<(), AllocErro
     add_number(out, u64::from(to))
 }
 
-fn digit(half: u8) -> u8
-    requires { half < 16 }
-    ensures { result ≡ spec.digit half }
-{
-    if half < 10 { half + 48 } else { half + 87 }
-}
-
+/// Two digits for each of a few bytes.
 fn add_hex(out: &mut Vec<u8>, bytes: &[u8]) -> Result<(), AllocError>
-    ensures { OnOk result (out.new.items ≡ out.old.items ++ hex bytes.now) }
+    requires { length bytes.now ≤ 16 }
+    ensures { OnOk result (out.new.items ≡ out.old.items ++ encode_lower bytes.now) }
 {
-    for byte in bytes {
-        out.push(digit(*byte / 16))?;
-        out.push(digit(*byte % 16))?;
-    }
-    Ok(())
+    let mut digits = [0; 2 * MOST_SHOWN];
+    let _fits = encode_to_slice(bytes, &mut digits[..2 * bytes.len()]);
+    out.extend_from_slice(&digits[..2 * bytes.len()])
 }
 
 /// How many more bytes there are than are shown.

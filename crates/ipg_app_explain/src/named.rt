@@ -9,6 +9,7 @@ use crate::spot::{add_seen, upto};
 use crate::terms::{TermAt, branch_or, rule_at, term_at};
 use crate::words::TOLD_BYTES;
 use ipg_ast::{Grammar, Term, What};
+use ipg_core::grammar::Primitive;
 use ipg_num::item_at;
 use std::alloc::AllocError;
 
@@ -114,20 +115,14 @@ pub fn loop_name(g: &Grammar, at: TermAt) -> &[u8]
     }
 }
 
-/// How many bytes a number takes, by its name.
+/// How many bytes a number takes, by the word of its primitive.
 fn width_of(name: &[u8]) -> usize
     ensures { result ≡ width_of name.now }
 {
-    if name == b"U8".as_slice() {
-        return 1;
+    match Primitive::of_word(name) {
+        Some(prim) => prim.width() as usize,
+        None => 0,
     }
-    if name == b"U16LE".as_slice() || name == b"U16BE".as_slice() {
-        return 2;
-    }
-    if name == b"U32LE".as_slice() || name == b"U32BE".as_slice() {
-        return 4;
-    }
-    8
 }
 
 fn what_size(what: &What) -> usize

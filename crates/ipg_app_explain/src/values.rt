@@ -8,25 +8,10 @@ use crate::named::{cut, rule_name};
 use crate::spot::{add_seen, upto};
 use crate::terms::{TermAt, term_at};
 use ipg_ast::{Grammar, Term, What};
-use ipg_core::grammar::{CoreField, Name, Primitive};
+use ipg_core::grammar::{CoreField, Name};
 use ipg_mach_failures::{Failure, Operand, Taken, Valued};
 use ipg_num::item_at;
 use std::alloc::AllocError;
-
-fn primitive_name(prim: Primitive) -> &'static [u8]
-    ensures { result.now ≡ spec.primitive_name prim }
-{
-    match prim {
-        Primitive::U8 => b"U8",
-        Primitive::U16LE => b"U16LE",
-        Primitive::U16BE => b"U16BE",
-        Primitive::U32LE => b"U32LE",
-        Primitive::U32BE => b"U32BE",
-        Primitive::U64LE => b"U64LE",
-        Primitive::U64BE => b"U64BE",
-        Primitive::Bytes => b"Bytes",
-    }
-}
 
 /// A string in quotes.
 fn add_quoted(out: &mut Vec<u8>, bytes: &[u8]) -> Result<(), AllocError>
@@ -69,7 +54,7 @@ fn add_taken_name(
 {
     match taken {
         Taken::Text => add_text_name(out, term),
-        Taken::Prim(prim) => out.extend_from_slice(primitive_name(prim)),
+        Taken::Prim(prim) => out.extend_from_slice(prim.word()),
         Taken::Rule(rule) => out.extend_from_slice(rule_name(g, rule)),
     }
 }

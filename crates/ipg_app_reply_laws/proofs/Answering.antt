@@ -1,8 +1,8 @@
 -- Orders of answers by which something is said.
 use Rattle.std.proofs.Common.{◌≡◌, ℕ, ◌⊎◌, inl, inr, refl, List, [], Result, Ok, Err}
 use Rattle.ipg_outside.specs.Files.{Told, untold, absent, holds, MayHold, AreBytes}
-use Rattle.ipg_app.specs.Said.{Said, read_fault}
-use Rattle.ipg_app.specs.Order.{Order, says, finds, reads, only, have, Answers}
+use Rattle.ipg_app_text.specs.Said.{Said, read_fault}
+use Rattle.ipg_app_text.specs.Order.{Order, says, finds, reads, only, have, Answers}
 use Rattle.ipg_app_reply_laws.specs.Replies.{MayBeSo}
 use Rattle.ipg_app_reply_laws.proofs.Classical.{Somehow, some, ◌>>=◌}
 

@@ -20,8 +20,8 @@ use Rattle.ipg_facts_laws.specs.Bounded.{JointIsPart}
 use Rattle.ipg_facts_laws.specs.Laws.{ArePartsWith, ConditionsAreParts}
 use Rattle.ipg_proof.specs.Calls.{calls_of, joint_of, keeps, live_graph}
 use Rattle.ipg_term.specs.Loops.{CanLoop}
-use Rattle.ipg_app.specs.Checks.{Checks, IsLoop, may_loop}
-use Rattle.ipg_app.specs.CoreOf.{Answer}
+use Rattle.ipg_app_grammar.specs.Checks.{Checks, IsLoop, may_loop}
+use Rattle.ipg_app_text.specs.CoreOf.{Answer}
 use Rattle.ipg_app_reply_laws.proofs.Classical.{Somehow, some, ◌>>=◌, by, middle}
 use Rattle.ipg_app_reply_laws.proofs.Cycles.{FirstList, first_list, cycles_short}
 use Rattle.ipg_app_reply_laws.proofs.Limits.{limits}

@@ -21,10 +21,10 @@ use Rattle.ipg_core.specs.Grammar.{Grammar}
 use Rattle.ipg_core.specs.Good.{Good, WellFormed}
 use Rattle.ipg_order.specs.Answer.{alt_alone, rule_alone, without_orders}
 use Rattle.ipg_touch.specs.Loose.{loose}
-use Rattle.ipg_app.specs.Said.{Said}
-use Rattle.ipg_app.specs.Refusal.{circular}
-use Rattle.ipg_app.specs.CoreOf.{Answer, On, grammar_in, or_fault, resolved, unless_fault, Orders, unless_loose, Touches, OrdersAndTouches, CoreFrom}
-use Rattle.ipg_app.specs.CoreOf.{CoreOf}
+use Rattle.ipg_app_text.specs.Said.{Said}
+use Rattle.ipg_app_text.specs.Refusal.{circular}
+use Rattle.ipg_app_text.specs.CoreOf.{Answer, On, grammar_in, or_fault, resolved, unless_fault, Orders, unless_loose, Touches, OrdersAndTouches, CoreFrom}
+use Rattle.ipg_app_text.specs.CoreOf.{CoreOf}
 use Rattle.ipg_app_reply_laws.proofs.Classical.{Somehow, some, ◌>>=◌, by}
 use Rattle.ipg_app_reply_laws.proofs.Limits.{limits}
 use Rattle.ipg_app_reply_laws.proofs.Orders.{good_or_stuck}

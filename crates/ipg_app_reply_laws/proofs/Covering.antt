@@ -25,8 +25,8 @@ use Rattle.ipg_facts_laws.specs.Laws.{EdgesAreInside, Solves}
 use Rattle.ipg_cover.specs.Cover.{alternatives_of, alternatives, gap_at, Leaves, AreRefuted, Ground, IsLeastGap}
 use Rattle.ipg_cover.specs.Reach.{Reaches, first, called}
 use Rattle.ipg_cover_refute_laws.specs.Refuted.{GapsAreRefuted}
-use Rattle.ipg_app.specs.Covering.{CoverSays, may_gap}
-use Rattle.ipg_app.specs.Said.{Said, done_line}
+use Rattle.ipg_app_grammar.specs.Covering.{CoverSays, may_gap}
+use Rattle.ipg_app_text.specs.Said.{Said, done_line}
 use Rattle.ipg_app_reply_laws.proofs.Classical.{Somehow, some, ◌>>=◌, by, middle, first_of}
 use Rattle.ipg_app_reply_laws.proofs.Limits.{Tells, tell, inside_or, marked_inside, limits}
 

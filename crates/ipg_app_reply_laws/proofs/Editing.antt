@@ -14,8 +14,8 @@ use Rattle.ipg_mach_count_laws.specs.Laws.{CountsOver, KeysAreKnown, NoneWhereFi
 use Rattle.ipg_edit_laws.specs.Known.{is_behind, moved_key, keys_that_stay, keys_that_move}
 use Rattle.ipg_edit_script.specs.declared.script.Edit.{Edit}
 use Rattle.ipg_edit_script.specs.Scripts.{AreEdits}
-use Rattle.ipg_app.specs.Editing.{Turns, Allows, EditsSay, Edits, edited_by, kept_by, kept_behind, before, answer_line, tree_of, edits_said}
-use Rattle.ipg_app.specs.Said.{Said}
+use Rattle.ipg_app_tree.specs.Editing.{Turns, Allows, EditsSay, Edits, edited_by, kept_by, kept_behind, before, answer_line, tree_of, edits_said}
+use Rattle.ipg_app_text.specs.Said.{Said}
 use Rattle.ipg_app_reply_laws.proofs.Classical.{Somehow, some, ◌>>=◌, by, middle}
 use Rattle.ipg_app_reply_laws.proofs.Meanings.{means}
 use Rattle.ipg_app_reply_laws.proofs.Fresh.{IsGlobal, AreGlobal, either, all_taken, all_dropped, fresh, fresh_global}

@@ -29,3 +29,4 @@ pub mod Judging
 pub mod Loading
 -- the whole
 pub mod Replying
+pub mod Headline

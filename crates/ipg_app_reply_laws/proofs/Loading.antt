@@ -18,8 +18,8 @@ use Rattle.ipg_store.specs.declared.fault.LoadFault.{LoadFault}
 use Rattle.ipg_store.specs.declared.fault.LoadFault.TheVariants.{Magic, Length, Body as OfBody, NotGood, CertText, Proof}
 use Rattle.ipg_store.specs.File.{magic, file_with, body_of, Holds}
 use Rattle.ipg_store.specs.Faults.{Begins, announced, behind, body_in, proof_in, IsWhole, IsLoadFault}
-use Rattle.ipg_app.specs.Said.{Said, bad_proof}
-use Rattle.ipg_app.specs.Tables.{load_said, Loads}
+use Rattle.ipg_app_text.specs.Said.{Said, bad_proof}
+use Rattle.ipg_app_grammar.specs.Tables.{load_said, Loads}
 use Rattle.ipg_app_reply_laws.proofs.Classical.{Somehow, some, ◌>>=◌, by, middle}
 use Rattle.ipg_app_reply_laws.proofs.Judging.{judged}
 use Rattle.ipg_app_reply_laws.proofs.Limits.{inside_or}

@@ -26,13 +26,14 @@ use Rattle.ipg_app_explain.specs.declared.why.Why.TheVariants as why
 use Rattle.ipg_app_explain.specs.Terms.{term_place}
 use Rattle.ipg_app_values.specs.Laws.{NotedSomehow}
 use Rattle.ipg_app_values.specs.Notes.{AreNotes}
-use Rattle.ipg_app.specs.Checks.{Checks, may_loop}
-use Rattle.ipg_app.specs.CoreOf.{Answer, On, or_fault, grammar_in, unless_fault, resolved, name_of, unless_loose, OrdersAndTouches, CoreFrom, CoreOf}
-use Rattle.ipg_app.specs.Explained.{Explains, explained_said}
-use Rattle.ipg_app.specs.Followed.{Cleared, Clears}
-use Rattle.ipg_app.specs.Reasons.{Reason, listed, read_reason, name_reason, IsUnordered, cycle_places, IsRefused, Judged}
-use Rattle.ipg_app.specs.Refusal.{circular, no_touch}
-use Rattle.ipg_app.specs.Said.{Said}
+use Rattle.ipg_app_grammar.specs.Checks.{Checks, may_loop}
+use Rattle.ipg_app_text.specs.CoreOf.{Answer, On, or_fault, grammar_in, unless_fault, resolved, name_of, unless_loose, OrdersAndTouches, CoreFrom, CoreOf}
+use Rattle.ipg_app_grammar.specs.Explained.{Explains, explained_said}
+use Rattle.ipg_app_grammar.specs.Followed.{Cleared, Clears}
+use Rattle.ipg_app_text.specs.Reasons.{Reason, listed, read_reason, name_reason, IsUnordered}
+use Rattle.ipg_app_grammar.specs.Judged.{cycle_places, IsRefused, Judged}
+use Rattle.ipg_app_text.specs.Refusal.{circular, no_touch}
+use Rattle.ipg_app_text.specs.Said.{Said}
 use Rattle.ipg_app_reply_laws.proofs.Checking.{checked}
 use Rattle.ipg_app_reply_laws.proofs.Classical.{Somehow, some, ◌>>=◌, by}
 use Rattle.ipg_app_reply_laws.proofs.Cores.{completed_alone, completed_formed}

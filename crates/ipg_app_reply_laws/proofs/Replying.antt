@@ -35,24 +35,27 @@ use Rattle.ipg_formats.specs.Text.{text_of}
 use Rattle.ipg_query_path.specs.declared.path.Query as paths
 use Rattle.ipg_app_words.specs.Request as words
 use Rattle.ipg_app_words.specs.Request.{Request, Use, Fmt, Trial, Query, View, Load, Explain, Help, Version, request_of}
-use Rattle.ipg_app.specs.declared.task.Show.{Show}
-use Rattle.ipg_app.specs.declared.task.Show.TheVariants.{Lines, Picked, Bytes, Json, PickedView}
-use Rattle.ipg_app.specs.declared.task.Show.TheVariants as show
-use Rattle.ipg_app.specs.Certificate.{Reads, Judges, cert_text, verified}
-use Rattle.ipg_app.specs.Checks.{Checks}
-use Rattle.ipg_app.specs.Covering.{CoverSays}
-use Rattle.ipg_app.specs.CoreOf.{CoreOf, grammar_in}
-use Rattle.ipg_app.specs.Editing.{ReadsScript, Edits, edit_text}
-use Rattle.ipg_app.specs.Explained.{Explains}
-use Rattle.ipg_app.specs.Followed.{Cleared, Clears, Follows, or_told, subject}
-use Rattle.ipg_app.specs.Helped.{help_said, version_said}
-use Rattle.ipg_app.specs.Order.{Order, says, finds, reads, only, have}
-use Rattle.ipg_app.specs.Path.{ReadsPath, query_syntax}
-use Rattle.ipg_app.specs.Reasons.{Reason}
-use Rattle.ipg_app.specs.Reply.{Task, Parse, Check, Cert, Verify, Table, Cover, Edit, text_by, core_of, accepted, input_in, parse_input, judge, formatted}
-use Rattle.ipg_app.specs.Reply.{order_by, order_on, use_order, load_in, Parses, edit_file, edit_input, edits_of, explain_text, follow, trial_of, try_core}
-use Rattle.ipg_app.specs.Said.{Said, done, done_line, usage, too_large, bad_proof}
-use Rattle.ipg_app.specs.Tables.{Loads}
+use Rattle.ipg_app_tree.specs.declared.show.Show.{Show}
+use Rattle.ipg_app_tree.specs.declared.show.Show.TheVariants.{Lines, Picked, Bytes, Json, PickedView}
+use Rattle.ipg_app_tree.specs.declared.show.Show.TheVariants as show
+use Rattle.ipg_app_grammar.specs.Certificate.{Reads, Judges, cert_text, verified}
+use Rattle.ipg_app_grammar.specs.Checks.{Checks}
+use Rattle.ipg_app_grammar.specs.Covering.{CoverSays}
+use Rattle.ipg_app_text.specs.CoreOf.{CoreOf, grammar_in}
+use Rattle.ipg_app_tree.specs.Editing.{ReadsScript, Edits, edit_text}
+use Rattle.ipg_app_grammar.specs.Explained.{Explains}
+use Rattle.ipg_app_grammar.specs.Followed.{Cleared, Clears, Follows, or_told, subject}
+use Rattle.ipg_app_grammar.specs.Helped.{help_said, version_said}
+use Rattle.ipg_app_text.specs.Order.{Order, says, finds, reads, only, have}
+use Rattle.ipg_app_tree.specs.Path.{ReadsPath, query_syntax}
+use Rattle.ipg_app_text.specs.Reasons.{Reason}
+use Rattle.ipg_app.specs.Reply.{Task, Parse, Check, Cert, Verify, Table, Cover, Edit, parse_input}
+use Rattle.ipg_app_text.specs.Steps.{text_by, core_of, input_in}
+use Rattle.ipg_app_grammar.specs.Commands.{accepted, judge, formatted}
+use Rattle.ipg_app.specs.Reply.{order_by, order_on, use_order, load_in, edit_file, edit_input, edits_of, explain_text, follow, trial_of, try_core}
+use Rattle.ipg_app_tree.specs.Parses.{Parses}
+use Rattle.ipg_app_text.specs.Said.{Said, done, done_line, usage, too_large, bad_proof}
+use Rattle.ipg_app_grammar.specs.Tables.{Loads}
 use Rattle.ipg_app.specs.Trial.{kind_by, parts_in, Tries}
 use Rattle.ipg_app_reply_laws.specs.Replies.{MayBeSo, HasReply, SomeReply}
 use Rattle.ipg_app_reply_laws.proofs.Answering.{Replies, replies_only, replies_says, replies_finds, replies_have, replies_reads}

@@ -20,12 +20,12 @@ use Rattle.ipg_query.specs.Picked.{picked}
 use Rattle.ipg_tree.specs.Json.{json}
 use Rattle.ipg_tree_view.specs.Picked.{picked_view}
 use Rattle.ipg_tree_view.specs.View.{view}
-use Rattle.ipg_app.specs.declared.task.Show.{Show}
-use Rattle.ipg_app.specs.declared.task.Show.TheVariants as show
-use Rattle.ipg_app.specs.Queried.{picks_text}
-use Rattle.ipg_app.specs.Reply.{ParseSays, Parses}
-use Rattle.ipg_app.specs.Said.{Said, done, no_parse, range}
-use Rattle.ipg_app.specs.Shown.{TreeSays, gap_said}
+use Rattle.ipg_app_tree.specs.declared.show.Show.{Show}
+use Rattle.ipg_app_tree.specs.declared.show.Show.TheVariants as show
+use Rattle.ipg_app_tree.specs.Queried.{picks_text}
+use Rattle.ipg_app_tree.specs.Parses.{ParseSays, Parses}
+use Rattle.ipg_app_text.specs.Said.{Said, done, no_parse, range}
+use Rattle.ipg_app_tree.specs.Shown.{TreeSays, gap_said}
 use Rattle.ipg_app_reply_laws.proofs.Classical.{Somehow, some, ◌>>=◌, by, not_not, First, first_below, each_below}
 use Rattle.ipg_app_reply_laws.proofs.Meanings.{means}
 

@@ -14,10 +14,10 @@ use Rattle.ipg_formats.specs.Sample.{sample_of}
 use Rattle.ipg_mach_moves.specs.Laws.{EndsAsMeant}
 use Rattle.ipg_mach_count_laws.specs.Laws.{AllWhereNoneKept, CountsOver, KeysAreKnown, NoneWhereFirstKept}
 use Rattle.ipg_app_explain.specs.Furthest.{Subject}
-use Rattle.ipg_app.specs.declared.measuring.Size.{Size}
-use Rattle.ipg_app.specs.Followed.{Follows, found_said}
-use Rattle.ipg_app.specs.Measured.{IsSize}
-use Rattle.ipg_app.specs.Said.{Said, done_line, no_parse, range}
+use Rattle.ipg_app_tree.specs.declared.measuring.Size.{Size}
+use Rattle.ipg_app_grammar.specs.Followed.{Follows, found_said}
+use Rattle.ipg_app_tree.specs.Measured.{IsSize}
+use Rattle.ipg_app_text.specs.Said.{Said, done_line, no_parse, range}
 use Rattle.ipg_app.specs.Trial.{IsTried, Tries, size_words}
 use Rattle.ipg_app_reply_laws.proofs.Classical.{Somehow, some, ◌>>=◌}
 use Rattle.ipg_app_reply_laws.proofs.Editing.{no_keys}

@@ -1,2 +1,4 @@
+-- the sentence
+pub mod Headline
 -- that something is said
 pub mod Replies

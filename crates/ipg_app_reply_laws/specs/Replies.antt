@@ -3,9 +3,9 @@ use Rattle.std.specs.Prelude.{ℕ, List, Option, Some, None}
 use Rattle.ipg_outside.specs.Files.{Told, untold, absent, holds, AreBytes}
 use Rattle.ipg_app_words.specs.Request as words
 use Rattle.ipg_app_words.specs.Request.{Request, Use, Fmt, Trial, Query, View, Load, Explain, Help, Version, request_of}
-use Rattle.ipg_app.specs.Order.{Order, Answers}
+use Rattle.ipg_app_text.specs.Order.{Order, Answers}
 use Rattle.ipg_app.specs.Reply.{order_of}
-use Rattle.ipg_app.specs.Said.{Said}
+use Rattle.ipg_app_text.specs.Said.{Said}
 
 -- what is told of a name is so of a file: what it holds are bytes
 abbrev pub MayBeSo : Told → Type 0

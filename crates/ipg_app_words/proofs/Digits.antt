@@ -7,8 +7,8 @@ use Rattle.std.specs.List.{list_all}
 use Rattle.std.specs.Char.{digit_value}
 use Rattle.std.specs.Str.Parse.{AllDigits, IsNumeral, digits_value, without_leading_plus, ParsesUnsigned}
 use Rattle.clap.specs.ValueTests.{is_numeral}
-use Rattle.ipg_app_words.specs.Settings.{is_positive, up_to, number_in}
-use Rattle.ipg_app_words.specs.Seen.{is_plain_first}
+use Rattle.ipg_app_words.specs.Settings.{number_in, within}
+use Rattle.ipg_app_words.specs.Seen.{is_unsigned}
 
 both : (a b : Bool) → a ≡ true → b ≡ true → (a && b) ≡ true
 both true b e f = f
@@ -39,40 +39,47 @@ is_a_numeral ds e =
     (grind (arith, nat_tests), all_digits ds parts.1)
 
 -- no plus to leave out
-no_plus : (text : List ℕ) → is_plain_first text ≡ true → without_leading_plus text ≡ text
-no_plus text e = by (slice_index text 0 == 43) (and_parts (not (slice_index text 0 == 48)) (not (slice_index text 0 == 43)) e).1
+no_plus : (text : List ℕ) → is_unsigned text ≡ true → without_leading_plus text ≡ text
+no_plus text e = by (slice_index text 0 == 43) e
   where
     by : (b : Bool) → not b ≡ true → drop (cond b 1 0) text ≡ text
     by false e = refl
     by true e = absurd (true≢false (sym e))
 
 -- a number that is read
-pub read : (most : ℕ) (text : List ℕ) (n : ℕ) → is_plain_first text ≡ true → ParsesUnsigned {E = ℕ} 32 10 text (Ok n) → up_to most n ≡ number_in most text
-read most text n plain h =
+pub read : (least most : ℕ) (text : List ℕ) (n : ℕ) → is_unsigned text ≡ true → ParsesUnsigned {E = ℕ} 32 10 text (Ok n)
+    → within least most n ≡ number_in least most text
+read least most text n plain h =
     let same = no_plus text plain in
     let numeral : IsNumeral 10 text = subst (λ t. IsNumeral 10 t) same h.0.0 in
     let value : n ≡ digits_value 10 text = h.1 ∙ ap (digits_value 10) same in
-    let first = (and_parts (not (slice_index text 0 == 48)) (not (slice_index text 0 == 43)) plain).0 in
-    let positive : is_positive text ≡ true = both (is_numeral text) (not (slice_index text 0 == 48)) (numeral_test text numeral) first in
-    ap (up_to most) value ∙ sym (ap (λ b. cond b (up_to most (digits_value 10 text)) None) positive)
+    ap (within least most) value ∙ sym (ap (λ b. cond b (within least most (digits_value 10 text)) None) (numeral_test text numeral))
+
+-- what is past the most isn't within
+past : (least most n : ℕ) → nat_le n most ≡ false → within least most n ≡ None
+past least most n e = by (nat_le least n) (nat_le n most) e
+  where
+    by : (a b : Bool) → b ≡ false → cond (a && b) (Some n) None ≡ None
+    by true b e = ap (λ b. cond b (Some n) None) e
+    by false b e = refl
 
 -- a text that isn't read as a number of 32 bits
-pub not_read : (most : ℕ) (text : List ℕ) → most < 2 ^ 32 → is_plain_first text ≡ true
+pub not_read : (least most : ℕ) (text : List ℕ) → most < 2 ^ 32 → is_unsigned text ≡ true
     → ¬ (IsNumeral 10 (without_leading_plus text) × (digits_value 10 (without_leading_plus text) < 2 ^ 32))
-    → None ≡ number_in most text
-not_read most text below plain h = by (is_positive text) refl
+    → None ≡ number_in least most text
+not_read least most text below plain h = by (is_numeral text) refl
   where
-    large : is_positive text ≡ true → nat_le (digits_value 10 text) most ≡ false
+    large : is_numeral text ≡ true → nat_le (digits_value 10 text) most ≡ false
     large e =
         by_size (nat_le (digits_value 10 text) most) refl
       where
         by_size : (b : Bool) → nat_le (digits_value 10 text) most ≡ b → b ≡ false
         by_size false f = refl
         by_size true f =
-            let numeral = is_a_numeral text (and_parts (is_numeral text) (not (slice_index text 0 == 48)) e).0 in
+            let numeral = is_a_numeral text e in
             let small : digits_value 10 text < 2 ^ 32 = grind (arith, nat_tests) in
             absurd (h (subst (λ t. IsNumeral 10 t × (digits_value 10 t < 2 ^ 32)) (sym (no_plus text plain)) (numeral, small)))
 
-    by : (b : Bool) → is_positive text ≡ b → None ≡ cond b (up_to most (digits_value 10 text)) None
+    by : (b : Bool) → is_numeral text ≡ b → None ≡ cond b (within least most (digits_value 10 text)) None
     by false e = refl
-    by true e = sym (ap (λ b. cond b (Some (digits_value 10 text)) None) (large e))
+    by true e = sym (past least most (digits_value 10 text) (large e))

@@ -30,6 +30,6 @@ seen (asked.Explain grammar input) = Explain grammar.now (option_map (λ text. t
 seen (asked.Help command) = Help (option_map (λ text. text.now) command)
 seen asked.Version = Version
 
--- neither `0` nor `+` stands first
-abbrev pub is_plain_first : List ℕ → Bool
-is_plain_first text = not (slice_index text 0 == 48) && not (slice_index text 0 == 43)
+-- no `+` stands first
+abbrev pub is_unsigned : List ℕ → Bool
+is_unsigned text = not (slice_index text 0 == 43)

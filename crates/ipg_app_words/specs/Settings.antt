@@ -1,5 +1,5 @@
 -- The values of options, and of a number of parts.
-use Rattle.std.specs.Prelude.{ℕ, ◌-◌, ◌^◌, List, Bool, not, ◌==◌, ◌&&◌, nat_le, slice_index, codes, bytes_eq, Option, Some, None, if◌then◌else◌}
+use Rattle.std.specs.Prelude.{ℕ, ◌-◌, ◌^◌, List, ◌&&◌, nat_le, codes, bytes_eq, Option, Some, None, if◌then◌else◌}
 use Rattle.std.specs.Str.Parse.{digits_value}
 use Rattle.clap.specs.ValueTests.{is_numeral}
 use Rattle.ipg_app_words.specs.declared.asking.Memo.{Memo}
@@ -16,25 +16,21 @@ default_mib = 512
 abbrev pub most_mib : ℕ
 most_mib = 4096
 
--- digits, of which the first isn't 0
-abbrev pub is_positive : List ℕ → Bool
-is_positive text = is_numeral text && not (slice_index text 0 == 48)
+abbrev pub within : ℕ → ℕ → ℕ → Option ℕ
+within least most n = if nat_le least n && nat_le n most then Some n else None
 
-abbrev pub up_to : ℕ → ℕ → Option ℕ
-up_to most n = if nat_le n most then Some n else None
-
--- a number from 1 to the most
-abbrev pub number_in : ℕ → List ℕ → Option ℕ
-number_in most text = if is_positive text then up_to most (digits_value 10 text) else None
+-- a number from the least to the most, in decimal digits without a sign
+abbrev pub number_in : ℕ → ℕ → List ℕ → Option ℕ
+number_in least most text = if is_numeral text then within least most (digits_value 10 text) else None
 
 -- the default where nothing is said
 abbrev pub mib_in : Option (List ℕ) → Option ℕ
 mib_in None = Some default_mib
-mib_in (Some text) = number_in most_mib text
+mib_in (Some text) = number_in 1 most_mib text
 
 abbrev pub most_count : ℕ
 most_count = 2 ^ 32 - 1
 
 -- a number from 0 to the most
 abbrev pub count_in : List ℕ → Option ℕ
-count_in text = if bytes_eq text (codes "0") then Some 0 else number_in most_count text
+count_in text = number_in 0 most_count text

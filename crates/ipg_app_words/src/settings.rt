@@ -1,7 +1,7 @@
 //! The values of options, and of a number of parts.
 ghost use Rattle.std.specs.Prelude.{◌≡◌, ◌≤◌, option_map, Some};
-ghost use Rattle.ipg_app_words.specs.Settings.{memo_in, mib_in, count_in, number_in, most_count, up_to};
-ghost use Rattle.ipg_app_words.specs.Seen.{is_plain_first};
+ghost use Rattle.ipg_app_words.specs.Settings.{memo_in, mib_in, count_in, number_in, most_count, within};
+ghost use Rattle.ipg_app_words.specs.Seen.{is_unsigned};
 
 use crate::asking::Memo;
 
@@ -33,7 +33,7 @@ pub fn mib(text: Option<&str>) -> Option<u32>
 {
     match text {
         None => Some(DEFAULT_MIB),
-        Some(text) => number(text, MOST_MIB),
+        Some(text) => number(text, 1, MOST_MIB),
     }
 }
 
@@ -41,38 +41,39 @@ pub fn mib(text: Option<&str>) -> Option<u32>
 pub fn count(text: &str) -> Option<u32>
     ensures { result ≡ count_in text.now }
 {
-    if text == "0" {
-        return Some(0);
-    }
-    number(text, u32::MAX)
+    number(text, 0, u32::MAX)
 }
 
-/// Whether neither a sign nor a zero stands first.
-fn begins_plainly(text: &str) -> bool
-    ensures { result ≡ is_plain_first text.now }
+/// Whether no sign stands first that the standard library would read over.
+fn is_unsigned(text: &str) -> bool
+    ensures { result ≡ is_unsigned text.now }
 {
     match text.as_bytes().first() {
-        Some(first) => *first != b'0' && *first != b'+',
+        Some(first) => *first != b'+',
         None => true,
     }
 }
 
-/// A number from 1 to the most.
-fn number(text: &str, most: u32) -> Option<u32>
+/// A number from the least to the most, in decimal digits without a sign.
+fn number(text: &str, least: u32, most: u32) -> Option<u32>
     requires { most ≤ most_count }
-    ensures { result ≡ number_in most text.now }
+    ensures { result ≡ number_in least most text.now }
 {
-    if !begins_plainly(text) {
+    if !is_unsigned(text) {
         return None;
     }
     match text.parse::<u32>() {
-        Ok(number) => at_most(number, most),
+        Ok(number) => within(number, least, most),
         Err(_) => None,
     }
 }
 
-fn at_most(number: u32, most: u32) -> Option<u32>
-    ensures { result ≡ up_to most number }
+fn within(number: u32, least: u32, most: u32) -> Option<u32>
+    ensures { result ≡ within least most number }
 {
-    if number <= most { Some(number) } else { None }
+    if least <= number && number <= most {
+        Some(number)
+    } else {
+        None
+    }
 }

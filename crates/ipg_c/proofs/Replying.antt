@@ -3,13 +3,15 @@ use Rattle.std.proofs.Common.{◌≡◌, refl, sym, ap, ◌∙◌, subst, arith,
 use Rattle.ipg_outside.specs.Faults.{Rose}
 use Rattle.ipg_outside.specs.Files.{Told, absent}
 use Rattle.ipg_outside.specs.Sink.{Output, Tells}
-use Rattle.ipg_app.specs.Said.{Said, read_fault}
-use Rattle.ipg_app.specs.Code.{code_of}
-use Rattle.ipg_app.specs.Order.{Order, says, finds, reads, Answers, Turn}
+use Rattle.ipg_app_text.specs.Said.{Said, read_fault}
+use Rattle.ipg_app_text.specs.Code.{code_of}
+use Rattle.ipg_app_text.specs.Order.{Order, says, finds, reads, Answers, Turn}
 use Rattle.ipg_app.specs.Reply.{order_of}
-use Rattle.ipg_app.specs.Run.{Outside, Runs, Settles, FailsToRead, Writes}
-use Rattle.ipg_app.specs.declared.status.Status.{Status}
-use Rattle.ipg_app.specs.declared.status.Status.TheVariants as status
+use Rattle.ipg_app.specs.Run.{Outside, Runs}
+use Rattle.ipg_app_text.specs.Settles.{Settles, FailsToRead}
+use Rattle.ipg_app_tree.specs.Out.{Writes}
+use Rattle.ipg_app_text.specs.declared.status.Status.{Status}
+use Rattle.ipg_app_text.specs.declared.status.Status.TheVariants as status
 use Rattle.ipg_c.specs.declared.files.File.{File}
 use Rattle.ipg_c.specs.Handed.{found, told_by, told_of, faults_by, faults_of, output_of}
 use Rattle.ipg_c.specs.Answered.{Replies, Whole, Memory}

@@ -1,11 +1,11 @@
 -- What a caller gets: the reply that the program gives to the words, over the files.
 use Rattle.std.specs.Prelude.{◌≡◌, ℕ, List, [], length}
 use Rattle.ipg_outside.specs.Files.{Told}
-use Rattle.ipg_app.specs.Said.{Said}
-use Rattle.ipg_app.specs.Code.{code_of}
-use Rattle.ipg_app.specs.Order.{Answers}
+use Rattle.ipg_app_text.specs.Said.{Said}
+use Rattle.ipg_app_text.specs.Code.{code_of}
+use Rattle.ipg_app_text.specs.Order.{Answers}
 use Rattle.ipg_app.specs.Reply.{order_of}
-use Rattle.ipg_app.specs.declared.status.Status.TheVariants as status
+use Rattle.ipg_app_text.specs.declared.status.Status.TheVariants as status
 use Rattle.ipg_c.specs.declared.words.Word.{Word}
 use Rattle.ipg_c.specs.declared.files.File.{File}
 use Rattle.ipg_c.specs.Handed.{words_of, read_words, told_of}

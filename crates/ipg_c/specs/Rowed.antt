@@ -2,8 +2,8 @@
 use Rattle.std.specs.Prelude.{◌≡◌, ℕ, List, length}
 use Rattle.ipg_core.specs.Grammar.{Grammar}
 use Rattle.ipg_tree_rows.specs.declared.row.TreeRow.{TreeRow}
-use Rattle.ipg_app.specs.Code.{code_of}
-use Rattle.ipg_app.specs.declared.status.Status.TheVariants as status
+use Rattle.ipg_app_text.specs.Code.{code_of}
+use Rattle.ipg_app_text.specs.declared.status.Status.TheVariants as status
 use Rattle.ipg_c_trees.specs.declared.answering.Answer.{Answer}
 use Rattle.ipg_c_trees.specs.Given.{IsAccepted, IsRefused, text_of}
 use Rattle.ipg_c_trees.specs.Comes.{AllCome}

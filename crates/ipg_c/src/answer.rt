@@ -1,7 +1,7 @@
 //! The call.
 ghost use Rattle.std.specs.Prelude.{◌≡◌, [], map};
 ghost use Rattle.std.specs.String.{string_bytes};
-ghost use Rattle.ipg_app.specs.Code.{code_of};
+ghost use Rattle.ipg_app_text.specs.Code.{code_of};
 ghost use Rattle.ipg_c.specs.Handed.{words_of, read_words, told_of};
 ghost use Rattle.ipg_c.specs.Answered.{Answered, Replies};
 
@@ -10,7 +10,7 @@ use crate::page::Page;
 use crate::showing::show;
 use crate::words::{Word, read};
 use ipg_app::run::run;
-use ipg_app::status::Status;
+use ipg_app_text::status::Status;
 use std::alloc::Global;
 
 /// What `ipg` answers.

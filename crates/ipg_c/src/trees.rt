@@ -7,7 +7,7 @@ ghost use Rattle.ipg_c.specs.Rowed.{IsBatch, IsNames, Named, Rowed};
 
 use crate::showing::show;
 use crate::words::Word;
-use ipg_app::status::Status;
+use ipg_app_text::status::Status;
 use ipg_c_trees::{Answer, Format, format_of, names};
 use ipg_tree_rows::TreeRow;
 use std::alloc::{AllocError, Global};

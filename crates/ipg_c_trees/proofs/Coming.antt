@@ -11,8 +11,8 @@ use Rattle.ipg_tree_walk.specs.Parse.{Walked}
 use Rattle.ipg_tree_rows.specs.declared.row.TreeRow.{TreeRow}
 use Rattle.ipg_tree_rows.specs.Rows.{rows_of}
 use Rattle.ipg_tree_rows.specs.Sees.{IsTree}
-use Rattle.ipg_app.specs.declared.status.Status.{Status}
-use Rattle.ipg_app.specs.declared.status.Status.TheVariants as status
+use Rattle.ipg_app_text.specs.declared.status.Status.{Status}
+use Rattle.ipg_app_text.specs.declared.status.Status.TheVariants as status
 use Rattle.ipg_c_trees.specs.Comes.{Comes, ATree, NoTree_, Range_, Large, Wanting}
 
 -- the tree of a parse stands at its root

@@ -6,9 +6,9 @@ use Rattle.ipg_core.specs.Run.{Stop, NoTree, OutOfRange, Deep}
 use Rattle.ipg_core.specs.Tree.{Tree}
 use Rattle.ipg_tree_rows.specs.declared.row.TreeRow.{TreeRow}
 use Rattle.ipg_tree_rows.specs.Rows.{rows_of}
-use Rattle.ipg_app.specs.declared.status.Status.{Status}
-use Rattle.ipg_app.specs.declared.status.Status.TheVariants as status
-use Rattle.ipg_app.specs.Code.{code_of}
+use Rattle.ipg_app_text.specs.declared.status.Status.{Status}
+use Rattle.ipg_app_text.specs.declared.status.Status.TheVariants as status
+use Rattle.ipg_app_text.specs.Code.{code_of}
 use Rattle.ipg_c_trees.specs.declared.answering.Answer.{Answer}
 
 -- one input: its tree's rows; or that it has none, that a value left 64 bits, that it has more than 2^30 bytes; or want of memory

@@ -4,9 +4,9 @@ use Rattle.ipg_core.specs.Grammar.{Grammar}
 use Rattle.ipg_formats.specs.declared.Kind.{Kind}
 use Rattle.ipg_formats.specs.Names.{kind_of}
 use Rattle.ipg_formats.specs.Text as built_in
-use Rattle.ipg_app.specs.Said.{Said}
-use Rattle.ipg_app.specs.CoreOf.{CoreOf}
-use Rattle.ipg_app.specs.Checks.{Checks}
+use Rattle.ipg_app_text.specs.Said.{Said}
+use Rattle.ipg_app_text.specs.CoreOf.{CoreOf}
+use Rattle.ipg_app_grammar.specs.Checks.{Checks}
 
 abbrev pub text_by : Option Kind → List ℕ → List ℕ
 text_by (Some kind) given = built_in.text_of kind

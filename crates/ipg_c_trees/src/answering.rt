@@ -5,12 +5,12 @@ ghost use Rattle.ipg_mach_nodes.specs.Stored.{Source};
 ghost use Rattle.ipg_tree_rows.specs.declared.row.TreeRow.{TreeRow as AnyRow};
 ghost use Rattle.ipg_tree_rows.specs.Rows.{rows_of};
 ghost use Rattle.ipg_tree_rows.specs.Sees.{IsTree};
-ghost use Rattle.ipg_app.specs.declared.status.Status.TheVariants as status;
+ghost use Rattle.ipg_app_text.specs.declared.status.Status.TheVariants as status;
 ghost use Rattle.ipg_c_trees.specs.Comes.{Comes, IsAnswer};
 
 use crate::format::Format;
-use ipg_app::has_answer;
-use ipg_app::status::Status;
+use ipg_app_text::status::Status;
+use ipg_app_tree::answering::has_answer;
 use ipg_mach::{Outcome, Parsed, Remember, parse};
 use ipg_tree_rows::{TreeRow, add_rows};
 use linked_list_allocator::LocalHeap;

@@ -2,13 +2,15 @@
 ghost use Rattle.std.specs.Prelude.{◌≡◌, Ok, IfOk, MatchOption};
 ghost use Rattle.ipg_core.specs.Grammar.{Grammar};
 ghost use Rattle.ipg_table.specs.Rows.{StandFor};
-ghost use Rattle.ipg_app.specs.Checks.{Checks, IsLoop};
-ghost use Rattle.ipg_app.specs.Said.{Said};
+ghost use Rattle.ipg_app_grammar.specs.Checks.{Checks, IsLoop};
+ghost use Rattle.ipg_app_text.specs.Said.{Said};
 ghost use Rattle.ipg_c_trees.specs.Given as spec;
 ghost use Rattle.ipg_c_trees.specs.Given.{IsAccepted, IsRefused};
 
 use crate::given::text_of;
-use ipg_app::{Early, accepted, core_in_text};
+use ipg_app_grammar::checks::accepted;
+use ipg_app_text::core_of::core_in_text;
+use ipg_app_text::early::Early;
 use ipg_core::accepted::{Checked, Core};
 use ipg_table::tables::{Tables, compile};
 use std::alloc::{AllocError, Global};

@@ -31,10 +31,7 @@ fn number_end(alloc: Global, left: &Left, prim: Primitive) -> Result<CoreExpr, A
 {
     match prim {
         Primitive::Bytes => Ok(CoreExpr::Eoi),
-        Primitive::U8 => so_many(alloc, left, 1),
-        Primitive::U16LE | Primitive::U16BE => so_many(alloc, left, 2),
-        Primitive::U32LE | Primitive::U32BE => so_many(alloc, left, 4),
-        Primitive::U64LE | Primitive::U64BE => so_many(alloc, left, 8),
+        _ => so_many(alloc, left, prim.width() as usize),
     }
 }
 

@@ -1,5 +1,5 @@
 -- What an expression is evaluated in: the values and results that stand when it is.
-use Rattle.std.specs.Prelude.{ℕ, List, [], ◌∷◌, Option, Some, None, Bool, ℤ, pos, nat_eq, if◌then◌else◌, slice_get, bytes_eq, codes, ◌&&◌, ◌||◌}
+use Rattle.std.specs.Prelude.{ℕ, List, [], ◌∷◌, Option, Some, None, Bool, ℤ, pos, nat_eq, if◌then◌else◌, slice_get, bytes_eq, codes, not, ◌||◌}
 use Rattle.ipg_core.specs.declared.grammar.Primitive.{Primitive}
 use Rattle.ipg_core.specs.declared.grammar.Primitive.TheVariants.{U8, U16LE, U16BE, U32LE, U32BE, U64LE, U64BE, Bytes}
 use Rattle.ipg_core.specs.declared.grammar.CoreField.{CoreField}
@@ -84,9 +84,10 @@ field_of names (Attr a) k = attr_of names a k
 field_of names Start k = Some (pos (ends_of k).start)
 field_of names End k = Some (pos (ends_of k).end)
 
--- a reference by this symbol may read the result: it is what was parsed, or the reference is to a switch whatever it took
+-- a reference by this symbol may read the result: of a switch it names the branch that was taken, or any branch where it is a string; of
+-- another term nothing is asked
 abbrev pub is_read_by : Done → Sym → Bool
-is_read_by d sym = (d.is_switch && is_text sym) || same_sym sym (sym_of d.kid)
+is_read_by d sym = not d.is_switch || is_text sym || same_sym sym (sym_of d.kid)
 
 abbrev pub seen : List (List ℕ) → Sym → CoreField → Option Done → Option ℤ
 seen names sym field None = None

@@ -1,7 +1,8 @@
 -- The printed tree: a line for each node, terminal, number, raw bytes, array and repetition, in preorder.
-use Rattle.std.specs.Prelude.{ℕ, ◌+◌, ◌-◌, ◌/◌, ◌%◌, List, [], ◌∷◌, ◌++◌, map, flat_map, take, length, nat_le}
-use Rattle.std.specs.Prelude.{if◌then◌else◌, decimal, codes, slice_index, ℤ, Option, Some, None}
+use Rattle.std.specs.Prelude.{ℕ, ◌+◌, ◌-◌, List, [], ◌∷◌, ◌++◌, map, flat_map, take, length, nat_le, bytes_eq}
+use Rattle.std.specs.Prelude.{if◌then◌else◌, decimal, codes, ℤ, Option, Some, None}
 use Rattle.std.specs.Fmt.{signed_decimal}
+use Rattle.hex.specs.Hex.{encode_lower}
 use Rattle.ipg_core.specs.declared.grammar.Primitive.{Primitive}
 use Rattle.ipg_core.specs.declared.grammar.Primitive.TheVariants.{U8, U16LE, U16BE, U32LE, U32BE, U64LE, U64BE, Bytes}
 use Rattle.ipg_core.specs.declared.grammar.Sym.{Sym}
@@ -16,18 +17,10 @@ line [] = 10 ∷ []
 line (word ∷ []) = word ++ 10 ∷ []
 line (word ∷ more ∷ words) = word ++ 32 ∷ line (more ∷ words)
 
--- two digits for each byte
-abbrev pub digit : ℕ → ℕ
-digit d = slice_index (codes "0123456789abcdef") d
-
-abbrev pub hex_digits : List ℕ → List ℕ
-hex_digits [] = []
-hex_digits (b ∷ bytes) = digit (b / 16) ∷ digit (b % 16) ∷ hex_digits bytes
-
--- bytes in hexadecimal; `-` where there are none
+-- bytes in hexadecimal, two digits for each; `-` where there are none
 abbrev pub hex : List ℕ → List ℕ
 hex [] = codes "-"
-hex (b ∷ bytes) = hex_digits (b ∷ bytes)
+hex (b ∷ bytes) = encode_lower (b ∷ bytes)
 
 -- the first 32 bytes, and how many more there are
 abbrev pub short_hex : List ℕ → List ℕ
@@ -44,6 +37,21 @@ primitive_name U32BE = codes "U32BE"
 primitive_name U64LE = codes "U64LE"
 primitive_name U64BE = codes "U64BE"
 primitive_name Bytes = codes "Bytes"
+
+-- the primitive that a name is the word of
+abbrev pub wide_primitive_of : List ℕ → Option Primitive
+wide_primitive_of name =
+    if bytes_eq name (primitive_name U64LE) then Some U64LE else
+    (if bytes_eq name (primitive_name U64BE) then Some U64BE else
+    (if bytes_eq name (primitive_name Bytes) then Some Bytes else None))
+
+abbrev pub primitive_of : List ℕ → Option Primitive
+primitive_of name =
+    if bytes_eq name (primitive_name U8) then Some U8 else
+    (if bytes_eq name (primitive_name U16LE) then Some U16LE else
+    (if bytes_eq name (primitive_name U16BE) then Some U16BE else
+    (if bytes_eq name (primitive_name U32LE) then Some U32LE else
+    (if bytes_eq name (primitive_name U32BE) then Some U32BE else wide_primitive_of name))))
 
 abbrev pub name_of : Option CoreRule → List ℕ
 name_of None = []

@@ -1,5 +1,10 @@
 //! The core grammar: references resolved, intervals complete, terms in order.
 
+ghost use Rattle.std.specs.Prelude.{◌≡◌, ◌≤◌, length, bytes_eq};
+ghost use Rattle.ipg_core.specs.Grammar as spec;
+ghost use Rattle.ipg_core.specs.Lines as lines;
+ghost use Rattle.ipg_core.specs.Touch as touch;
+
 use ipg_num::{Held, List, Op2};
 
 /// A name, as its bytes.
@@ -16,6 +21,97 @@ pub enum Primitive {
     U64LE,
     U64BE,
     Bytes,
+}
+
+/// All primitives, each at its number.
+pub const PRIMITIVES: [Primitive; 8] = [
+    Primitive::U8,
+    Primitive::U16LE,
+    Primitive::U16BE,
+    Primitive::U32LE,
+    Primitive::U32BE,
+    Primitive::U64LE,
+    Primitive::U64BE,
+    Primitive::Bytes,
+];
+
+impl Primitive {
+    /// Its place in the list of primitives, from 0 on.
+    pub fn number(self) -> u8
+        ensures { result ≡ spec.primitive_number self }
+    {
+        self as u8
+    }
+
+    /// How many bytes a number takes; 0 for raw bytes, which have no width of their own.
+    pub fn width(self) -> u32
+        ensures value { result ≡ touch.width self }
+        ensures small { result ≤ 8 }
+    {
+        match self {
+            Primitive::U8 => 1,
+            Primitive::U16LE | Primitive::U16BE => 2,
+            Primitive::U32LE | Primitive::U32BE => 4,
+            Primitive::U64LE | Primitive::U64BE => 8,
+            Primitive::Bytes => 0,
+        }
+    }
+
+    /// Its word in a grammar, of at most five letters.
+    pub fn word(self) -> &'static [u8]
+        ensures name { result.now ≡ lines.primitive_name self }
+        ensures long { length result.now ≤ 5 }
+    {
+        match self {
+            Primitive::U8 => b"U8",
+            Primitive::U16LE => b"U16LE",
+            Primitive::U16BE => b"U16BE",
+            Primitive::U32LE => b"U32LE",
+            Primitive::U32BE => b"U32BE",
+            Primitive::U64LE => b"U64LE",
+            Primitive::U64BE => b"U64BE",
+            Primitive::Bytes => b"Bytes",
+        }
+    }
+
+    fn has_word(self, name: &[u8]) -> bool
+        ensures { result ≡ bytes_eq name.now (lines.primitive_name self) }
+    {
+        name == self.word()
+    }
+
+    /// The primitive that the name is the word of, if it is one's.
+    pub fn of_word(name: &[u8]) -> Option<Primitive>
+        ensures { result ≡ lines.primitive_of name.now }
+    {
+        if Primitive::U8.has_word(name) {
+            Some(Primitive::U8)
+        } else if Primitive::U16LE.has_word(name) {
+            Some(Primitive::U16LE)
+        } else if Primitive::U16BE.has_word(name) {
+            Some(Primitive::U16BE)
+        } else if Primitive::U32LE.has_word(name) {
+            Some(Primitive::U32LE)
+        } else if Primitive::U32BE.has_word(name) {
+            Some(Primitive::U32BE)
+        } else {
+            Primitive::of_wide_word(name)
+        }
+    }
+
+    fn of_wide_word(name: &[u8]) -> Option<Primitive>
+        ensures { result ≡ lines.wide_primitive_of name.now }
+    {
+        if Primitive::U64LE.has_word(name) {
+            Some(Primitive::U64LE)
+        } else if Primitive::U64BE.has_word(name) {
+            Some(Primitive::U64BE)
+        } else if Primitive::Bytes.has_word(name) {
+            Some(Primitive::Bytes)
+        } else {
+            None
+        }
+    }
 }
 
 /// What a slot parses: a terminal, a primitive, or the rule of that number.

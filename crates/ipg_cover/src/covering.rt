@@ -14,6 +14,7 @@ use ipg_cert::laws::checks_refute;
 use ipg_core::accepted::{Checked, Core};
 use ipg_facts::gap;
 use ipg_facts_laws::laws::gaps_are_bounded;
+use ipg_facts_room::ask_gap_room;
 use ipg_num::List;
 use ipg_touch::must_touch;
 use std::alloc::{AllocError, Global};
@@ -29,6 +30,7 @@ fn gap_of(
     ensures { IfOk result (TellsGap (gap_at g.now marks.now place)) }
 {
     gaps_are_bounded();
+    ask_gap_room(alloc, g, place.0, place.1)?;
     let part = gap(alloc, g, marks, place.0, place.1)?;
     least_gap(alloc, &part)
 }

@@ -1,12 +1,12 @@
--- Leaves put a byte at each place that they cover.
-use Rattle.std.proofs.Common.{◌≡◌, ℕ, ◌+◌, ◌-◌, ◌<◌, ◌≤◌, Bool, true, false, nat_eq, List, [], ◌∷◌, ◌++◌, length, take, Some, pos, inl, inr}
+-- Leaves put a byte at each place that they cover, and at no other.
+use Rattle.std.proofs.Common.{◌≡◌, ℕ, ◌+◌, ◌-◌, ◌<◌, ◌≤◌, Bool, true, false, nat_eq, List, [], ◌∷◌, ◌++◌, length, take, Some, pos, inl, inr, ◌⊎◌}
 use Rattle.std.proofs.Common.{arith, refl, ap, sym, ◌∙◌, subst, append_assoc}
 use Rattle.std.specs.Prelude.{slice_get}
 use Rattle.std.specs.List.{Contains}
 use Rattle.std.proofs.lemmas.Bool.Decides.{nat_tests}
 use Rattle.std.proofs.lemmas.List.{length-take}
 use Rattle.std.proofs.lemmas.Option.{slice_get_within}
-use Rattle.std.proofs.lemmas.List.Elements.{Contains-append_left, Contains-append_right}
+use Rattle.std.proofs.lemmas.List.Elements.{Contains-append_left, Contains-append_right, Contains-append_cases}
 use Rattle.ipg_core.specs.Part.{part}
 use Rattle.ipg_core.specs.Tree as tree
 use Rattle.ipg_core.specs.Tree.{Tree, Kid, Kids, no_kids, kid}
@@ -19,10 +19,11 @@ use Rattle.ipg_cover_leaves.specs.Bytes.{from_on, leaf_bytes, place_of, puts_of,
 use Rattle.ipg_cover_leaves.specs.Leaves.{leaves_seen, leaves_of}
 use Rattle.ipg_cover_leaves.specs.Back.{IsPut}
 use Rattle.ipg_cover_leaves.specs.Laws.{AreBytes}
-use Rattle.ipg_cover_leaves.specs.Covers.{IsAmong, TreeCovers, KidCovers, KidsCover, CoveredIsPut, AllPutComesBack}
-use Rattle.ipg_cover_leaves.proofs.Among.{in_first, in_rest}
+use Rattle.ipg_cover_leaves.specs.Covers.{IsAmong, TreeCovers, KidCovers, KidsCover, CoveredIsPut, PutIsCovered, AllPutComesBack}
+use Rattle.ipg_cover_leaves.proofs.Among.{in_none, in_first, in_rest}
 use Rattle.ipg_cover_leaves.proofs.Insides.{puts_are}
 use Rattle.ipg_cover_leaves.proofs.Numbers.{read_and_written}
+use Rattle.ipg_cover_leaves.proofs.Places.{lies}
 use Rattle.ipg_cover_leaves.proofs.Sitting.{bytes_part, seen_append, leaves_sit, leaves_are_of}
 use Rattle.ipg_cover_leaves.proofs.Agreed.{leaves_agree}
 
@@ -109,6 +110,64 @@ pub covered_is_put : CoveredIsPut
 covered_is_put s one place b holds h =
     subst (IsPut (puts (leaves_seen (tree_visits 1 (0 + 0) one)))) (let e : (0 + 0) + place ≡ place = omega arith in e)
     (tree_puts 1 (0 + 0) s one place holds b h)
+
+-- ---- nothing else is put
+
+put_cases : (xs ys : List (ℕ × ℕ)) (at : ℕ) → IsPut (xs ++ ys) at → IsPut xs at ⊎ IsPut ys at
+put_cases xs ys at h = elim (Contains-append_cases xs ys (at, h.0) h.1) [ inl one ↦ inl (h.0, one) | inr more ↦ inr (h.0, more) ]
+
+-- a place of a part that begins at `at` is one that the part's tree covers
+abbrev Within : ℕ → ℕ → (ℕ → Type 0) → Type 0
+Within at place Covers = (at ≤ place) × Covers (place - at)
+
+leaf_lies : (leaf : Leaf) (bytes : List ℕ) (at from n place : ℕ) → leaf_bytes leaf ≡ Some bytes → place_of leaf ≡ at + from → length bytes ≡ n
+    → IsPut (puts (leaf ∷ [])) place → Within at place (IsAmong from n)
+leaf_lies leaf bytes at from n place is from_is long h =
+    elim (put_cases (puts_of leaf) [] place h) [
+      | inl one ↦
+          let between = lies (place_of leaf) bytes (place, one.0) (subst (λ all. Contains all (place, one.0)) (puts_are leaf bytes is) one.1) in
+          let begun = between.from in
+          let ends = between.to in
+          (omega (arith, begun, from_is), record { begun = omega (arith, begun, from_is); ends = omega (arith, begun, ends, from_is, long) })
+      | inr none ↦ absurd (in_none (place, none.0) none.1)
+    ]
+
+mutual
+  tree_covers : (depth at : ℕ) (these : List ℕ) (one : Tree) (place : ℕ) → TreeHolds these one → AreBytes these
+      → IsPut (puts (leaves_seen (tree_visits depth at one))) place → Within at place (λ p. TreeCovers p one)
+  tree_covers depth at these (tree.Node rule size attrs start end kids) place holds b h = kids_cover depth at size these kids place holds b h
+
+  kid_covers : (depth at size : ℕ) (these : List ℕ) (one : Kid) (place : ℕ) → KidHolds these one → AreBytes these
+      → IsPut (puts (leaves_seen (kid_visits depth at size one))) place → Within at place (λ p. KidCovers p one)
+  kid_covers depth at size these (tree.Sub from to sub) place holds b h =
+      let inner = tree_covers (depth + 1) (at + from) (part these from to) sub place holds (bytes_part these from to b) h in
+      let le = inner.0 in
+      let same : place - (at + from) ≡ (place - at) - from = omega (arith, le) in
+      (omega (arith, le), (omega (arith, le), subst (λ p. TreeCovers p sub) same inner.1))
+  kid_covers depth at size these (tree.Token from to bytes) place holds b h =
+      leaf_lies (Text (at + from) bytes) bytes at from (length bytes) place refl refl refl h
+  kid_covers depth at size these (tree.Number from to prim high low) place holds b h =
+      leaf_lies (Number prim (at + from) (pos high) (pos low)) (take (width prim) (part these from to)) at from (width prim) place
+      (read_and_written prim (part these from to) high low holds (bytes_part these from to b)) refl
+      (let enough = holds.enough in omega (arith, length-take (width prim) (part these from to))) h
+  kid_covers depth at size these (tree.Raw from to bytes) place holds b h =
+      leaf_lies (Raw (at + from) bytes) bytes at from (length bytes) place refl refl refl h
+  kid_covers depth at size these (tree.Array sym items) place holds b h = kids_cover (depth + 1) at size these items place holds b h
+  kid_covers depth at size these (tree.Many sym items) place holds b h = kids_cover (depth + 1) at size these items place holds b h
+
+  kids_cover : (depth at size : ℕ) (these : List ℕ) (ones : Kids) (place : ℕ) → KidsHold these ones → AreBytes these
+      → IsPut (puts (leaves_seen (kids_visits depth at size ones))) place → Within at place (λ p. KidsCover p ones)
+  kids_cover depth at size these no_kids place holds b h = absurd (in_none (place, h.0) h.1)
+  kids_cover depth at size these (kid one more) place holds b h =
+      elim (put_cases (puts (leaves_seen (kid_visits depth at size one))) (puts (leaves_seen (kids_visits depth at size more))) place
+      (subst (λ all. IsPut all place) (both_puts depth at size one more) h)) [
+        | inl here ↦ let c = kid_covers depth at size these one place holds.0 b here in (c.0, inl c.1)
+        | inr there ↦ let c = kids_cover depth at size these more place holds.1 b there in (c.0, inr c.1)
+      ]
+
+pub put_is_covered : PutIsCovered
+put_is_covered s one place b holds h =
+    subst (λ p. TreeCovers p one) (let e : place - (0 + 0) ≡ place = omega arith in e) (tree_covers 1 (0 + 0) s one place holds b h).1
 
 pub all_put_comes_back : AllPutComesBack
 all_put_comes_back s one bytes holds within put = record {

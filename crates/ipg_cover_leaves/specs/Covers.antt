@@ -36,6 +36,10 @@ abbrev mutual
 abbrev pub CoveredIsPut : Type 0
 CoveredIsPut = (s : List ℕ) (one : Tree) (place : ℕ) → AreBytes s → TreeHolds s one → TreeCovers place one → IsPut (puts (leaves_of one)) place
 
+-- and at no other
+abbrev pub PutIsCovered : Type 0
+PutIsCovered = (s : List ℕ) (one : Tree) (place : ℕ) → AreBytes s → TreeHolds s one → IsPut (puts (leaves_of one)) place → TreeCovers place one
+
 -- and where they put a byte at each place, they put that input back
 abbrev pub AllPutComesBack : Type 0
 AllPutComesBack = (s : List ℕ) (one : Tree) → AreBytes s → TreeHolds s one → TreeWithin (length s) one

@@ -1,6 +1,6 @@
 //! Laws of leaves that are put back, each the contract of a function that does nothing.
 
-ghost use Rattle.ipg_cover_leaves.specs.Covers.{AllPutComesBack, CoveredIsPut};
+ghost use Rattle.ipg_cover_leaves.specs.Covers.{AllPutComesBack, CoveredIsPut, PutIsCovered};
 ghost use Rattle.ipg_cover_leaves.specs.Laws.{AnswersAreOne, InputComesBack, LeavesAgree};
 
 /// The leaves of a tree that holds bytes of an input, and lies within it, are refused neither for a number nor for a place
@@ -17,6 +17,11 @@ pub fn input_comes_back()
 /// At each place that the leaves of such a tree cover, they put a byte.
 pub fn covered_is_put()
     ensures { CoveredIsPut }
+{}
+
+/// And at no other.
+pub fn put_is_covered()
+    ensures { PutIsCovered }
 {}
 
 /// Where they put a byte at each place of the input, they put that input back.

@@ -4,7 +4,7 @@ ghost use Rattle.std.specs.Prelude.{◌≡◌, IfOk, OnOk, ◌++◌};
 ghost use Rattle.ipg_facts.specs.Gap as spec;
 ghost use Rattle.ipg_facts.specs.View.{scope_of};
 
-use crate::scope::{Scope, length_of, nought, width};
+use crate::scope::{Scope, length_of, nought};
 use crate::touching::Taken;
 use ipg_core::grammar::{Primitive, Sym};
 use ipg_facts_forms::{Fact, Form, mention, put_choice, put_leq, put_less, shifted};
@@ -69,7 +69,7 @@ fn put_primitive_misses(
 {
     match prim {
         Primitive::Bytes => put_misses_all(alloc, out, taken.l, taken.r),
-        _ => put_misses_first(alloc, out, taken.l, width(prim)),
+        _ => put_misses_first(alloc, out, taken.l, u64::from(prim.width())),
     }
 }
 

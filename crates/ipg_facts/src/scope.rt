@@ -2,7 +2,6 @@
 
 ghost use Rattle.std.specs.Prelude.{◌≡◌, IfOk, slice_get};
 ghost use Rattle.std.specs.Option.{option_copied};
-ghost use Rattle.ipg_core.specs.Touch.{width};
 ghost use Rattle.ipg_facts.specs.Reading as spec;
 ghost use Rattle.ipg_facts.specs.View.{scope_of};
 
@@ -41,29 +40,13 @@ pub fn nought(alloc: Global) -> Form
     number(alloc, 0)
 }
 
-/// How many bytes a number takes.
-pub fn width(prim: Primitive) -> u64
-    ensures { result ≡ width prim }
-{
-    match prim {
-        Primitive::U8 => 1,
-        Primitive::U16LE => 2,
-        Primitive::U16BE => 2,
-        Primitive::U32LE => 4,
-        Primitive::U32BE => 4,
-        Primitive::U64LE => 8,
-        Primitive::U64BE => 8,
-        Primitive::Bytes => 0,
-    }
-}
-
 /// The bytes that an item touches at least: a number its width, a rule that must touch one.
 pub fn sym_width(marks: &[bool], sym: &Sym) -> u64
     ensures { result ≡ spec.least_width marks.now (Some sym.now) }
 {
     match sym {
         Sym::Text(_) => 0,
-        Sym::Prim(prim) => width(*prim),
+        Sym::Prim(prim) => u64::from(prim.width()),
         Sym::Rule(rule) => { if is_marked(marks, *rule) { 1 } else { 0 } }
     }
 }

@@ -8,7 +8,7 @@ ghost use Rattle.ipg_facts.specs.Members as spec;
 ghost use Rattle.ipg_facts.specs.View.{scope_of};
 
 use crate::reading::put_ranges;
-use crate::scope::{Scope, greatest, length_of, nought, width};
+use crate::scope::{Scope, greatest, length_of, nought};
 use ipg_core::grammar::{Primitive, Sym};
 use ipg_facts_forms::{Fact, Form, mention, put_choice, put_equal, put_leq, put_less, shifted};
 use ipg_facts_holder::is_marked;
@@ -177,7 +177,7 @@ fn put_number_touches(
 ) -> Result<(), AllocError>
     ensures { OnOk result (out.new.items ≡ out.old.items ++ spec.number_touches (scope_of scope.now) taken.now.term taken.now.l.now taken.now.r.now prim) }
 {
-    put_touches_first(alloc, out, scope, taken, width(prim))?;
+    put_touches_first(alloc, out, scope, taken, u64::from(prim.width()))?;
     put_number_ranges(alloc, out, scope, taken.term, prim)
 }
 

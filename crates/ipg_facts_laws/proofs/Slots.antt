@@ -1,5 +1,5 @@
 -- What a slot puts holds where it has a result.
-use Rattle.std.proofs.Common.{◌≡◌, ℕ, zero, suc, ◌+◌, ◌-◌, ◌<◌, ◌≤◌, ◌^◌, Bool, true, false, ◌&&◌, ◌||◌, List, [], ◌++◌, length, refl, sym, ap, subst}
+use Rattle.std.proofs.Common.{◌≡◌, ℕ, zero, suc, ◌+◌, ◌-◌, ◌<◌, ◌≤◌, ◌^◌, Bool, true, false, not, ◌||◌, List, [], ◌++◌, length, refl, sym, ap, subst}
 use Rattle.std.proofs.Common.{◌∙◌, arith, ℤ, pos, negsuc, ◌+ℤ◌, Option, Some, None, if◌then◌else◌, nat_lt, nat_eq}
 use Rattle.std.specs.Prelude.{◌≤ℤ◌, bytes_eq, codes}
 use Rattle.std.proofs.lemmas.Int.{ints}
@@ -229,12 +229,12 @@ module _ (v : Valuation) (scope : Scope) (env : Environment) (fits : Fits v scop
       → seen env.names (sym_of d.kid) Start (done_at env.done term) ≡ field_of env.names Start d.kid
   read_is term d z e =
       ap (seen env.names (sym_of d.kid) Start) e
-      ∙ ap (λ t. if t then field_of env.names Start d.kid else None) (or_true (d.is_switch && is_text (sym_of d.kid)) _ (same_is (sym_of d.kid)))
+      ∙ ap (λ t. if t then field_of env.names Start d.kid else None) (or_true (not d.is_switch || is_text (sym_of d.kid)) _ (same_is (sym_of d.kid)))
 
   read_end : (term : ℕ) (d : Done) → done_at env.done term ≡ Some d → seen env.names (sym_of d.kid) End (done_at env.done term) ≡ field_of env.names End d.kid
   read_end term d e =
       ap (seen env.names (sym_of d.kid) End) e ∙ ap (λ t. if t then field_of env.names End d.kid else None)
-      (or_true (d.is_switch && is_text (sym_of d.kid)) _ (same_is (sym_of d.kid)))
+      (or_true (not d.is_switch || is_text (sym_of d.kid)) _ (same_is (sym_of d.kid)))
 
   begins_at : (term : ℕ) (d : Done) (x : ℕ) → done_at env.done term ≡ Some d → field_of env.names Start d.kid ≡ Some (pos x) → x ≤ env.eoi
       → Stands v (start_of scope term) (pos x)

@@ -1,13 +1,12 @@
 //! Whether expressions, and whether variables, are the same.
 
 ghost use Rattle.std.specs.Prelude.{◌≡◌};
-ghost use Rattle.ipg_core.specs.Grammar.{primitive_number};
 ghost use Rattle.ipg_core.specs.declared.grammar.CoreExpr.{out-CoreExpr};
 ghost use Rattle.ipg_core.specs.declared.grammar.CoreExpr.TheOpen.{CoreExpr-F};
 ghost use Rattle.ipg_facts_variables.specs.Variable as spec;
 
 use crate::variable::{Quantity, Side, Variable};
-use ipg_core::grammar::{CoreExpr, CoreField, Primitive, Sym};
+use ipg_core::grammar::{CoreExpr, CoreField, Sym};
 use ipg_num::Op2;
 
 pub fn operator_number(op: Op2) -> u64
@@ -33,21 +32,6 @@ pub fn operator_number(op: Op2) -> u64
     }
 }
 
-fn primitive_number(prim: Primitive) -> u64
-    ensures { result ≡ primitive_number prim }
-{
-    match prim {
-        Primitive::U8 => 0,
-        Primitive::U16LE => 1,
-        Primitive::U16BE => 2,
-        Primitive::U32LE => 3,
-        Primitive::U32BE => 4,
-        Primitive::U64LE => 5,
-        Primitive::U64BE => 6,
-        Primitive::Bytes => 7,
-    }
-}
-
 fn same_field(a: CoreField, b: CoreField) -> bool
     ensures { result ≡ spec.same_field a b }
 {
@@ -64,7 +48,7 @@ fn same_sym(a: &Sym, b: &Sym) -> bool
 {
     match (a, b) {
         (Sym::Text(a), Sym::Text(b)) => a.as_slice() == b.as_slice(),
-        (Sym::Prim(a), Sym::Prim(b)) => primitive_number(*a) == primitive_number(*b),
+        (Sym::Prim(a), Sym::Prim(b)) => a.number() == b.number(),
         (Sym::Rule(a), Sym::Rule(b)) => a == b,
         _ => false,
     }

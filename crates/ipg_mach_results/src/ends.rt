@@ -35,20 +35,6 @@ pub fn touches(ends: Ends) -> bool
     ends.start < ends.end
 }
 
-/// How many bytes a number takes; 0 for raw bytes, which have no width of their own.
-pub fn width(prim: Primitive) -> u32
-    ensures value { result ≡ spec.width prim }
-    ensures small { result ≤ 8 }
-{
-    match prim {
-        Primitive::U8 => 1,
-        Primitive::U16LE | Primitive::U16BE => 2,
-        Primitive::U32LE | Primitive::U32BE => 4,
-        Primitive::U64LE | Primitive::U64BE => 8,
-        Primitive::Bytes => 0,
-    }
-}
-
 /// The text of a terminal, by the number of its symbol; empty where that is none.
 fn text(tables: &Tables, sym: u32) -> &[u8]
     ensures { (bytes : List ℕ) → slice_get tables.now.syms sym ≡ Some (Text bytes) → result.now ≡ bytes }
@@ -90,7 +76,7 @@ fn text_ends(from: u32, to: u32, bytes: &[u8]) -> Ends
 fn number_ends(from: u32, to: u32, prim: Primitive) -> Ends
     ensures { ends_view result ≡ spec.moved from (spec.first_of (to - from) (spec.width prim)) }
 {
-    let wide = width(prim);
+    let wide = prim.width();
     if wide == 0 {
         nothing_of(from, to)
     } else {

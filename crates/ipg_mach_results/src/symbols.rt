@@ -18,7 +18,7 @@ use std::alloc::Allocator;
 fn same_primitive(a: Primitive, b: Primitive) -> bool
     ensures { result ≡ nat_eq (grammar.primitive_number a) (grammar.primitive_number b) }
 {
-    a as u8 == b as u8
+    a.number() == b.number()
 }
 
 /// Whether two symbols are one.
@@ -88,7 +88,8 @@ fn is_of<A: Allocator + Clone + Drop>(
     }
 }
 
-/// Whether a reference by this symbol may read the result of a term, which may be a switch.
+/// Whether a reference by this symbol may read the result of a term: of a switch by the branch that it took, or by a string, which
+/// no written reference has; of another term by any symbol.
 pub fn is_read_by<A: Allocator + Clone + Drop>(
     store: &Store<A>,
     tables: &Tables,
@@ -98,5 +99,5 @@ pub fn is_read_by<A: Allocator + Clone + Drop>(
 ) -> bool
     ensures { OfKid tables.now store.now kid (λ one. result ≡ spec.is_read_by (record { is_switch = is_switch; kid = one }) sym.now) }
 {
-    (is_switch && is_text(sym)) || is_of(store, tables, kid, sym)
+    !is_switch || is_text(sym) || is_of(store, tables, kid, sym)
 }

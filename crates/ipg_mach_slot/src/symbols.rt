@@ -17,7 +17,6 @@ ghost use Rattle.ipg_mach_moves.specs.Moves.{silent};
 use crate::found::Found;
 use ipg_core::grammar::{Primitive, Sym};
 use ipg_mach_nodes::Kid;
-use ipg_mach_results::width;
 use ipg_table::tables::Tables;
 
 /// The ends of an interval as places, where it is valid.
@@ -52,13 +51,7 @@ fn primitive_end(from: u32, to: u32, prim: Primitive) -> Option<u32>
 {
     match prim {
         Primitive::Bytes => Some(to),
-        Primitive::U8 => number_end(from, to, 1),
-        Primitive::U16LE => number_end(from, to, 2),
-        Primitive::U16BE => number_end(from, to, 2),
-        Primitive::U32LE => number_end(from, to, 4),
-        Primitive::U32BE => number_end(from, to, 4),
-        Primitive::U64LE => number_end(from, to, 8),
-        Primitive::U64BE => number_end(from, to, 8),
+        _ => number_end(from, to, prim.width()),
     }
 }
 
@@ -131,7 +124,7 @@ fn number(prim: Primitive, ends: (u32, u32), bytes: &[u8]) -> Found
     ensures { (src : Source) (st : Stored) (at : ℕ) (f : Frame) (own : Values) → IsInterval (length f.bytes) ends.0 ends.1
         → length bytes.now ≡ ends.1 - ends.0 → IsFound src st at f own result (spec.number_on ends.0 ends.1 bytes.now prim) }
 {
-    if bytes.len() < width(prim) as usize {
+    if bytes.len() < prim.width() as usize {
         return Found::NoTree;
     }
     let (high, low) = halves(prim, bytes);
@@ -157,13 +150,7 @@ fn primitive(prim: Primitive, ends: (u32, u32), bytes: &[u8]) -> Found
             from: ends.0,
             to: ends.1,
         }),
-        Primitive::U8 => number(prim, ends, bytes),
-        Primitive::U16LE => number(prim, ends, bytes),
-        Primitive::U16BE => number(prim, ends, bytes),
-        Primitive::U32LE => number(prim, ends, bytes),
-        Primitive::U32BE => number(prim, ends, bytes),
-        Primitive::U64LE => number(prim, ends, bytes),
-        Primitive::U64BE => number(prim, ends, bytes),
+        _ => number(prim, ends, bytes),
     }
 }
 

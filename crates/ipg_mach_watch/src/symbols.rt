@@ -9,7 +9,6 @@ ghost use Rattle.ipg_mach_watch.specs.Agreeing.{begins};
 
 use ipg_core::grammar::{Primitive, Sym};
 use ipg_mach_failures::{Cause, Miss};
-use ipg_mach_results::width;
 use ipg_mach_slot::PartSite;
 
 /// Whether the first byte is this one.
@@ -57,7 +56,7 @@ fn token(branch: u64, from: u32, bytes: &[u8], token: &[u8]) -> Option<Miss>
 fn number(branch: u64, from: u32, bytes: &[u8], prim: Primitive) -> Option<Miss>
     ensures { result ≡ spec.number_fails branch from bytes.now prim }
 {
-    if bytes.len() >= width(prim) as usize {
+    if bytes.len() >= prim.width() as usize {
         return None;
     }
     let left = bytes.len() as u64;
@@ -89,7 +88,7 @@ fn number_item(bytes: &[u8], prim: Primitive, from: u32, to: u32) -> Option<Miss
     ensures { result ≡ spec.item_fails bytes.now from to (Prim prim) (item_end from to (Prim prim)) }
 {
     let left = to - from;
-    if left >= width(prim) {
+    if left >= prim.width() {
         return None;
     }
     Some(Miss {

@@ -27,7 +27,7 @@ use Rattle.ipg_names_scope.specs.declared.marks.Family.TheVariants.{Calls, Items
 use Rattle.ipg_names.specs.declared.fault.NameFault.TheVariants.{DuplicateAttr}
 use Rattle.ipg_names_scope.specs.Roster.{ListedRule}
 use Rattle.ipg_names_scope.specs.Terms.{has, sets}
-use Rattle.ipg_names_scope.specs.Primitives.{primitive_of}
+use Rattle.ipg_core.specs.Lines.{primitive_of}
 use Rattle.ipg_names_scope.specs.Scope.{Scope, home_of, is_visible, entry_visible, rule_named, rule_sym, sym_else, sym_named, scope_of}
 use Rattle.ipg_names_scope.specs.Names.{NameList, term_names, terms_names}
 use Rattle.ipg_names.specs.Resolved.{sym_or_empty, symbol, what_symbol, case_in, expr_in, term_in, terms_from, rule_in, rules_from}

@@ -7,7 +7,7 @@ use Rattle.std.proofs.lemmas.Bool.Decides.{nat_tests}
 use Rattle.ipg_names.specs.declared.fault.NameFault.TheVariants.{DuplicateRule}
 use Rattle.ipg_names_scope.specs.Nearest.{first_from}
 use Rattle.ipg_names_scope.specs.Roster.{ListedRule, name_of, head_at}
-use Rattle.ipg_names_scope.specs.Primitives.{primitive_of}
+use Rattle.ipg_core.specs.Lines.{primitive_of}
 use Rattle.ipg_names_scope.specs.Scope.{rule_named, is_named}
 use Rattle.ipg_names.specs.Faults.{Faults, head_faults, when}
 use Rattle.ipg_names.specs.Heads.{is_rule}

@@ -7,7 +7,7 @@ use Rattle.ipg_core.specs.declared.grammar.Primitive.{Primitive}
 use Rattle.ipg_core.specs.declared.grammar.Sym.{Sym}
 use Rattle.ipg_core.specs.declared.grammar.Sym.TheVariants.{Prim, Rule}
 use Rattle.ipg_names_scope.specs.Roster.{ListedRule, name_of, head_at, roster_of}
-use Rattle.ipg_names_scope.specs.Primitives.{primitive_of}
+use Rattle.ipg_core.specs.Lines.{primitive_of}
 use Rattle.ipg_names_scope.specs.Scope.{is_named, is_visible, entry_visible, rule_named, rule_sym, sym_else, sym_named}
 use Rattle.ipg_names.specs.Refusals.{IsDuplicateRule, IsRuleFor, IsPrimitive}
 use Rattle.ipg_names.proofs.Bytes.{same_bytes, bytes_same}

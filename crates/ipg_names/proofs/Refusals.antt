@@ -16,7 +16,8 @@ use Rattle.ipg_names.specs.declared.fault.NameFault.{NameFault}
 use Rattle.ipg_names.specs.declared.fault.NameFault.TheVariants.{DuplicateRule, UnknownRule, DuplicateAttr, UnknownAttr, PartAttr, NoOccurrence, Memory}
 use Rattle.ipg_names_scope.specs.declared.marks.Family.TheVariants.{Calls, Items}
 use Rattle.ipg_names_scope.specs.Roster.{ListedRule, name_of, head_at, alts_of, roster_of}
-use Rattle.ipg_names_scope.specs.Primitives.{primitive_of, primitive_has}
+use Rattle.ipg_core.specs.Lines.{primitive_of}
+use Rattle.ipg_names_scope.specs.Primitives.{primitive_has}
 use Rattle.ipg_names_scope.specs.Terms.{has, sets}
 use Rattle.ipg_names_scope.specs.Nearest.{nearest}
 use Rattle.ipg_names_scope.specs.Names.{attr_names}

@@ -8,7 +8,7 @@ use Rattle.ipg_ast.specs.declared.grammar.Alt.{out-Alt}
 use Rattle.ipg_names.specs.declared.fault.NameFault.{NameFault}
 use Rattle.ipg_names.specs.declared.fault.NameFault.TheVariants.{DuplicateRule}
 use Rattle.ipg_names_scope.specs.Roster.{ListedRule, name_of, head_at, alts_of, roster_of}
-use Rattle.ipg_names_scope.specs.Primitives.{primitive_of}
+use Rattle.ipg_core.specs.Lines.{primitive_of}
 use Rattle.ipg_names_scope.specs.Names.{attr_names}
 use Rattle.ipg_names_scope.specs.Scope.{Scope}
 use Rattle.ipg_names.specs.Resolved.{alt_scopes}

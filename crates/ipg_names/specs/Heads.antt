@@ -1,6 +1,6 @@
 -- The fault of a head, where the rule that is known by its name is at hand.
 use Rattle.std.specs.Prelude.{ℕ, Bool, false, ◌||◌, not, List, Option, Some, None, is_some, nat_eq, if◌then◌else◌}
-use Rattle.ipg_names_scope.specs.Primitives.{primitive_of}
+use Rattle.ipg_core.specs.Lines.{primitive_of}
 use Rattle.ipg_names.specs.declared.fault.NameFault.{NameFault}
 use Rattle.ipg_names.specs.declared.fault.NameFault.TheVariants.{DuplicateRule}
 

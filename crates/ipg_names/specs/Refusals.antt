@@ -12,7 +12,8 @@ use Rattle.ipg_names.specs.declared.fault.NameFault.TheVariants.{DuplicateRule, 
 use Rattle.ipg_names_scope.specs.declared.marks.Family.{Family}
 use Rattle.ipg_names_scope.specs.declared.marks.Family.TheVariants.{Calls, Items}
 use Rattle.ipg_names_scope.specs.Roster.{ListedRule, name_of, head_at, alts_of, roster_of}
-use Rattle.ipg_names_scope.specs.Primitives.{primitive_of, primitive_has}
+use Rattle.ipg_core.specs.Lines.{primitive_of}
+use Rattle.ipg_names_scope.specs.Primitives.{primitive_has}
 use Rattle.ipg_names_scope.specs.Terms.{has, sets}
 use Rattle.ipg_names_scope.specs.Scope.{home_of, alt_sets}
 use Rattle.ipg_names.specs.Fault.{is_before}

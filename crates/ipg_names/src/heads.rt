@@ -8,7 +8,8 @@ ghost use Rattle.ipg_names.specs.Faults.{head_faults};
 ghost use Rattle.ipg_names.specs.Heads as spec;
 
 use crate::fault::{NameFault, earlier};
-use ipg_names_scope::{ListedRule, Numbers, number_at, primitive};
+use ipg_core::grammar::Primitive;
+use ipg_names_scope::{ListedRule, Numbers, number_at};
 
 /// The first fault of a head.
 pub fn heads_fault(numbers: &Numbers<'_>, roster: &[ListedRule<'_>]) -> Option<NameFault>
@@ -30,7 +31,7 @@ fn head_fault(numbers: &Numbers<'_>, rule: u32, entry: &ListedRule<'_>) -> Optio
     let at = entry.rule.name.span.from;
     if !is_rule(number_at(numbers, name), rule) {
         Some(NameFault::DuplicateRule { at })
-    } else if primitive(name).is_some() {
+    } else if Primitive::of_word(name).is_some() {
         Some(NameFault::DuplicateRule { at })
     } else {
         None

@@ -15,7 +15,7 @@ use Rattle.ipg_names_scope.specs.declared.tables.NameTables.{NameTables}
 use Rattle.ipg_names_scope.specs.Roster.{ListedRule}
 use Rattle.ipg_names_scope.specs.Terms.{has}
 use Rattle.ipg_names_scope.specs.Nearest.{last_from, left_of, first_from}
-use Rattle.ipg_names_scope.specs.Primitives.{primitive_of}
+use Rattle.ipg_core.specs.Lines.{primitive_of}
 use Rattle.ipg_names_scope.specs.Scope.{home_of, scope_of, sym_else, sym_named, rule_named, rule_sym, entry_visible, alt_sets, alts_at, some_sets, all_set}
 use Rattle.ipg_names_scope.specs.View.{entries_view}
 use Rattle.ipg_names_scope.specs.Lookup.{shown}

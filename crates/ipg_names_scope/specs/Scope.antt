@@ -11,7 +11,8 @@ use Rattle.ipg_names_scope.specs.declared.marks.Family.TheVariants.{Calls, Items
 use Rattle.ipg_names_scope.specs.Roster.{ListedRule, name_of, alts_of}
 use Rattle.ipg_names_scope.specs.Terms.{has, sets}
 use Rattle.ipg_names_scope.specs.Nearest.{first_from, nearest}
-use Rattle.ipg_names_scope.specs.Primitives.{primitive_of, primitive_has}
+use Rattle.ipg_core.specs.Lines.{primitive_of}
+use Rattle.ipg_names_scope.specs.Primitives.{primitive_has}
 
 pub record Scope : Type 0 where
   -- the number of the term at hand

@@ -20,7 +20,8 @@ use Rattle.ipg_names_scope.specs.Fields.{rows_set, row_of}
 use Rattle.ipg_names_scope.specs.declared.tables.TermSpot.{TermSpot}
 use Rattle.ipg_names_scope.specs.declared.scope.Callee.{Callee}
 use Rattle.ipg_names_scope.specs.declared.scope.Callee.TheVariants as callee
-use Rattle.ipg_names_scope.specs.Primitives.{primitive_of, primitive_has}
+use Rattle.ipg_core.specs.Lines.{primitive_of}
+use Rattle.ipg_names_scope.specs.Primitives.{primitive_has}
 use Rattle.ipg_names_scope.specs.Scope.{Scope, sym_else, is_visible, rule_named, home_of, scope_of}
 use Rattle.ipg_names_scope.specs.Marks.{look, nearest_spot, spots_of}
 use Rattle.ipg_names_scope.specs.Lookup.{shown}

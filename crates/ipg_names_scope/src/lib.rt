@@ -16,7 +16,6 @@ pub use attrs::{Attrs, attrs_of, listed};
 pub use fields::fields_of;
 pub use heads::{Numbers, number_at, numbers_of};
 pub use marks::Places;
-pub use primitives::primitive;
 pub use roster::{ListedRule, roster_of};
 pub use scope::{
     Callee, all_have, attr, call_at, callee_at, is_before, is_outer, is_own, is_var, items_at,

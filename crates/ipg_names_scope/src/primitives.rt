@@ -1,4 +1,4 @@
-//! The primitives by their names, and their attributes.
+//! The attributes of primitives.
 ghost use Rattle.std.specs.Prelude.{◌≡◌, bytes_eq};
 ghost use Rattle.ipg_names_scope.specs.Primitives as spec;
 
@@ -8,38 +8,6 @@ fn is_word(name: &[u8], word: &str) -> bool
     ensures { result ≡ bytes_eq name.now word.now }
 {
     name == word.as_bytes()
-}
-
-pub fn primitive(name: &[u8]) -> Option<Primitive>
-    ensures { result ≡ spec.primitive_of name.now }
-{
-    if is_word(name, "U8") {
-        Some(Primitive::U8)
-    } else if is_word(name, "U16LE") {
-        Some(Primitive::U16LE)
-    } else if is_word(name, "U16BE") {
-        Some(Primitive::U16BE)
-    } else if is_word(name, "U32LE") {
-        Some(Primitive::U32LE)
-    } else if is_word(name, "U32BE") {
-        Some(Primitive::U32BE)
-    } else {
-        wide_primitive(name)
-    }
-}
-
-fn wide_primitive(name: &[u8]) -> Option<Primitive>
-    ensures { result ≡ spec.wide_primitive_of name.now }
-{
-    if is_word(name, "U64LE") {
-        Some(Primitive::U64LE)
-    } else if is_word(name, "U64BE") {
-        Some(Primitive::U64BE)
-    } else if is_word(name, "Bytes") {
-        Some(Primitive::Bytes)
-    } else {
-        None
-    }
 }
 
 /// Whether the primitive has an attribute of that name.

@@ -8,7 +8,7 @@ ghost use Rattle.ipg_names_scope.specs.Marks.{look};
 
 use crate::heads::number_at;
 use crate::marks::{Places, nearest, spots_at};
-use crate::primitives::{primitive, primitive_has};
+use crate::primitives::primitive_has;
 use crate::roster::ListedRule;
 use crate::tables::{TermSite, TermSpot};
 use ipg_core::grammar::Primitive;
@@ -65,7 +65,7 @@ fn rule_callee(site: &TermSite<'_, '_>, name: &[u8]) -> Option<Callee>
 pub fn callee_at(spot: &TermSpot<'_, '_, '_>, name: &[u8]) -> Option<Callee>
     ensures { option_map callee_sym result ≡ (spot_scope spot.now).sym name.now }
 {
-    match primitive(name) {
+    match Primitive::of_word(name) {
         Some(primitive) => Some(Callee::Prim(primitive)),
         None => rule_callee(spot.site, name),
     }

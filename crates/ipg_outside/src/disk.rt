@@ -4,9 +4,11 @@ ghost use Rattle.std.specs.Io.KnownBytes.{IsAtEnd};
 ghost use Rattle.ipg_outside.specs.Files.{AreBytes, ReadWhole, ReadCut, IfTooLarge, Moves, told_by, untold};
 
 use crate::files::{FileFault, Files};
+use crate::installed;
 use std::alloc::Global;
-use std::fs::{self, OpenFile};
-use std::io::{self, ErrorKind, Read};
+use std::fs::OpenFile;
+use std::io::{self, ErrorKind, Input, Read};
+use std::rt::Env;
 
 /// So many bytes are read at once at most, and at least.
 const MOST_AT_ONCE: usize = 1 << 16;
@@ -14,13 +16,15 @@ const MOST_AT_ONCE: usize = 1 << 16;
 const LEAST_AT_ONCE: usize = 1 << 12;
 
 /// Files of the system, of which nothing is told. One count serves all names.
+///
+/// `-` names the standard input, and `@` the list of installed formats. `@NAME` names the grammar of one, where no file is named so.
 #[derive(Drop)]
-pub struct DiskFiles<R: std::rt::Files + Drop> {
+pub struct DiskFiles<R: std::rt::Files + Env + Input + AllocGlobal + Clone + Drop> {
     rt: R,
     faults: u64,
 }
 
-impl<R: std::rt::Files + Drop> DiskFiles<R> {
+impl<R: std::rt::Files + Env + Input + AllocGlobal + Clone + Drop> DiskFiles<R> {
     /// The files of this machine; no reading has failed yet.
     pub fn new(rt: R) -> DiskFiles<R>
         ensures rt { result.rt ≡ rt }
@@ -30,13 +34,13 @@ impl<R: std::rt::Files + Drop> DiskFiles<R> {
     }
 }
 
-impl<R: std::rt::Files + Drop> Files for DiskFiles<R> {
+impl<R: std::rt::Files + Env + Input + AllocGlobal + Clone + Drop> Files for DiskFiles<R> {
     ghost told = { λ _ _. untold };
 
     ghost faults = { λ files _. files.faults };
 
     fn read_all(&mut self, alloc: Global, name: &str, limit: u64) -> Result<Vec<u8>, FileFault> {
-        let answer = read_file(&self.rt, alloc, name, limit);
+        let answer = read_named(&self.rt, alloc, name, limit);
         if matches!(answer, Err(FileFault::Failed)) {
             self.faults = self.faults.saturating_add(1);
         }
@@ -44,7 +48,8 @@ impl<R: std::rt::Files + Drop> Files for DiskFiles<R> {
     }
 }
 
-fn read_file<R: std::rt::Files>(
+/// Reads what a name stands for.
+fn read_named<R: std::rt::Files + Env + Input + AllocGlobal + Clone + Drop>(
     rt: &R,
     alloc: Global,
     name: &str,
@@ -54,7 +59,50 @@ fn read_file<R: std::rt::Files>(
     ensures whole { IfOk result (λ bytes. ReadWhole untold limit bytes.items) }
     ensures cut { IfErr result (λ fault. IfTooLarge fault (ReadCut untold limit)) }
 {
-    let mut file = match fs::open(rt, name) {
+    match name {
+        "-" => read_input(rt, alloc, limit),
+        "@" => read_list(rt, alloc, limit),
+        _ => read_file(rt, alloc, name, limit),
+    }
+}
+
+/// Reads the standard input.
+fn read_input<R: Input>(rt: &R, alloc: Global, limit: u64) -> Result<Vec<u8>, FileFault>
+    requires { limit < 2 ^ 62 }
+    ensures whole { IfOk result (λ bytes. ReadWhole untold limit bytes.items) }
+    ensures cut { IfErr result (λ fault. IfTooLarge fault (ReadCut untold limit)) }
+{
+    read_up_to(&mut rt.reader(), alloc, limit, 0)
+}
+
+/// Reads the list of installed formats, as a file that holds it.
+fn read_list<R: std::rt::Files + Env + AllocGlobal + Clone + Drop>(
+    rt: &R,
+    alloc: Global,
+    limit: u64,
+) -> Result<Vec<u8>, FileFault>
+    requires { limit < 2 ^ 62 }
+    ensures whole { IfOk result (λ bytes. ReadWhole untold limit bytes.items) }
+    ensures cut { IfErr result (λ fault. IfTooLarge fault (ReadCut untold limit)) }
+{
+    let list = match installed::list(rt) {
+        Ok(list) => list,
+        Err(error) => return Err(fault_of(&error)),
+    };
+    read_up_to(&mut list.as_slice(), alloc, limit, 0)
+}
+
+fn read_file<R: std::rt::Files + Env + AllocGlobal>(
+    rt: &R,
+    alloc: Global,
+    name: &str,
+    limit: u64,
+) -> Result<Vec<u8>, FileFault>
+    requires { limit < 2 ^ 62 }
+    ensures whole { IfOk result (λ bytes. ReadWhole untold limit bytes.items) }
+    ensures cut { IfErr result (λ fault. IfTooLarge fault (ReadCut untold limit)) }
+{
+    let mut file = match installed::open(rt, name) {
         Ok(file) => file,
         Err(error) => return Err(fault_of(&error)),
     };

@@ -4,6 +4,7 @@
 
 mod disk;
 mod files;
+mod installed;
 mod mem_files;
 mod mem_sink;
 mod sink;

@@ -6,10 +6,10 @@ ghost use Rattle.ipg_proof.specs.Calls as spec;
 ghost use Rattle.ipg_proof.specs.Seen.{seen};
 
 use crate::calls::CallGraph;
-use crate::room::ask_room;
 use ipg_facts::keep;
 use ipg_facts_forms::joint;
 use ipg_facts_laws::laws::{conditions_are_parts, joint_is_part};
+use ipg_facts_room::ask_room;
 use ipg_lin::{Boxed, Formula};
 use std::alloc::{AllocError, Global};
 

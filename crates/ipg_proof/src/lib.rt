@@ -12,7 +12,6 @@ pub mod laws;
 mod live;
 mod placing;
 mod reading;
-mod room;
 mod speaking;
 mod text;
 mod verifying;

@@ -9,7 +9,7 @@ ghost use Rattle.ipg_mach_results.specs.Standing.{OfTree};
 
 use ipg_core::grammar::{Primitive, Sym};
 use ipg_mach_nodes::{Kid, RunId};
-use ipg_mach_results::{Ends, width};
+use ipg_mach_results::Ends;
 use ipg_table::tables::Tables;
 use ipg_tree_walk::Parsed;
 use std::alloc::Allocator;
@@ -63,7 +63,7 @@ pub fn ends_of<A: Allocator + Clone + Drop>(p: &Parsed<'_, A>, kid: Kid) -> Ends
     match kid {
         Kid::Node { id, from, .. } => node_ends(p, id, from),
         Kid::Text { sym, from, to } => first_of(from, to, text(p.tables(), sym).len()),
-        Kid::Number { prim, from, to, .. } => first_of(from, to, width(prim) as usize),
+        Kid::Number { prim, from, to, .. } => first_of(from, to, prim.width() as usize),
         Kid::Raw { from, to } => Ends {
             start: u64::from(from),
             end: u64::from(to),

@@ -9,7 +9,6 @@ ghost use Rattle.ipg_table.specs.Rows.{StandFor};
 ghost use Rattle.ipg_query.specs.Picked.{name_of, found};
 ghost use Rattle.ipg_query.specs.Spots.{fits};
 
-use ipg_core::grammar::Primitive;
 use ipg_mach_nodes::{Kid, RunId};
 use ipg_table::tables::Tables;
 use ipg_tree_walk::Parsed;
@@ -33,21 +32,6 @@ fn rule_name(tables: &Tables, rule: u32) -> &[u8]
     }
 }
 
-fn primitive_name(prim: Primitive) -> &'static [u8]
-    ensures { result.now ≡ lines.primitive_name prim }
-{
-    match prim {
-        Primitive::U8 => b"U8",
-        Primitive::U16LE => b"U16LE",
-        Primitive::U16BE => b"U16BE",
-        Primitive::U32LE => b"U32LE",
-        Primitive::U32BE => b"U32BE",
-        Primitive::U64LE => b"U64LE",
-        Primitive::U64BE => b"U64BE",
-        Primitive::Bytes => b"Bytes",
-    }
-}
-
 /// The name of the rule of a node; empty where there is no node.
 fn node_name<'b, A: Allocator + Clone + Drop>(p: &'b Parsed<'_, A>, node: RunId) -> &'b [u8]
     ensures { (src : Source) (g : Grammar) (at : ℕ) (one : Tree) → StandFor p.now.parse.tables g → StandsTree src p.now.parse.store at node one
@@ -67,7 +51,7 @@ fn name_of<'b, A: Allocator + Clone + Drop>(p: &'b Parsed<'_, A>, kid: Kid) -> &
     match kid {
         Kid::Node { id, .. } => node_name(p, id),
         Kid::Text { .. } => b"tok",
-        Kid::Number { prim, .. } => primitive_name(prim),
+        Kid::Number { prim, .. } => prim.word(),
         Kid::Raw { .. } => b"Bytes",
         Kid::Array { .. } => &[],
         Kid::Many { .. } => &[],

@@ -12,9 +12,11 @@ ghost use Rattle.ipg_store_body.specs.Reading.{slot_at, case_at, term_fields, ar
 use crate::body::Body;
 use crate::tag::{
     EXPR_TAGS, ExprTag, FIELD_TAGS, FieldTag, HOLDER_TAGS, HolderTag, LEAVES, Leaf, Node,
-    OPERATORS, PRIMITIVES, SYM_TAGS, SymTag, TERM_TAGS, TermTag,
+    OPERATORS, SYM_TAGS, SymTag, TERM_TAGS, TermTag,
 };
-use ipg_core::grammar::{CoreAlt, CoreExpr, CoreField, CoreRule, CoreSlot, CoreTerm, Name, Sym};
+use ipg_core::grammar::{
+    CoreAlt, CoreExpr, CoreField, CoreRule, CoreSlot, CoreTerm, Name, PRIMITIVES, Sym,
+};
 use ipg_num::{Held, List};
 use ipg_reader::laws::{numbers_are_exact, texts_are_exact};
 use ipg_reader::{Fault, Halt, Reader, whole};

@@ -1,6 +1,5 @@
 //! The bytes that tell variants apart: each is a place in one of these tables.
 
-use ipg_core::grammar::Primitive;
 use ipg_num::Op2;
 
 /// Of a symbol.
@@ -108,17 +107,6 @@ pub const TERM_TAGS: [TermTag; 6] = [
 ];
 
 pub const HOLDER_TAGS: [HolderTag; 2] = [HolderTag::Global, HolderTag::Local];
-
-pub const PRIMITIVES: [Primitive; 8] = [
-    Primitive::U8,
-    Primitive::U16LE,
-    Primitive::U16BE,
-    Primitive::U32LE,
-    Primitive::U32BE,
-    Primitive::U64LE,
-    Primitive::U64BE,
-    Primitive::Bytes,
-];
 
 pub const OPERATORS: [Op2; 16] = [
     Op2::Add,

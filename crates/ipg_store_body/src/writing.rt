@@ -1,7 +1,6 @@
 //! Writes a body.
 
 ghost use Rattle.std.specs.Prelude.{◌≡◌, ◌++◌, [], ◌∷◌, IfOk, OnOk};
-ghost use Rattle.ipg_core.specs.Grammar.{primitive_number};
 ghost use Rattle.ipg_store_body.specs.Fits.{FitsSym, FitsField, FitsHolder, FitsWhereNests};
 ghost use Rattle.ipg_store_body.specs.Fits.{SlotFits, CaseFits, TermFits, AltFits, RuleFits, NestsRule, IsBody, bare};
 ghost use Rattle.std.specs.List.{AllByRecursion};
@@ -11,9 +10,7 @@ ghost use Rattle.ipg_store_body.specs.Format.{sym_text, field_text, operator_num
 ghost use Rattle.ipg_store_body.specs.Format.{holder_text, rule_text, body_text};
 
 use ipg_core::accepted::Core;
-use ipg_core::grammar::{
-    CoreAlt, CoreExpr, CoreField, CoreRule, CoreSlot, CoreTerm, Name, Primitive, Sym,
-};
+use ipg_core::grammar::{CoreAlt, CoreExpr, CoreField, CoreRule, CoreSlot, CoreTerm, Name, Sym};
 use ipg_num::{Held, Op2};
 use std::alloc::{AllocError, Global};
 
@@ -51,13 +48,6 @@ fn put_text(out: &mut Vec<u8>, text: &[u8]) -> Result<(), AllocError>
     out.extend_from_slice(text)
 }
 
-/// The place of a primitive in their list.
-fn primitive_byte(prim: Primitive) -> u8
-    ensures { result ≡ primitive_number prim }
-{
-    prim as u8
-}
-
 /// The place of an operator in their list.
 fn operator_byte(op: Op2) -> u8
     ensures { result ≡ operator_number op }
@@ -76,7 +66,7 @@ fn put_sym(out: &mut Vec<u8>, sym: &Sym) -> Result<(), AllocError>
         }
         Sym::Prim(prim) => {
             put_byte(out, 1)?;
-            put_byte(out, primitive_byte(*prim))
+            put_byte(out, prim.number())
         }
         Sym::Rule(rule) => {
             put_byte(out, 2)?;

@@ -1,13 +1,12 @@
 //! The rules that must touch a byte.
 
-ghost use Rattle.std.specs.Prelude.{◌≡◌, ◌<◌, [], length, true, false, IfOk};
-ghost use Rattle.ipg_core.specs.declared.grammar.Sym.TheVariants.{Prim};
+ghost use Rattle.std.specs.Prelude.{◌≡◌, ◌<◌, length, true, false, IfOk};
 ghost use Rattle.ipg_core.specs.MustTouch as spec;
 ghost use Rattle.ipg_core.specs.MustTouch.{AreLimit};
 ghost use Rattle.ipg_touch.specs.Pass.{AreSound, AreClosed, Marking, unmarked};
 
 use ipg_core::accepted::Core;
-use ipg_core::grammar::{CoreAlt, CoreExpr, CoreSlot, CoreTerm, Primitive, Sym};
+use ipg_core::grammar::{CoreAlt, CoreExpr, CoreSlot, CoreTerm, Sym};
 use ipg_num::item_at;
 use std::alloc::{AllocError, Global};
 
@@ -103,19 +102,8 @@ pub(crate) fn sym_marked(marks: &[bool], sym: &Sym) -> bool
 {
     match sym {
         Sym::Text(bytes) => !bytes.as_slice().is_empty(),
-        Sym::Prim(prim) => is_number(*prim),
+        Sym::Prim(prim) => prim.width() > 0,
         Sym::Rule(rule) => is_marked(marks, *rule),
-    }
-}
-
-fn is_number(prim: Primitive) -> bool
-    ensures { result ≡ spec.sym_marked [] (Prim prim) }
-{
-    match prim {
-        Primitive::Bytes => false,
-        Primitive::U8 | Primitive::U16LE | Primitive::U16BE => true,
-        Primitive::U32LE | Primitive::U32BE => true,
-        Primitive::U64LE | Primitive::U64BE => true,
     }
 }
 

@@ -6,7 +6,7 @@ use Rattle.std.proofs.Math.Seq.{drop-cons}
 use Rattle.std.proofs.lemmas.Grind.{flat_map-append}
 use Rattle.ipg_core.specs.declared.grammar.CoreRule.{CoreRule}
 use Rattle.ipg_core.specs.Grammar.{Grammar}
-use Rattle.ipg_core.specs.Lines.{line, digit, hex_digits, rule_name, set_word, attr_word}
+use Rattle.ipg_core.specs.Lines.{line, rule_name, set_word, attr_word}
 use Rattle.ipg_core.specs.Touch.{Ends, tree_ends}
 use Rattle.ipg_core.specs.Tree.{Tree, Node, rule_of, attrs_of}
 use Rattle.ipg_table.specs.declared.row.RuleRow.{RuleRow}

@@ -1,10 +1,10 @@
 -- What visits and words come to one behind another.
 use Rattle.std.proofs.Common.{◌≡◌, ℕ, ◌+◌, ◌<◌, ◌/◌, ◌%◌, List, [], ◌∷◌, ◌++◌, length, get_or, drop, map, refl, sym, ap, ◌∙◌, subst, Option, None, Some}
 use Rattle.std.proofs.Common.{add-one, append_assoc}
-use Rattle.std.specs.Prelude.{⊤}
+use Rattle.std.specs.Prelude.{⊤, slice_index}
 use Rattle.std.proofs.Math.Seq.{drop-cons}
 use Rattle.std.proofs.lemmas.Option.{none-some, same_Some}
-use Rattle.ipg_core.specs.Lines.{digit, hex_digits}
+use Rattle.hex.specs.Hex.{encode_lower, encode_with, lower_digits}
 use Rattle.ipg_core.specs.Tree as tree
 use Rattle.ipg_core.specs.Tree.{Tree, Node, Kids, no_kids, kid, count_of}
 use Rattle.ipg_mach_nodes.specs.declared.kid.Kid.{Kid}
@@ -18,17 +18,16 @@ use Rattle.ipg_tree_walk.specs.Parse.{Walked, Left}
 use Rattle.ipg_tree.specs.Line.{Says}
 use Rattle.ipg_tree.specs.Words.{spaced}
 
--- the digits of bytes behind others
-pub digits_append : (xs ys : List ℕ) → hex_digits (xs ++ ys) ≡ hex_digits xs ++ hex_digits ys
-digits_append [] ys = refl
-digits_append (x ∷ xs) ys = ap (λ t. digit (x / 16) ∷ digit (x % 16) ∷ t) (digits_append xs ys)
+-- no bytes have no digits
+pub no_digits : encode_lower [] ≡ []
+unfolding encode_with
+no_digits = refl
 
--- the digits of the last byte go before those that there are
-pub last_digits : (left front : List ℕ) (b : ℕ) (two piece next all : List ℕ) → left ≡ front ++ b ∷ [] → two ≡ digit (b / 16) ∷ digit (b % 16) ∷ []
-    → next ≡ two ++ piece → hex_digits left ++ piece ≡ all → hex_digits front ++ next ≡ all
-last_digits left front b two piece next all split is more h =
-    ap (λ t. hex_digits front ++ t) (more ∙ ap (λ t. t ++ piece) is) ∙ sym (append_assoc (hex_digits front) (hex_digits (b ∷ [])) piece)
-    ∙ ap (λ t. t ++ piece) (sym (ap hex_digits split ∙ digits_append front (b ∷ []))) ∙ h
+-- the digits of bytes behind others
+pub digits_append : (xs ys : List ℕ) → encode_lower (xs ++ ys) ≡ encode_lower xs ++ encode_lower ys
+unfolding encode_with
+digits_append [] ys = refl
+digits_append (x ∷ xs) ys = ap (λ t. slice_index lower_digits (x / 16) ∷ slice_index lower_digits (x % 16) ∷ t) (digits_append xs ys)
 
 pub next_spaced : {X : Type 0} (f : X → List ℕ) (xs : List X) (i : ℕ) (d : X) → i < length xs
     → spaced (map f (drop i xs)) ≡ (32 ∷ f (get_or xs i d)) ++ spaced (map f (drop (i + 1) xs))

@@ -5,7 +5,8 @@ use Rattle.ipg_core.specs.declared.grammar.Primitive.{Primitive}
 use Rattle.ipg_core.specs.declared.grammar.Primitive.TheVariants.{U8, U16LE, U16BE, U32LE, U32BE, U64LE, U64BE, Bytes}
 use Rattle.ipg_core.specs.declared.grammar.Sym.{Sym}
 use Rattle.ipg_core.specs.Grammar.{Grammar, name_at}
-use Rattle.ipg_core.specs.Lines.{hex_digits, primitive_name, rule_name, sym_name}
+use Rattle.hex.specs.Hex.{encode_lower}
+use Rattle.ipg_core.specs.Lines.{primitive_name, rule_name, sym_name}
 use Rattle.ipg_core.specs.Tree.{Tree, Node, Kid, Sub, Token, Number, Raw, Array, Many, Kids, no_kids, kid}
 
 -- texts parted by commas
@@ -42,11 +43,11 @@ value prim high low = codes ",\"val\":" ++ (decimal low ++ codes "}")
 
 -- all bytes of a terminal
 abbrev pub terminal : List ℕ → List ℕ
-terminal bytes = codes ",\"hex\":\"" ++ (hex_digits bytes ++ codes "\"}")
+terminal bytes = codes ",\"hex\":\"" ++ (encode_lower bytes ++ codes "\"}")
 
 -- the first 32 of raw bytes, and how many more there are
 abbrev pub raw : List ℕ → List ℕ
-raw bytes = codes ",\"hex\":\"" ++ (hex_digits (take 32 bytes) ++ (codes "\",\"more\":" ++ (decimal (length bytes - 32) ++ codes "}")))
+raw bytes = codes ",\"hex\":\"" ++ (encode_lower (take 32 bytes) ++ (codes "\",\"more\":" ++ (decimal (length bytes - 32) ++ codes "}")))
 
 -- the object of an array or a repetition up to its items
 abbrev pub items_head : Grammar → List ℕ → Sym → List ℕ

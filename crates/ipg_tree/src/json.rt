@@ -17,7 +17,7 @@ ghost use Rattle.ipg_tree.specs.Puts.{Puts};
 ghost use Rattle.ipg_tree.specs.Shares.{Shares, IsTree};
 
 use crate::line::{Places, places_of};
-use crate::names::{primitive_name, rule_name, sym_name, text_of};
+use crate::names::{rule_name, sym_name, text_of};
 use crate::tail::Tail;
 use crate::words::{first, put, put_digits};
 use ipg_core::grammar::Primitive;
@@ -291,9 +291,9 @@ pub(crate) fn put_number<S: Sink>(
 {
     match prim {
         Primitive::U64LE | Primitive::U64BE => {
-            put_halves(out, line, visit, primitive_name(prim), high, low)
+            put_halves(out, line, visit, prim.word(), high, low)
         }
-        _ => put_low(out, line, visit, primitive_name(prim), low),
+        _ => put_low(out, line, visit, prim.word(), low),
     }
 }
 

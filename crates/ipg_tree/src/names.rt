@@ -7,7 +7,7 @@ ghost use Rattle.ipg_core.specs.declared.grammar.Sym.TheVariants.{Text as AnyTex
 ghost use Rattle.ipg_core.specs.Lines as spec;
 ghost use Rattle.ipg_table.specs.Rows.{StandFor};
 
-use ipg_core::grammar::{Primitive, Sym};
+use ipg_core::grammar::Sym;
 use ipg_table::tables::Tables;
 
 /// The name of a rule; empty where there is no such rule.
@@ -21,30 +21,13 @@ pub fn rule_name(tables: &Tables, rule: u32) -> &[u8]
     }
 }
 
-/// The name of a primitive, of at most five letters.
-pub fn primitive_name(prim: Primitive) -> &'static [u8]
-    ensures name { result.now ≡ spec.primitive_name prim }
-    ensures long { length result.now ≤ 5 }
-{
-    match prim {
-        Primitive::U8 => b"U8",
-        Primitive::U16LE => b"U16LE",
-        Primitive::U16BE => b"U16BE",
-        Primitive::U32LE => b"U32LE",
-        Primitive::U32BE => b"U32BE",
-        Primitive::U64LE => b"U64LE",
-        Primitive::U64BE => b"U64BE",
-        Primitive::Bytes => b"Bytes",
-    }
-}
-
 /// The name of a symbol, which is empty for a terminal.
 fn name_of<'m>(tables: &'m Tables, sym: &Sym) -> &'m [u8]
     ensures { (g : Grammar) → StandFor tables.now g → result.now ≡ spec.sym_name g sym.now }
 {
     match sym {
         Sym::Text(_) => &[],
-        Sym::Prim(prim) => primitive_name(*prim),
+        Sym::Prim(prim) => prim.word(),
         Sym::Rule(rule) => rule_name(tables, *rule),
     }
 }

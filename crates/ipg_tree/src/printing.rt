@@ -6,6 +6,7 @@ ghost use Rattle.ipg_core.specs.Lines as spec;
 ghost use Rattle.ipg_core.specs.Tree.{Tree};
 ghost use Rattle.ipg_mach_nodes.specs.Stored.{Source};
 ghost use Rattle.ipg_tree_walk.specs.Left.{Shows};
+ghost use Rattle.ipg_tree_walk.specs.Parse.{AllLeft};
 ghost use Rattle.ipg_tree_walk.specs.Visits.{Seen};
 ghost use Rattle.ipg_tree.specs.Line.{line_of};
 ghost use Rattle.ipg_tree.specs.Puts.{Puts};
@@ -46,7 +47,7 @@ fn put_visit<A: Allocator + Clone + Drop, S: Sink>(
 }
 
 /// Writes the lines of the tree, each as the walk comes to it, without taking memory.
-pub fn print<A: Allocator + Clone + Drop, S: Sink>(
+fn put_lines<A: Allocator + Clone + Drop, S: Sink>(
     p: &mut Parsed<'_, A>,
     out: &mut S,
 ) -> Result<(), SinkFault>
@@ -62,8 +63,23 @@ pub fn print<A: Allocator + Clone + Drop, S: Sink>(
     Ok(())
 }
 
+/// Writes the lines of the tree. It takes no memory, and the walk begins anew behind it.
+pub fn print<A: Allocator + Clone + Drop, S: Sink>(
+    p: &mut Parsed<'_, A>,
+    out: &mut S,
+) -> Result<(), SinkFault>
+    ensures parse { p.new.parse ≡ p.old.parse }
+    ensures left { AllLeft p.new }
+    ensures lines { (src : Source) (g : Grammar) (one : Tree) → IsTree p.old.parse src g one
+        → Puts result (spec.lines g one 0) (S.output out.old) (S.faults out.old) (S.output out.new) (S.faults out.new) }
+{
+    let said = put_lines(p, out);
+    p.rewind();
+    said
+}
+
 /// How many lines the tree has, up to 2^64 - 1.
-pub fn lines<A: Allocator + Clone + Drop>(p: &mut Parsed<'_, A>) -> u64
+fn count_lines<A: Allocator + Clone + Drop>(p: &mut Parsed<'_, A>) -> u64
     ensures parse { p.new.parse ≡ p.old.parse }
     ensures count { (src : Source) (g : Grammar) (one : Tree) → IsTree p.old.parse src g one → result ≡ min (length (spec.tree_lines g 0 0 one)) (2 ^ 64 - 1) }
 {
@@ -72,5 +88,16 @@ pub fn lines<A: Allocator + Clone + Drop>(p: &mut Parsed<'_, A>) -> u64
     while let Some(_) = p.next() {
         count = count.saturating_add(1);
     }
+    count
+}
+
+/// How many lines the tree has, up to 2^64 - 1. The walk begins anew behind it.
+pub fn lines<A: Allocator + Clone + Drop>(p: &mut Parsed<'_, A>) -> u64
+    ensures parse { p.new.parse ≡ p.old.parse }
+    ensures left { AllLeft p.new }
+    ensures count { (src : Source) (g : Grammar) (one : Tree) → IsTree p.old.parse src g one → result ≡ min (length (spec.tree_lines g 0 0 one)) (2 ^ 64 - 1) }
+{
+    let count = count_lines(p);
+    p.rewind();
     count
 }

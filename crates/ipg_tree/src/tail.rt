@@ -1,8 +1,10 @@
 //! Short texts, written from their ends to their starts.
 
-ghost use Rattle.std.specs.Prelude.{◌≡◌, ◌+◌, ◌≤◌, [], ◌++◌, length, decimal};
+ghost use Rattle.std.specs.Prelude.{◌≡◌, ◌+◌, ◌*◌, ◌≤◌, [], ◌++◌, length, decimal};
 ghost use Rattle.std.specs.Fmt.{signed_decimal};
+ghost use Rattle.hex.specs.Hex.{encode_lower};
 
+use hex::encode_to_slice;
 use itoa::write_digits;
 use std::marker::Model;
 
@@ -82,5 +84,16 @@ impl Tail {
         if n < 0 {
             self.prepend(b"-");
         }
+    }
+
+    /// Puts two digits for each byte before what there is.
+    pub fn prepend_hex(&mut self, bytes: &[u8])
+        requires { 2 * length bytes.now + length self.old ≤ 160 }
+        ensures text { self.new ≡ encode_lower bytes.now ++ self.old }
+        ensures long { length self.new ≡ 2 * length bytes.now + length self.old }
+    {
+        let start = self.start - 2 * bytes.len();
+        let _fits = encode_to_slice(bytes, &mut self.bytes[start..self.start]);
+        self.start = start;
     }
 }

@@ -1,14 +1,13 @@
 //! Words, written to a sink.
 
-ghost use Rattle.std.specs.Prelude.{◌≡◌, ◌+◌, ◌-◌, ◌*◌, ◌/◌, ◌%◌, ◌≤◌, ◌++◌, ◌∷◌, [], length, take, decimal};
+ghost use Rattle.std.specs.Prelude.{◌≡◌, ◌-◌, ◌≤◌, ◌++◌, ◌∷◌, length, take, decimal};
 ghost use Rattle.std.specs.Fmt.{signed_decimal};
+ghost use Rattle.hex.specs.Hex.{encode_lower};
 ghost use Rattle.ipg_core.specs.Lines as spec;
 ghost use Rattle.ipg_tree.specs.Puts.{Puts};
 
 use crate::tail::Tail;
 use ipg_outside::{Sink, SinkFault};
-
-const DIGITS: &[u8; 16] = b"0123456789abcdef";
 
 /// Writes a text.
 pub(crate) fn put<S: Sink>(out: &mut S, text: &[u8]) -> Result<(), SinkFault>
@@ -35,37 +34,19 @@ pub(crate) fn put_attr<S: Sink>(out: &mut S, name: &[u8], n: i64) -> Result<(), 
     put_set(out, n)
 }
 
-fn digits(byte: u8) -> [u8; 2]
-    ensures { result ≡ spec.digit (byte / 16) ∷ spec.digit (byte % 16) ∷ [] }
-{
-    [DIGITS[(byte / 16) as usize], DIGITS[(byte % 16) as usize]]
-}
-
-/// Puts two digits for each byte before what there is.
-fn prepend_digits(piece: &mut Tail, bytes: &[u8])
-    requires { 2 * length bytes.now + length piece.old ≤ 128 }
-    ensures { piece.new ≡ spec.hex_digits bytes.now ++ piece.old }
-{
-    let mut left = bytes;
-    while let Some((last, front)) = left.split_last() {
-        piece.prepend(&digits(*last));
-        left = front;
-    }
-}
-
 /// Writes two digits for each of at most 64 bytes.
 fn put_some<S: Sink>(out: &mut S, bytes: &[u8]) -> Result<(), SinkFault>
     requires { length bytes.now ≤ 64 }
-    ensures { Puts result (spec.hex_digits bytes.now) (S.output out.old) (S.faults out.old) (S.output out.new) (S.faults out.new) }
+    ensures { Puts result (encode_lower bytes.now) (S.output out.old) (S.faults out.old) (S.output out.new) (S.faults out.new) }
 {
     let mut piece = Tail::new();
-    prepend_digits(&mut piece, bytes);
+    piece.prepend_hex(bytes);
     put(out, piece.as_slice())
 }
 
 /// Writes two digits for each byte.
 pub(crate) fn put_digits<S: Sink>(out: &mut S, bytes: &[u8]) -> Result<(), SinkFault>
-    ensures { Puts result (spec.hex_digits bytes.now) (S.output out.old) (S.faults out.old) (S.output out.new) (S.faults out.new) }
+    ensures { Puts result (encode_lower bytes.now) (S.output out.old) (S.faults out.old) (S.output out.new) (S.faults out.new) }
 {
     let mut left = bytes;
     while !left.is_empty() {

@@ -4,7 +4,8 @@ use Rattle.ipg_core.specs.declared.grammar.Primitive.{Primitive}
 use Rattle.ipg_core.specs.declared.grammar.Primitive.TheVariants.{U8, U16LE, U16BE, U32LE, U32BE, U64LE, U64BE, Bytes}
 use Rattle.ipg_core.specs.Grammar.{Grammar}
 use Rattle.ipg_core.specs.Tree.{Kid, Token, Number, Raw}
-use Rattle.ipg_core.specs.Lines.{line, hex_digits, hex, short_hex, primitive_name, set_word, number_words, kid_lines}
+use Rattle.hex.specs.Hex.{encode_lower}
+use Rattle.ipg_core.specs.Lines.{line, hex, short_hex, primitive_name, set_word, number_words, kid_lines}
 use Rattle.ipg_tree.specs.Json.{leaf, value, terminal, raw, kid_json}
 use Rattle.ipg_tree_json_laws.specs.Laws.{IsUnquoted}
 use Rattle.ipg_tree_json_laws.proofs.Texts.{same_both, front, split_in, word, spelled, Stops, IsOfNumber, comma, brace, decimal_is}
@@ -31,8 +32,8 @@ words (Two high low) = set_word (codes "hi") (decimal high) ∷ set_word (codes 
 
 all_same : (a b r s : List ℕ) → terminal a ++ r ≡ terminal b ++ s → (words (All a) ≡ words (All b)) × (r ≡ s)
 all_same a b r s e =
-    let e1 = front (codes ",\"hex\":\"") (hex_digits a ++ codes "\"}") (hex_digits b ++ codes "\"}") r s e in
-    let e2 = word (hex_digits a) (hex_digits b) (codes "}") (codes "}") r s (hex_is a) (hex_is b) e1 in
+    let e1 = front (codes ",\"hex\":\"") (encode_lower a ++ codes "\"}") (encode_lower b ++ codes "\"}") r s e in
+    let e2 = word (encode_lower a) (encode_lower b) (codes "}") (codes "}") r s (hex_is a) (hex_is b) e1 in
     ((λ i. same_hex a b e2.0 i ∷ []), (same_both (same_both e2.1).1).1)
 
 abbrev raw_end : List ℕ → List ℕ
@@ -40,8 +41,8 @@ raw_end bytes = codes ",\"more\":" ++ (decimal (length bytes - 32) ++ codes "}")
 
 first_same : (a b r s : List ℕ) → raw a ++ r ≡ raw b ++ s → (words (First a) ≡ words (First b)) × (r ≡ s)
 first_same a b r s e =
-    let e1 = front (codes ",\"hex\":\"") (hex_digits (take 32 a) ++ (34 ∷ raw_end a)) (hex_digits (take 32 b) ++ (34 ∷ raw_end b)) r s e in
-    let e2 = word (hex_digits (take 32 a)) (hex_digits (take 32 b)) (raw_end a) (raw_end b) r s (hex_is (take 32 a)) (hex_is (take 32 b)) e1 in
+    let e1 = front (codes ",\"hex\":\"") (encode_lower (take 32 a) ++ (34 ∷ raw_end a)) (encode_lower (take 32 b) ++ (34 ∷ raw_end b)) r s e in
+    let e2 = word (encode_lower (take 32 a)) (encode_lower (take 32 b)) (raw_end a) (raw_end b) r s (hex_is (take 32 a)) (hex_is (take 32 b)) e1 in
     let e3 = front (codes "\",\"more\":") (decimal (length a - 32) ++ codes "}") (decimal (length b - 32) ++ codes "}") r s e2.1 in
     let e4 = split_in IsOfNumber (decimal (length a - 32)) (decimal (length b - 32)) (codes "}") (codes "}") r s (decimal_is _) (decimal_is _) brace brace e3 in
     ((λ i. same_short a b e2.0 e4.0 i ∷ []), (same_both e4.1).1)
@@ -66,8 +67,8 @@ two_same h l m n r s e =
 -- all bytes of one end at the brace, the first of the other at a comma
 all_or_first : (a b r s : List ℕ) → terminal a ++ r ≡ raw b ++ s → ⊥
 all_or_first a b r s e =
-    let e1 = front (codes ",\"hex\":\"") (hex_digits a ++ codes "\"}") (hex_digits (take 32 b) ++ (34 ∷ raw_end b)) r s e in
-    let e2 = word (hex_digits a) (hex_digits (take 32 b)) (codes "}") (raw_end b) r s (hex_is a) (hex_is (take 32 b)) e1 in
+    let e1 = front (codes ",\"hex\":\"") (encode_lower a ++ codes "\"}") (encode_lower (take 32 b) ++ (34 ∷ raw_end b)) r s e in
+    let e2 = word (encode_lower a) (encode_lower (take 32 b)) (codes "}") (raw_end b) r s (hex_is a) (hex_is (take 32 b)) e1 in
     let other : 125 ≡ 44 = (same_both (same_both e2.1).1).0 in
     absurd (omega (arith, other))
 

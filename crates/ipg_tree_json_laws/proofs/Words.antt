@@ -1,7 +1,7 @@
 -- Equal texts of parts make equal words of lines.
 use Rattle.std.proofs.Common.{◌≡◌, ◌≢◌, ℕ, zero, suc, ◌-◌, ◌/◌, ◌%◌, ◌≤◌, Bool, true, false, cond, List, [], ◌∷◌, ◌++◌}
 use Rattle.std.proofs.Common.{length, take, codes, refl, ap, ◌∙◌, sym, arith, get_or, decimal, take_all, true≢false}
-use Rattle.std.specs.Prelude.{slice_get, nat_le}
+use Rattle.std.specs.Prelude.{slice_get, slice_index, nat_le}
 use Rattle.std.specs.List.{AllByRecursion}
 use Rattle.std.proofs.lemmas.Bool.{leb-true, le-leb}
 use Rattle.ipg_core.specs.declared.grammar.Primitive.{Primitive}
@@ -10,7 +10,8 @@ use Rattle.ipg_core.specs.declared.grammar.Sym.{Sym}
 use Rattle.ipg_core.specs.declared.grammar.Sym.TheVariants.{Text, Prim, Rule}
 use Rattle.ipg_core.specs.declared.grammar.CoreRule.{CoreRule}
 use Rattle.ipg_core.specs.Grammar.{Grammar, name_at, or_empty}
-use Rattle.ipg_core.specs.Lines.{digit, hex_digits, hex, short_hex, primitive_name, name_of, rule_name, sym_name}
+use Rattle.hex.specs.Hex.{encode_lower, encode_with, lower_digits}
+use Rattle.ipg_core.specs.Lines.{hex, short_hex, primitive_name, name_of, rule_name, sym_name}
 use Rattle.ipg_tree_json_laws.specs.Laws.{IsUnquoted, HasPlainNames}
 use Rattle.ipg_tree_json_laws.proofs.Texts.{spelled, zero_alone}
 
@@ -53,16 +54,18 @@ one_of [] d all = λ e. absurd (omega (arith, e))
 one_of (b ∷ text) zero all = all.0
 one_of (b ∷ text) (suc d) all = one_of text d all.1
 
-digit_is : (d : ℕ) → digit d ≢ 34
-digit_is d = one_of (codes "0123456789abcdef") d (spelled (codes "0123456789abcdef") refl)
+digit_is : (d : ℕ) → slice_index lower_digits d ≢ 34
+digit_is d = one_of lower_digits d (spelled lower_digits refl)
 
-pub hex_is : (bytes : List ℕ) → IsUnquoted (hex_digits bytes)
+pub hex_is : (bytes : List ℕ) → IsUnquoted (encode_lower bytes)
+unfolding encode_with
 hex_is [] = tt
 hex_is (b ∷ bytes) = (digit_is (b / 16), (digit_is (b % 16), hex_is bytes))
 
 -- ---- bytes as lines show them
 
-pub same_hex : (a b : List ℕ) → hex_digits a ≡ hex_digits b → hex a ≡ hex b
+pub same_hex : (a b : List ℕ) → encode_lower a ≡ encode_lower b → hex a ≡ hex b
+unfolding encode_with
 same_hex [] [] e = refl
 same_hex [] (d ∷ b) e = absurd (cc)
 same_hex (c ∷ a) [] e = absurd (cc)
@@ -79,12 +82,12 @@ none_more a b few e =
     let other = zero_alone (length b - 32) (sym e ∙ ap decimal none) in
     omega (arith, other)
 
-few_hex : (a b : List ℕ) → length a ≤ 32 → length b ≤ 32 → hex_digits (take 32 a) ≡ hex_digits (take 32 b) → hex a ≡ hex b
+few_hex : (a b : List ℕ) → length a ≤ 32 → length b ≤ 32 → encode_lower (take 32 a) ≡ encode_lower (take 32 b) → hex a ≡ hex b
 few_hex a b few other e =
-    same_hex a b (ap hex_digits (sym (take_all 32 a few)) ∙ e ∙ ap hex_digits (take_all 32 b other))
+    same_hex a b (ap encode_lower (sym (take_all 32 a few)) ∙ e ∙ ap encode_lower (take_all 32 b other))
 
 same_shown : (t u : Bool) (a b : List ℕ) → nat_le (length a) 32 ≡ t → nat_le (length b) 32 ≡ u
-    → hex_digits (take 32 a) ≡ hex_digits (take 32 b) → decimal (length a - 32) ≡ decimal (length b - 32) → shown t a ≡ shown u b
+    → encode_lower (take 32 a) ≡ encode_lower (take 32 b) → decimal (length a - 32) ≡ decimal (length b - 32) → shown t a ≡ shown u b
 same_shown true true a b is other e more = few_hex a b (leb-true _ _ is) (leb-true _ _ other) e
 same_shown true false a b is other e more =
     let few = sym (le-leb _ _ (none_more a b (leb-true _ _ is) more)) ∙ other in absurd (true≢false few)
@@ -92,6 +95,6 @@ same_shown false true a b is other e more =
     let few = sym (le-leb _ _ (none_more b a (leb-true _ _ other) (sym more))) ∙ is in absurd (true≢false few)
 same_shown false false a b is other e more = λ i. same_hex (take 32 a) (take 32 b) e i ++ codes "+" ++ more i
 
-pub same_short : (a b : List ℕ) → hex_digits (take 32 a) ≡ hex_digits (take 32 b) → decimal (length a - 32) ≡ decimal (length b - 32)
+pub same_short : (a b : List ℕ) → encode_lower (take 32 a) ≡ encode_lower (take 32 b) → decimal (length a - 32) ≡ decimal (length b - 32)
     → short_hex a ≡ short_hex b
 same_short a b e more = same_shown (nat_le (length a) 32) (nat_le (length b) 32) a b refl refl e more

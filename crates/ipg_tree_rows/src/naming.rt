@@ -1,10 +1,9 @@
 //! Numbers for names.
 ghost use Rattle.std.specs.Prelude.{◌≡◌, slice_get, Some};
 ghost use Rattle.ipg_core.specs.declared.grammar.Sym.{Sym as AnySym};
-ghost use Rattle.ipg_core.specs.Grammar.{primitive_number};
 ghost use Rattle.ipg_tree_rows.specs.Rows as spec;
 
-use ipg_core::grammar::{Primitive, Sym};
+use ipg_core::grammar::Sym;
 use ipg_table::tables::Tables;
 
 /// A name by its number, and whose number that is.
@@ -12,13 +11,6 @@ use ipg_table::tables::Tables;
 pub(crate) struct Named {
     pub(crate) of: u32,
     pub(crate) number: u32,
-}
-
-/// The number of a primitive.
-pub(crate) fn primitive_number(prim: Primitive) -> u32
-    ensures { result ≡ primitive_number prim }
-{
-    prim as u32
 }
 
 fn name_of(sym: &Sym) -> Named
@@ -32,7 +24,7 @@ fn name_of(sym: &Sym) -> Named
         },
         Sym::Prim(prim) => Named {
             of: 1,
-            number: primitive_number(*prim),
+            number: u32::from(prim.number()),
         },
         Sym::Text(_) => Named { of: 2, number: 0 },
     }

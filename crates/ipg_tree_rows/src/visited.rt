@@ -7,7 +7,7 @@ ghost use Rattle.ipg_tree_walk.specs.Visits.{Seen};
 ghost use Rattle.ipg_tree_rows.specs.Rows as spec;
 ghost use Rattle.ipg_tree_rows.specs.Sees.{IsSource, IsLeafRow, Says};
 
-use crate::naming::{Named, primitive_number, sym_name};
+use crate::naming::{Named, sym_name};
 use crate::row::TreeRow;
 use ipg_core::grammar::Primitive;
 use ipg_mach_nodes::{Kid, Node};
@@ -53,7 +53,7 @@ fn number_row(visit: Visit, prim: Primitive, high: u32, low: u32) -> TreeRow
 {
     let named = Named {
         of: 1,
-        number: primitive_number(prim),
+        number: u32::from(prim.number()),
     };
     TreeRow {
         high,

@@ -1,9 +1,9 @@
 -- What is kept of a text that is put together.
 use Rattle.std.proofs.Common.{◌≡◌, ℕ, zero, suc, ◌+◌, ◌-◌, ◌*◌, ◌<◌, ◌≤◌, List, [], ◌∷◌, ◌++◌, length, map, take}
 use Rattle.std.proofs.Common.{set, min, refl, sym, ap, ◌∙◌, subst, arith, append_assoc, append-nil, true, false}
-use Rattle.std.specs.Prelude.{nat_lt, nat_le, codes, decimal, if◌then◌else◌, Bool, ◌/◌, ◌%◌}
+use Rattle.std.specs.Prelude.{nat_lt, nat_le, codes, decimal, if◌then◌else◌, Bool}
 use Rattle.ipg_core.specs.Grammar.{Grammar}
-use Rattle.ipg_core.specs.Lines.{digit}
+use Rattle.hex.specs.Hex.{encode_lower}
 use Rattle.ipg_core.specs.Part.{part}
 use Rattle.ipg_core.specs.Tree.{Tree, Node, attrs_of}
 use Rattle.ipg_mach_nodes.specs.declared.kid.Node.{Node as Row}
@@ -117,13 +117,14 @@ lacks_made b all digits tail made end is none h =
 
 cells_append : (xs ys : List ℕ) → cells (xs ++ ys) ≡ cells xs ++ cells ys
 cells_append [] ys = refl
-cells_append (x ∷ xs) ys = ap (λ t. digit (x / 16) ∷ digit (x % 16) ∷ 32 ∷ t) (cells_append xs ys)
+cells_append (x ∷ xs) ys =
+    ap (λ t. encode_lower (x ∷ []) ++ 32 ∷ t) (cells_append xs ys) ∙ sym (append_assoc (encode_lower (x ∷ [])) (32 ∷ cells xs) (cells ys))
 
 -- the cell of the last byte goes before those that there are
-pub last_cells : (left front : List ℕ) (b : ℕ) (two piece spaced next all : List ℕ) → left ≡ front ++ b ∷ [] → two ≡ digit (b / 16) ∷ digit (b % 16) ∷ []
-    → spaced ≡ 32 ∷ piece → next ≡ two ++ spaced → cells left ++ piece ≡ all → cells front ++ next ≡ all
-last_cells left front b two piece spaced next all split is blank more h =
-    ap (λ t. cells front ++ t) (more ∙ ap (λ t. t ++ spaced) is ∙ ap (λ t. digit (b / 16) ∷ digit (b % 16) ∷ t) blank)
+pub last_cells : (left front : List ℕ) (b : ℕ) (piece spaced next all : List ℕ) → left ≡ front ++ b ∷ []
+    → spaced ≡ 32 ∷ piece → next ≡ encode_lower (b ∷ []) ++ spaced → cells left ++ piece ≡ all → cells front ++ next ≡ all
+last_cells left front b piece spaced next all split blank more h =
+    ap (λ t. cells front ++ t) (more ∙ ap (λ t. encode_lower (b ∷ []) ++ t) blank ∙ sym (append_assoc (encode_lower (b ∷ [])) (32 ∷ []) piece))
     ∙ sym (append_assoc (cells front) (cells (b ∷ [])) piece)
     ∙ ap (λ t. t ++ piece) (sym (ap cells split ∙ cells_append front (b ∷ []))) ∙ h
 

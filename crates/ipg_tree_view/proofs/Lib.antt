@@ -1,6 +1,5 @@
 -- what is kept of a text that is put together
 pub mod Cuts
--- what comes next of digits
 -- what a walk shows
 pub mod Walked
 -- places that no leaf has

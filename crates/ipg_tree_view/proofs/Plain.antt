@@ -6,8 +6,10 @@ use Rattle.std.specs.Prelude.{◌||◌, nat_eq, nat_le, nat_lt, codes, decimal, 
 use Rattle.std.specs.Int.{w32, to_be_bytes, bytes_high_first, byte_at}
 use Rattle.std.specs.List.{AllByRecursion}
 use Rattle.ipg_core.specs.Grammar.{Grammar}
-use Rattle.ipg_core.specs.Lines.{digit, hex_digits, primitive_name}
+use Rattle.hex.specs.Hex.{encode_lower, encode_with, lower_digits}
+use Rattle.ipg_core.specs.Lines.{primitive_name}
 use Rattle.ipg_core.specs.Part.{part}
+use Rattle.ipg_core.specs.Touch.{width}
 use Rattle.ipg_core.specs.Tree as tree
 use Rattle.ipg_core.specs.Tree.{Kid}
 use Rattle.ipg_tree_walk.specs.Visits.{visits, whole, from_of}
@@ -17,7 +19,7 @@ use Rattle.ipg_tree_view.specs.Picked.{value_view, shown_view}
 use Rattle.std.specs.Fmt.{signed_decimal}
 use Rattle.std.proofs.Common.{Option, None, Some}
 use Rattle.std.specs.Prelude.{ℤ}
-use Rattle.ipg_tree_view.specs.Bare.{bare_of, runs}
+use Rattle.ipg_tree_view.specs.Bare.{bare_of, runs, end_of}
 use Rattle.ipg_tree_view.specs.View.{blanks, printable, offset, cells, filled, columns, cut, line, more_line, bare_line, indented, interval}
 use Rattle.ipg_tree_view.specs.View.{node_text, items_text, count_line, piece, piece_of, kid_view, seen_view, gap_view}
 use Rattle.ipg_tree_view.specs.Laws.{is_plain, IsPlain, ViewIsPlain, PickedViewIsPlain}
@@ -63,7 +65,7 @@ shown_plain (b ∷ text) = (dotted (nat_le 32 b && nat_le b 126) b refl, shown_p
 
 -- ---- digits
 
-digits_plain : IsPlain (codes "0123456789abcdef")
+digits_plain : IsPlain lower_digits
 digits_plain = (refl, (refl, (refl, (refl, (refl, (refl, (refl, (refl, (refl, (refl, (refl, (refl, (refl, (refl, (refl, (refl, tt))))))))))))))))
 
 index_plain : (xs : List ℕ) (d : ℕ) → IsPlain xs → d < length xs → is_plain (slice_index xs d) ≡ true
@@ -71,10 +73,11 @@ index_plain [] d p lt = absurd (omega (arith, lt))
 index_plain (x ∷ xs) zero p lt = p.0
 index_plain (x ∷ xs) (suc d) p lt = index_plain xs d p.1 (omega (arith, lt))
 
-digit_plain : (d : ℕ) → d < 16 → is_plain (digit d) ≡ true
-digit_plain d lt = index_plain (codes "0123456789abcdef") d digits_plain lt
+digit_plain : (d : ℕ) → d < 16 → is_plain (slice_index lower_digits d) ≡ true
+digit_plain d lt = index_plain lower_digits d digits_plain lt
 
-hex_plain : (bytes : List ℕ) → AreBytes bytes → IsPlain (hex_digits bytes)
+hex_plain : (bytes : List ℕ) → AreBytes bytes → IsPlain (encode_lower bytes)
+unfolding encode_with
 hex_plain [] h = tt
 hex_plain (b ∷ bytes) h =
     (digit_plain (b / 16) (let lt = h.0 in omega (arith, lt)), (digit_plain (b % 16) (omega arith), hex_plain bytes h.1))
@@ -82,7 +85,7 @@ hex_plain (b ∷ bytes) h =
 cells_plain : (bytes : List ℕ) → AreBytes bytes → IsPlain (cells bytes)
 cells_plain [] h = tt
 cells_plain (b ∷ bytes) h =
-    (digit_plain (b / 16) (let lt = h.0 in omega (arith, lt)), (digit_plain (b % 16) (omega arith), (refl, cells_plain bytes h.1)))
+    both (encode_lower (b ∷ [])) (32 ∷ cells bytes) (hex_plain (b ∷ []) (h.0, tt)) (refl, cells_plain bytes h.1)
 
 byte_small : (k n : ℕ) → byte_at k n < 256
 byte_small zero n = omega arith
@@ -177,9 +180,9 @@ module _ (g : Grammar) (input : List ℕ) (h : AreBytes input) where
   kid_plain : (depth at : ℕ) (k : Kid) → IsPlain (kid_view g input depth at k)
   kid_plain depth at (tree.Sub from to (tree.Node rule size attrs start end kids)) =
       line_plain (at + from) [] (node_text g depth (at + from) rule size attrs) tt
-  kid_plain depth at (tree.Token from to bytes) = part_plain depth (at + from) (at + to) (codes "tok")
+  kid_plain depth at (tree.Token from to bytes) = part_plain depth (at + from) (end_of (at + from) (at + to) (length bytes)) (codes "tok")
   kid_plain depth at (tree.Number from to prim high low) =
-      part_plain depth (at + from) (at + to) (primitive_name prim ++ 32 ∷ decimal (high * 2 ^ 32 + low))
+      part_plain depth (at + from) (end_of (at + from) (at + to) (width prim)) (primitive_name prim ++ 32 ∷ decimal (high * 2 ^ 32 + low))
   kid_plain depth at (tree.Raw from to bytes) = part_plain depth (at + from) (at + to) (codes "Bytes " ++ decimal (at + to - (at + from)))
   kid_plain depth at (tree.Array one items) = bare_plain (items_text g depth (codes "for ") one items)
   kid_plain depth at (tree.Many one items) = bare_plain (items_text g depth (codes "many ") one items)

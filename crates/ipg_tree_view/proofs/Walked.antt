@@ -1,10 +1,12 @@
 -- What a walk over a tree shows, visit by visit.
 use Rattle.std.proofs.Common.{◌≡◌, ℕ, ◌+◌, List, [], ◌∷◌, ◌++◌}
-use Rattle.std.proofs.Common.{refl, sym, ap, ◌∙◌, subst, Some}
+use Rattle.std.proofs.Common.{refl, sym, ap, ◌∙◌, subst, Some, length}
 use Rattle.std.specs.Prelude.{Bool, true, false, not, ◌&&◌, ◌-◌, ◌*◌, ◌^◌, slice_get, ⊤, codes, decimal}
 use Rattle.ipg_core.specs.declared.grammar.Sym.{Sym}
+use Rattle.ipg_core.specs.declared.grammar.Sym.TheVariants.{Text}
 use Rattle.ipg_core.specs.Grammar.{Grammar}
 use Rattle.ipg_core.specs.Lines.{primitive_name}
+use Rattle.ipg_core.specs.Touch.{width}
 use Rattle.ipg_core.specs.Tree as tree
 use Rattle.ipg_core.specs.Tree.{Tree, Node, Kids, no_kids, kid, count_of, rule_of, attrs_of}
 use Rattle.ipg_region.specs.declared.region.RunId.{RunId}
@@ -14,7 +16,7 @@ use Rattle.ipg_mach_nodes.specs.Stored.{Stored, Source, StandsKid, StandKids}
 use Rattle.ipg_tree_walk.specs.declared.walk.Visit.{Visit}
 use Rattle.ipg_tree_walk.specs.Visits.{Seen, from_of, end_in}
 use Rattle.ipg_tree_walk.specs.Left.{NodeOf, StandsNode, Shows}
-use Rattle.ipg_tree_view.specs.Bare.{is_among, has_byte}
+use Rattle.ipg_tree_view.specs.Bare.{is_among, end_of, has_byte}
 use Rattle.ipg_tree_view.specs.View.{tree_head, kid_view, piece_of, bare_line, items_text}
 use Rattle.ipg_tree.specs.Behind.{IsNodeRow}
 
@@ -63,35 +65,60 @@ leaf_text (row.Raw l r) from to = codes "Bytes " ++ decimal (to - from)
 leaf_text (row.Array n items) from to = []
 leaf_text (row.Many n items) from to = []
 
+-- where the bytes that it has end, the text of a terminal having so many
+abbrev pub row_end : ℕ → Kid → ℕ → ℕ → ℕ
+row_end count (row.Node id l r) from to = to
+row_end count (row.Text n l r) from to = end_of from to count
+row_end count (row.Number prim l r high low) from to = end_of from to (width prim)
+row_end count (row.Raw l r) from to = to
+row_end count (row.Array n items) from to = to
+row_end count (row.Many n items) from to = to
+
+-- the text of a terminal has so many
+abbrev pub IsCount : Source → ℕ → Kid → Type 0
+IsCount src count (row.Node id l r) = ⊤
+IsCount src count (row.Text n l r) = (bytes : List ℕ) → slice_get src.syms n ≡ Some (Text bytes) → count ≡ length bytes
+IsCount src count (row.Number prim l r high low) = ⊤
+IsCount src count (row.Raw l r) = ⊤
+IsCount src count (row.Array n items) = ⊤
+IsCount src count (row.Many n items) = ⊤
+
 -- the lines of the leaf of a visit
-abbrev pub leaf_view : List ℕ → Visit → List ℕ
-leaf_view input visit = piece_of input visit.depth visit.from visit.to (leaf_text visit.kid visit.from visit.to)
+abbrev pub leaf_view : List ℕ → ℕ → Visit → List ℕ
+leaf_view input count visit =
+    piece_of input visit.depth visit.from (row_end count visit.kid visit.from visit.to) (leaf_text visit.kid visit.from visit.to)
 
-same_leaf : (input : List ℕ) (visit : Visit) (depth from to : ℕ) (k : Kid) → visit.depth ≡ depth → visit.from ≡ from → visit.to ≡ to → visit.kid ≡ k
-    → leaf_view input visit ≡ piece_of input depth from to (leaf_text k from to)
-same_leaf input visit depth from to k ed ef et ek =
-    ap (λ d. piece_of input d visit.from visit.to (leaf_text visit.kid visit.from visit.to)) ed
-    ∙ ap (λ f. piece_of input depth f visit.to (leaf_text visit.kid f visit.to)) ef
-    ∙ ap (λ t. piece_of input depth from t (leaf_text visit.kid from t)) et
-    ∙ ap (λ r. piece_of input depth from to (leaf_text r from to)) ek
+same_leaf : (input : List ℕ) (count : ℕ) (visit : Visit) (depth from to : ℕ) (k : Kid) → visit.depth ≡ depth → visit.from ≡ from → visit.to ≡ to
+    → visit.kid ≡ k → leaf_view input count visit ≡ piece_of input depth from (row_end count k from to) (leaf_text k from to)
+same_leaf input count visit depth from to k ed ef et ek =
+    ap (λ d. piece_of input d visit.from (row_end count visit.kid visit.from visit.to) (leaf_text visit.kid visit.from visit.to)) ed
+    ∙ ap (λ f. piece_of input depth f (row_end count visit.kid f visit.to) (leaf_text visit.kid f visit.to)) ef
+    ∙ ap (λ t. piece_of input depth from (row_end count visit.kid from t) (leaf_text visit.kid from t)) et
+    ∙ ap (λ r. piece_of input depth from (row_end count r from to) (leaf_text r from to)) ek
 
-leaf_seen_at : (src : Source) (st : Stored) (g : Grammar) (input : List ℕ) (visit : Visit) (depth at size : ℕ) (k : tree.Kid) → IsLeafRow visit.kid
-    → visit.depth ≡ depth → visit.from ≡ at + from_of k → visit.to ≡ at + end_in size k → StandsKid src st at visit.kid k
-    → leaf_view input visit ≡ kid_view g input depth at k
-leaf_seen_at src st g input visit depth at size (tree.Sub from to sub) is ed ef et stands = absurd (subst IsLeafRow stands.1 is)
-leaf_seen_at src st g input visit depth at size (tree.Token from to bytes) is ed ef et stands = same_leaf input visit depth _ _ _ ed ef et stands.1
-leaf_seen_at src st g input visit depth at size (tree.Number from to prim high low) is ed ef et stands = same_leaf input visit depth _ _ _ ed ef et stands
-leaf_seen_at src st g input visit depth at size (tree.Raw from to bytes) is ed ef et stands = same_leaf input visit depth _ _ _ ed ef et stands.0
-leaf_seen_at src st g input visit depth at size (tree.Array one items) is ed ef et stands = absurd (subst IsLeafRow stands.3 is)
-leaf_seen_at src st g input visit depth at size (tree.Many one items) is ed ef et stands = absurd (subst IsLeafRow stands.3 is)
+module _ (src : Source) (st : Stored) (count : ℕ) (visit : Visit) where
+  leaf_seen_at : (g : Grammar) (input : List ℕ) (depth at size : ℕ) (k : tree.Kid) → IsLeafRow visit.kid → IsCount src count visit.kid
+      → visit.depth ≡ depth → visit.from ≡ at + from_of k → visit.to ≡ at + end_in size k → StandsKid src st at visit.kid k
+      → leaf_view input count visit ≡ kid_view g input depth at k
+  leaf_seen_at g input depth at size (tree.Sub from to sub) is told ed ef et stands = absurd (subst IsLeafRow stands.1 is)
+  leaf_seen_at g input depth at size (tree.Token from to bytes) is told ed ef et stands =
+      same_leaf input count visit depth _ _ _ ed ef et stands.1
+      ∙ ap (λ n. piece_of input depth (at + from) (end_of (at + from) (at + to) n) (codes "tok")) (subst (IsCount src count) stands.1 told bytes stands.2)
+  leaf_seen_at g input depth at size (tree.Number from to prim high low) is told ed ef et stands =
+      same_leaf input count visit depth _ _ _ ed ef et stands
+  leaf_seen_at g input depth at size (tree.Raw from to bytes) is told ed ef et stands = same_leaf input count visit depth _ _ _ ed ef et stands.0
+  leaf_seen_at g input depth at size (tree.Array one items) is told ed ef et stands = absurd (subst IsLeafRow stands.3 is)
+  leaf_seen_at g input depth at size (tree.Many one items) is told ed ef et stands = absurd (subst IsLeafRow stands.3 is)
 
--- the lines of a leaf, as what its row is called
-pub leaf_seen : (src : Source) (st : Stored) (g : Grammar) (input : List ℕ) (visit : Visit) (one : Seen) (k : Kid) → visit.kid ≡ k → IsLeafRow k
-    → Shows src st visit one
-    → piece_of input visit.depth visit.from visit.to (leaf_text k visit.from visit.to) ≡ kid_view g input one.depth one.at one.child
-leaf_seen src st g input visit one k ek is h =
-    ap (λ r. piece_of input visit.depth visit.from visit.to (leaf_text r visit.from visit.to)) (sym ek)
-    ∙ leaf_seen_at src st g input visit one.depth one.at one.size one.child (subst IsLeafRow (sym ek) is) h.depth h.from h.to h.stands
+  -- the lines of a leaf, as what its row is called
+  pub leaf_seen : (g : Grammar) (input : List ℕ) (one : Seen) (k : Kid) → visit.kid ≡ k → IsLeafRow k → IsCount src count k
+      → Shows src st visit one
+      → piece_of input visit.depth visit.from (row_end count k visit.from visit.to) (leaf_text k visit.from visit.to)
+      ≡ kid_view g input one.depth one.at one.child
+  leaf_seen g input one k ek is told h =
+      ap (λ r. piece_of input visit.depth visit.from (row_end count r visit.from visit.to) (leaf_text r visit.from visit.to)) (sym ek)
+      ∙ leaf_seen_at g input one.depth one.at one.size one.child (subst IsLeafRow (sym ek) is) (subst (IsCount src count) (sym ek) told)
+      h.depth h.from h.to h.stands
 
 -- ---- arrays and repetitions
 
@@ -176,21 +203,31 @@ module _ (src : Source) (st : Stored) (g : Grammar) (input : List ℕ) (visit : 
 
 -- ---- which bytes a leaf has
 
-among_at : (place : ℕ) (f t from to : ℕ) → f ≡ from → t ≡ to → is_among f t place ≡ is_among from to place
-among_at place f t from to ef et = ap (λ k. is_among k t place) ef ∙ ap (λ k. is_among from k place) et
+module _ (src : Source) (st : Stored) (count : ℕ) (visit : Visit) (place : ℕ) where
+  among_at : (from to : ℕ) (k : Kid) → visit.from ≡ from → visit.to ≡ to → visit.kid ≡ k
+      → is_among visit.from (row_end count visit.kid visit.from visit.to) place ≡ is_among from (row_end count k from to) place
+  among_at from to k ef et ek =
+      ap (λ f. is_among f (row_end count visit.kid f visit.to) place) ef
+      ∙ ap (λ t. is_among from (row_end count visit.kid from t) place) et
+      ∙ ap (λ r. is_among from (row_end count r from to) place) ek
 
-leaf_has_at : (src : Source) (st : Stored) (visit : Visit) (place at size : ℕ) (k : tree.Kid) → IsLeafRow visit.kid → visit.from ≡ at + from_of k
-    → visit.to ≡ at + end_in size k → StandsKid src st at visit.kid k → is_among visit.from visit.to place ≡ has_byte place at k
-leaf_has_at src st visit place at size (tree.Sub from to sub) is ef et stands = absurd (subst IsLeafRow stands.1 is)
-leaf_has_at src st visit place at size (tree.Token from to bytes) is ef et stands = among_at place _ _ _ _ ef et
-leaf_has_at src st visit place at size (tree.Number from to prim high low) is ef et stands = among_at place _ _ _ _ ef et
-leaf_has_at src st visit place at size (tree.Raw from to bytes) is ef et stands = among_at place _ _ _ _ ef et
-leaf_has_at src st visit place at size (tree.Array one items) is ef et stands = absurd (subst IsLeafRow stands.3 is)
-leaf_has_at src st visit place at size (tree.Many one items) is ef et stands = absurd (subst IsLeafRow stands.3 is)
+  leaf_has_at : (at size : ℕ) (k : tree.Kid) → IsLeafRow visit.kid → IsCount src count visit.kid → visit.from ≡ at + from_of k
+      → visit.to ≡ at + end_in size k → StandsKid src st at visit.kid k
+      → is_among visit.from (row_end count visit.kid visit.from visit.to) place ≡ has_byte place at k
+  leaf_has_at at size (tree.Sub from to sub) is told ef et stands = absurd (subst IsLeafRow stands.1 is)
+  leaf_has_at at size (tree.Token from to bytes) is told ef et stands =
+      among_at _ _ _ ef et stands.1
+      ∙ ap (λ n. is_among (at + from) (end_of (at + from) (at + to) n) place) (subst (IsCount src count) stands.1 told bytes stands.2)
+  leaf_has_at at size (tree.Number from to prim high low) is told ef et stands = among_at _ _ _ ef et stands
+  leaf_has_at at size (tree.Raw from to bytes) is told ef et stands = among_at _ _ _ ef et stands.0
+  leaf_has_at at size (tree.Array one items) is told ef et stands = absurd (subst IsLeafRow stands.3 is)
+  leaf_has_at at size (tree.Many one items) is told ef et stands = absurd (subst IsLeafRow stands.3 is)
 
-pub leaf_has : (src : Source) (st : Stored) (visit : Visit) (one : Seen) (place : ℕ) → IsLeafRow visit.kid → Shows src st visit one
-    → is_among visit.from visit.to place ≡ has_byte place one.at one.child
-leaf_has src st visit one place is h = leaf_has_at src st visit place one.at one.size one.child is h.from h.to h.stands
+  pub leaf_has : (one : Seen) (k : Kid) → visit.kid ≡ k → IsLeafRow k → IsCount src count k → Shows src st visit one
+      → is_among visit.from (row_end count k visit.from visit.to) place ≡ has_byte place one.at one.child
+  leaf_has one k ek is told h =
+      ap (λ r. is_among visit.from (row_end count r visit.from visit.to) place) (sym ek)
+      ∙ leaf_has_at one.at one.size one.child (subst IsLeafRow (sym ek) is) (subst (IsCount src count) (sym ek) told) h.from h.to h.stands
 
 abbrev pub IsInnerRow : Kid → Type 0
 IsInnerRow (row.Node id from to) = ⊤

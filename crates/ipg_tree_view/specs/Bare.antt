@@ -1,16 +1,22 @@
 -- The places of an input that no leaf of a tree has.
-use Rattle.std.specs.Prelude.{ℕ, zero, suc, ◌+◌, List, [], ◌∷◌, ◌++◌, Bool, true, false, not, ◌&&◌, nat_le, nat_lt, Option, None, Some}
+use Rattle.std.specs.Prelude.{ℕ, zero, suc, ◌+◌, ◌-◌, min, length, List, [], ◌∷◌, ◌++◌, Bool, true, false, not, ◌&&◌, nat_le, nat_lt, Option, None, Some}
+use Rattle.ipg_core.specs.Touch.{width}
 use Rattle.ipg_core.specs.Tree.{Kid, Sub, Token, Number, Raw, Array, Many}
 use Rattle.ipg_tree_walk.specs.Visits.{Seen}
 
 abbrev pub is_among : ℕ → ℕ → ℕ → Bool
 is_among from to place = nat_le from place && nat_lt place to
 
--- a child is a leaf, and has the byte at a place of the input, where its part begins at `at`
+-- where the first `count` bytes of an interval end
+abbrev pub end_of : ℕ → ℕ → ℕ → ℕ
+end_of from to count = from + min count (to - from)
+
+-- a child is a leaf, and has the byte at a place of the input, where its part begins at `at`: of its interval a terminal has as many bytes
+-- as its text, a number as many as its width, and raw bytes have all
 abbrev pub has_byte : ℕ → ℕ → Kid → Bool
 has_byte place at (Sub from to sub) = false
-has_byte place at (Token from to bytes) = is_among (at + from) (at + to) place
-has_byte place at (Number from to prim high low) = is_among (at + from) (at + to) place
+has_byte place at (Token from to bytes) = is_among (at + from) (end_of (at + from) (at + to) (length bytes)) place
+has_byte place at (Number from to prim high low) = is_among (at + from) (end_of (at + from) (at + to) (width prim)) place
 has_byte place at (Raw from to bytes) = is_among (at + from) (at + to) place
 has_byte place at (Array sym items) = false
 has_byte place at (Many sym items) = false

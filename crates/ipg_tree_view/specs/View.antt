@@ -1,15 +1,17 @@
 -- The tree beside the bytes: a line has a place, up to 16 bytes as digits and as characters, and what of the tree they are.
-use Rattle.std.specs.Prelude.{ℕ, ◌+◌, ◌-◌, ◌*◌, ◌/◌, ◌%◌, ◌^◌, min, List, [], ◌∷◌, ◌++◌, map, flat_map, take, drop, length, replicate, decimal, codes, ℤ}
+use Rattle.std.specs.Prelude.{ℕ, ◌+◌, ◌-◌, ◌*◌, ◌%◌, ◌^◌, min, List, [], ◌∷◌, ◌++◌, map, flat_map, take, drop, length, replicate, decimal, codes, ℤ}
 use Rattle.std.specs.Prelude.{Bool, ◌&&◌, nat_le, nat_lt, if◌then◌else◌, None}
 use Rattle.std.specs.Int.{w32, to_be_bytes}
+use Rattle.hex.specs.Hex.{encode_lower}
 use Rattle.ipg_core.specs.declared.grammar.Sym.{Sym}
 use Rattle.ipg_core.specs.Grammar.{Grammar}
-use Rattle.ipg_core.specs.Lines.{digit, hex_digits, primitive_name, rule_name, sym_name, attr_word}
+use Rattle.ipg_core.specs.Lines.{primitive_name, rule_name, sym_name, attr_word}
 use Rattle.ipg_core.specs.Part.{part}
+use Rattle.ipg_core.specs.Touch.{width}
 use Rattle.ipg_core.specs.Tree.{Tree, Node, Kid, Sub, Token, Number, Raw, Array, Many, Kids, count_of}
 use Rattle.ipg_tree_walk.specs.Visits.{Seen, visits}
 use Rattle.ipg_tree.specs.Words.{spaced}
-use Rattle.ipg_tree_view.specs.Bare.{bare_of, runs}
+use Rattle.ipg_tree_view.specs.Bare.{bare_of, runs, end_of}
 
 -- ---- columns
 
@@ -22,12 +24,12 @@ printable b = if nat_le 32 b && nat_le b 126 then b else 46
 
 -- the last eight hexadecimal digits of a place
 abbrev pub offset : ℕ → List ℕ
-offset at = hex_digits (to_be_bytes w32 (at % 2 ^ 32))
+offset at = encode_lower (to_be_bytes w32 (at % 2 ^ 32))
 
 -- two digits and a blank for each byte
 abbrev pub cells : List ℕ → List ℕ
 cells [] = []
-cells (b ∷ bytes) = digit (b / 16) ∷ digit (b % 16) ∷ 32 ∷ cells bytes
+cells (b ∷ bytes) = encode_lower (b ∷ []) ++ 32 ∷ cells bytes
 
 -- bytes as digits, and as characters between bars
 abbrev pub filled : List ℕ → List ℕ
@@ -94,12 +96,13 @@ piece_of input depth from to text = piece depth from (part input from to) text
 abbrev pub tree_head : Grammar → ℕ → ℕ → Tree → List ℕ
 tree_head g depth at (Node rule size attrs start end kids) = line at [] (node_text g depth at rule size attrs)
 
--- a child alone, in a part that begins at `at`: a node and its attributes; or a leaf and its bytes; or how many items there are
+-- a child alone, in a part that begins at `at`: a node and its attributes; or a leaf and the bytes that it has; or how many items there are
 abbrev pub kid_view : Grammar → List ℕ → ℕ → ℕ → Kid → List ℕ
 kid_view g input depth at (Sub from to sub) = tree_head g depth (at + from) sub
-kid_view g input depth at (Token from to bytes) = piece_of input depth (at + from) (at + to) (codes "tok")
+kid_view g input depth at (Token from to bytes) =
+    piece_of input depth (at + from) (end_of (at + from) (at + to) (length bytes)) (codes "tok")
 kid_view g input depth at (Number from to prim high low) =
-    piece_of input depth (at + from) (at + to) (primitive_name prim ++ 32 ∷ decimal (high * 2 ^ 32 + low))
+    piece_of input depth (at + from) (end_of (at + from) (at + to) (width prim)) (primitive_name prim ++ 32 ∷ decimal (high * 2 ^ 32 + low))
 kid_view g input depth at (Raw from to bytes) = piece_of input depth (at + from) (at + to) (codes "Bytes " ++ decimal (at + to - (at + from)))
 kid_view g input depth at (Array sym items) = bare_line (items_text g depth (codes "for ") sym items)
 kid_view g input depth at (Many sym items) = bare_line (items_text g depth (codes "many ") sym items)

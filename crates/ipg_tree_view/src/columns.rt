@@ -6,7 +6,7 @@ ghost use Rattle.ipg_tree_view.specs.Cutting.{begun};
 ghost use Rattle.ipg_tree.specs.Puts.{Puts};
 
 use crate::cut::{Cut, printable};
-use crate::words::{digits, prepend_digits, put};
+use crate::words::put;
 use ipg_outside::{Sink, SinkFault};
 use ipg_tree::Tail;
 
@@ -29,7 +29,7 @@ fn prepend_offset(line: &mut Tail, at: u64)
     ensures { line.new ≡ spec.offset at ++ line.old }
 {
     let place = (at % (1 << 32)) as u32;
-    prepend_digits(line, &place.to_be_bytes());
+    line.prepend_hex(&place.to_be_bytes());
 }
 
 /// Puts two digits and a blank for each byte before what there is.
@@ -41,7 +41,7 @@ fn prepend_cells(line: &mut Tail, bytes: &[u8])
     let mut left = bytes;
     while let Some((last, front)) = left.split_last() {
         line.prepend(b" ");
-        line.prepend(&digits(*last));
+        line.prepend_hex(&[*last]);
         left = front;
     }
 }

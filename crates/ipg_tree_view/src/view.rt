@@ -6,12 +6,14 @@ ghost use Rattle.ipg_core.specs.declared.grammar.Sym.{Sym};
 ghost use Rattle.ipg_core.specs.Grammar.{Grammar};
 ghost use Rattle.ipg_core.specs.Lines as lines;
 ghost use Rattle.ipg_core.specs.Part.{part};
+ghost use Rattle.ipg_core.specs.Touch.{width};
 ghost use Rattle.ipg_core.specs.Tree.{Tree, Kids};
 ghost use Rattle.ipg_mach_nodes.specs.declared.kid.Kid.{Kid as Row};
 ghost use Rattle.ipg_mach_nodes.specs.Stored.{Source, StandKids};
 ghost use Rattle.ipg_table.specs.Rows.{StandFor};
 ghost use Rattle.ipg_tree_walk.specs.Left.{Shows, StandsNode};
 ghost use Rattle.ipg_tree_walk.specs.Visits.{Seen};
+ghost use Rattle.ipg_tree_view.specs.Bare as bare;
 ghost use Rattle.ipg_tree_view.specs.Bare.{runs, ended, ended_at, begun_at};
 ghost use Rattle.ipg_tree_view.specs.Cutting.{begun, Lacks};
 ghost use Rattle.ipg_tree.specs.Line.{Says};
@@ -20,6 +22,7 @@ ghost use Rattle.ipg_tree.specs.Shares.{Shares, IsTree};
 ghost use Rattle.ipg_tree_view.specs.View as spec;
 ghost use Rattle.ipg_tree.specs.Words.{spaced};
 
+use crate::bare::{end_of, text_size};
 use crate::columns::{put_bare_line, put_line, put_more_line};
 use crate::cut::Cut;
 use crate::words::{behind, first, put};
@@ -28,7 +31,7 @@ use ipg_mach_nodes::{Kid, Node, RunId};
 use ipg_outside::{Sink, SinkFault};
 use ipg_table::tables::Tables;
 use ipg_tree::Tail;
-use ipg_tree::names::{primitive_name, rule_name, sym_name};
+use ipg_tree::names::{rule_name, sym_name};
 use ipg_tree_walk::{Parsed, Visit};
 use std::alloc::Allocator;
 
@@ -226,31 +229,33 @@ fn put_piece<S: Sink>(
     put_rest(out, line, depth, piece)
 }
 
-/// The part of the input that a visit has.
-fn piece_of<'a, A: Allocator + Clone + Drop>(p: &Parsed<'a, A>, visit: Visit) -> Piece<'a>
-    ensures at { result.at ≡ visit.from }
-    ensures bytes { result.bytes.now ≡ part p.now.parse.input visit.from visit.to }
+/// The part of the input from a place up to another.
+fn piece_of<'a, A: Allocator + Clone + Drop>(p: &Parsed<'a, A>, from: u64, to: u64) -> Piece<'a>
+    ensures at { result.at ≡ from }
+    ensures bytes { result.bytes.now ≡ part p.now.parse.input from to }
 {
     Piece {
-        at: visit.from,
-        bytes: p.part(visit.from, visit.to),
+        at: from,
+        bytes: p.part(from, to),
     }
 }
 
-/// Writes the lines of a terminal.
+/// Writes the lines of a terminal whose text has so many bytes.
 fn put_terminal<A: Allocator + Clone + Drop, S: Sink>(
     out: &mut S,
     line: &mut Tail,
     p: &Parsed<'_, A>,
     visit: Visit,
+    count: u64,
 ) -> Result<(), SinkFault>
     ensures { visit.from + 2 ^ 32 ≤ 2 ^ 64
-        → Puts result (spec.piece_of p.now.parse.input visit.depth visit.from visit.to (codes "tok"))
+        → Puts result (spec.piece_of p.now.parse.input visit.depth visit.from (bare.end_of visit.from visit.to count) (codes "tok"))
         (S.output out.old) (S.faults out.old) (S.output out.new) (S.faults out.new) }
 {
     let mut text = indent(visit.depth);
     text.push(b"tok");
-    put_piece(out, line, visit.depth, piece_of(p, visit), &text)
+    let end = end_of(visit.from, visit.to, count);
+    put_piece(out, line, visit.depth, piece_of(p, visit.from, end), &text)
 }
 
 /// The value of a number in two halves.
@@ -270,14 +275,16 @@ fn put_number<A: Allocator + Clone + Drop, S: Sink>(
     value: u64,
 ) -> Result<(), SinkFault>
     ensures { visit.from + 2 ^ 32 ≤ 2 ^ 64
-        → Puts result (spec.piece_of p.now.parse.input visit.depth visit.from visit.to (lines.primitive_name prim ++ 32 ∷ decimal value))
+        → Puts result (spec.piece_of p.now.parse.input visit.depth visit.from (bare.end_of visit.from visit.to (width prim))
+        (lines.primitive_name prim ++ 32 ∷ decimal value))
         (S.output out.old) (S.faults out.old) (S.output out.new) (S.faults out.new) }
 {
     let mut text = indent(visit.depth);
-    text.push(primitive_name(prim));
+    text.push(prim.word());
     text.push(b" ");
     text.push_number(value);
-    put_piece(out, line, visit.depth, piece_of(p, visit), &text)
+    let end = end_of(visit.from, visit.to, u64::from(prim.width()));
+    put_piece(out, line, visit.depth, piece_of(p, visit.from, end), &text)
 }
 
 /// Writes the lines of raw bytes.
@@ -294,7 +301,13 @@ fn put_raw<A: Allocator + Clone + Drop, S: Sink>(
     let mut text = indent(visit.depth);
     text.push(b"Bytes ");
     text.push_number(visit.to.saturating_sub(visit.from));
-    put_piece(out, line, visit.depth, piece_of(p, visit), &text)
+    put_piece(
+        out,
+        line,
+        visit.depth,
+        piece_of(p, visit.from, visit.to),
+        &text,
+    )
 }
 
 /// Writes the line of an array or a repetition.
@@ -331,7 +344,7 @@ pub(crate) fn put_visit<A: Allocator + Clone + Drop, S: Sink>(
 {
     match visit.kid {
         Kid::Node { .. } => put_tree(out, line, p, visit),
-        Kid::Text { .. } => put_terminal(out, line, p, visit),
+        Kid::Text { sym, .. } => put_terminal(out, line, p, visit, text_size(p.tables(), sym)),
         Kid::Number {
             prim,
             high,

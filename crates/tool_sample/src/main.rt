@@ -2,6 +2,9 @@
 //! text.
 #![tactic(auto)]
 
+#[cfg(test)]
+mod tests;
+
 ghost use Rattle.std.specs.Prelude.{◌≤◌, IfOk};
 
 use anyhow::{Context, Result, bail, ensure};

@@ -5,8 +5,8 @@ use crate::tests::rows::{
     TREE, UNKNOWN,
 };
 use ipg_app::run::run;
-use ipg_app::status::Status;
 use ipg_app::sure::run_surely;
+use ipg_app_text::status::Status;
 use ipg_outside::{MemFiles, MemSink, SureFiles, SureSink};
 use std::alloc::{AllocError, Global};
 

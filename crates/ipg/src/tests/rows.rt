@@ -1,5 +1,5 @@
 //! The rows that the tests go over.
-use ipg_app::status::Status;
+use ipg_app_text::status::Status;
 
 /// A status and the text that goes with it.
 pub type Reply<'a> = (Status, &'a [u8]);

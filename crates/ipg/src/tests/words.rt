@@ -28,12 +28,13 @@ fn settings(alloc: Global, texts: &[&str]) -> Result<Option<(Memo, u32)>, AllocE
     }
 }
 
-const PARSED: [(&[&str], Memo, u32); 10] = [
+const PARSED: [(&[&str], Memo, u32); 11] = [
     (&["parse", "g", "f"], Memo::On, 512),
     (&["parse", "g", "f", "--memo", "on"], Memo::On, 512),
     (&["parse", "g", "--memo=off", "f"], Memo::Off, 512),
     (&["parse", "--arena", "1", "g", "f"], Memo::On, 1),
     (&["parse", "g", "f", "--arena=4096"], Memo::On, 4096),
+    (&["parse", "g", "f", "--arena", "007"], Memo::On, 7),
     (
         &["parse", "--arena", "30", "--memo", "off", "g", "f"],
         Memo::Off,
@@ -55,7 +56,7 @@ fn reads_settings(rt: HostRuntime) -> anyhow::Result<()> {
     Ok(())
 }
 
-const REFUSED: [&[&str]; 54] = [
+const REFUSED: [&[&str]; 51] = [
     &[],
     &["parse"],
     &["parse", "g"],
@@ -67,7 +68,6 @@ const REFUSED: [&[&str]; 54] = [
     &["parse", "g", "f", "--memo="],
     &["parse", "g", "f", "--arena", "0"],
     &["parse", "g", "f", "--arena", "00"],
-    &["parse", "g", "f", "--arena", "03"],
     &["parse", "g", "f", "--arena", "+3"],
     &["parse", "g", "f", "--arena", "4097"],
     &["parse", "g", "f", "--arena", "99999999999999999999"],
@@ -105,14 +105,19 @@ const REFUSED: [&[&str]; 54] = [
     &["trial", "gif"],
     &["trial", "gif", ""],
     &["trial", "gif", "4294967296"],
-    &["trial", "gif", "03"],
-    &["trial", "gif", "00"],
     &["trial", "gif", "+3"],
     &["trial", "gif", "-3"],
     &["trial", "gif", "3", "--memo", "on"],
 ];
 
-const TRIALS: [(&str, u32); 4] = [("0", 0), ("1", 1), ("30", 30), ("4294967295", 4294967295)];
+const TRIALS: [(&str, u32); 6] = [
+    ("0", 0),
+    ("00", 0),
+    ("1", 1),
+    ("03", 3),
+    ("30", 30),
+    ("4294967295", 4294967295),
+];
 
 #[test]
 fn reads_numbers_of_parts(rt: HostRuntime) -> anyhow::Result<()> {

@@ -1,7 +1,7 @@
 use Rattle.std.proofs.Common.{Ok, Err}
 use Rattle.ipg_core.specs.Grammar.{Grammar}
-use Rattle.ipg_app.specs.Checks.{Checks}
-use Rattle.ipg_app.specs.Order.{Order}
+use Rattle.ipg_app_grammar.specs.Checks.{Checks}
+use Rattle.ipg_app_text.specs.Order.{Order}
 use Rattle.ipg_app.specs.Reply.{edit, edit_file}
 use Rattle.ipg_app.proofs.Settling.{accepted_on, not_accepted}
 use Rattle.ipg_app.proofs.Replying.{replied_on, reply_exits}

@@ -1,8 +1,8 @@
 use Rattle.std.proofs.Common.{List, ℕ, ◌^◌}
 use Rattle.ipg_outside.specs.Files.{ReadWhole}
-use Rattle.ipg_app.specs.Found.{input_in_file, silence}
-use Rattle.ipg_app.specs.Order.{Order}
-use Rattle.ipg_app.specs.Run.{Settles}
+use Rattle.ipg_app_text.specs.Found.{input_in_file, silence}
+use Rattle.ipg_app_text.specs.Order.{Order}
+use Rattle.ipg_app_text.specs.Settles.{Settles}
 use Rattle.ipg_app.specs.Reply.{edit_file, edit_input}
 use Rattle.ipg_app.proofs.Settling.{no_input_on, read_goes_on, settles_then}
 use Rattle.ipg_app.proofs.Replying.{replied_on, reply_exits}

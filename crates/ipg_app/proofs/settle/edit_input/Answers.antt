@@ -1,8 +1,8 @@
 use Rattle.std.proofs.Common.{List, ℕ, ◌^◌, subst}
 use Rattle.ipg_outside.specs.Files.{ReadWhole}
-use Rattle.ipg_app.specs.Found.{input_in_file, silence}
-use Rattle.ipg_app.specs.Order.{Order}
-use Rattle.ipg_app.specs.Run.{Settles}
+use Rattle.ipg_app_text.specs.Found.{input_in_file, silence}
+use Rattle.ipg_app_text.specs.Order.{Order}
+use Rattle.ipg_app_text.specs.Settles.{Settles}
 use Rattle.ipg_app.specs.Reply.{edit_input, edits_of}
 use Rattle.ipg_app.specs.Settled.{IsReplied}
 use Rattle.ipg_app.proofs.Settling.{no_input_on, read_goes_on}

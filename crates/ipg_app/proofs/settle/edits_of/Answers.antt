@@ -1,7 +1,7 @@
 use Rattle.std.proofs.Common.{Ok, Err, List, inl}
 use Rattle.ipg_edit_script.specs.declared.script.Edit.{Edit}
-use Rattle.ipg_app.specs.Editing.{Edits, ReadsScript}
-use Rattle.ipg_app.specs.Order.{Order, says}
+use Rattle.ipg_app_tree.specs.Editing.{Edits, ReadsScript}
+use Rattle.ipg_app_text.specs.Order.{Order, says}
 use Rattle.ipg_app.specs.Reply.{edits_of}
 use Rattle.ipg_app.proofs.Settling.{script_goes_on, no_script}
 use Rattle.ipg_app.proofs.Replying.{reply_exits}

@@ -1,10 +1,10 @@
 use Rattle.std.proofs.Common.{◌≡◌, ◌^◌, ◌<◌, length, List, [], ℕ, Some}
 use Rattle.std.proofs.lemmas.Result.{IfOk-weaker}
 use Rattle.ipg_read_tokens.specs.declared.fault.ReadFault.TheVariants.{TooLong}
-use Rattle.ipg_app.specs.Explained.{Refuses, explained_said}
-use Rattle.ipg_app.specs.Lines.{said_of}
-use Rattle.ipg_app.specs.Reasons.{read_reason}
-use Rattle.ipg_app.specs.Seen.{reason_of}
+use Rattle.ipg_app_grammar.specs.Explained.{Refuses, explained_said}
+use Rattle.ipg_app_text.specs.Lines.{said_of}
+use Rattle.ipg_app_text.specs.Reasons.{read_reason}
+use Rattle.ipg_app_text.specs.Seen.{reason_of}
 use Rattle.ipg_app.proofs.OneReason.{refuses_too_long}
 use Rattle.ipg_app.proofs.settle.explain_too_long.Goals as goal
 

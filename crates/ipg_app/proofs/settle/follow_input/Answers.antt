@@ -1,12 +1,12 @@
 use Rattle.std.proofs.Common.{List, ℕ, ◌^◌, subst}
 use Rattle.ipg_outside.specs.Files.{ReadWhole}
-use Rattle.ipg_app.specs.Found.{input_in_file, silence}
-use Rattle.ipg_app.specs.Order.{Order, says}
-use Rattle.ipg_app.specs.Run.{Settles}
-use Rattle.ipg_app.specs.Followed.{Cleared, Follows, subject}
-use Rattle.ipg_app.specs.Lines.{said_of}
+use Rattle.ipg_app_text.specs.Found.{input_in_file, silence}
+use Rattle.ipg_app_text.specs.Order.{Order, says}
+use Rattle.ipg_app_text.specs.Settles.{Settles}
+use Rattle.ipg_app_grammar.specs.Followed.{Cleared, Follows, subject}
+use Rattle.ipg_app_text.specs.Lines.{said_of}
 use Rattle.ipg_app.specs.Reply.{follow}
-use Rattle.ipg_app.proofs.Instead.{said_exits}
+use Rattle.ipg_app_text.specs.Instead.{said_exits}
 use Rattle.ipg_app.proofs.Settling.{no_input_on, read_on}
 use Rattle.ipg_app.proofs.settle.follow_input.Goals as goal
 

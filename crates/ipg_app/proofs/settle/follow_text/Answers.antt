@@ -1,10 +1,10 @@
 use Rattle.std.proofs.Common.{Ok, Err}
-use Rattle.ipg_app.specs.Followed.{Cleared, Clears}
+use Rattle.ipg_app_grammar.specs.Followed.{Cleared, Clears}
 use Rattle.ipg_app.specs.Reply.{explain_text, follow}
-use Rattle.ipg_app.specs.Run.{Settles}
-use Rattle.ipg_app.specs.Lines.{said_of}
-use Rattle.ipg_app.specs.Seen.{reason_of}
-use Rattle.ipg_app.proofs.Instead.{said_on}
+use Rattle.ipg_app_text.specs.Settles.{Settles}
+use Rattle.ipg_app_text.specs.Lines.{said_of}
+use Rattle.ipg_app_text.specs.Seen.{reason_of}
+use Rattle.ipg_app_text.specs.Instead.{said_on}
 use Rattle.ipg_app.proofs.Settling.{cleared_on, not_cleared}
 use Rattle.ipg_app.proofs.settle.follow_text.Goals as goal
 

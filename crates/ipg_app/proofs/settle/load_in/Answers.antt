@@ -1,9 +1,9 @@
 use Rattle.std.proofs.Common.{Ok, Err}
 use Rattle.ipg_core.specs.Grammar.{Grammar}
-use Rattle.ipg_app.specs.declared.task.Show.TheVariants.{Lines}
-use Rattle.ipg_app.specs.Order.{Order}
+use Rattle.ipg_app_tree.specs.declared.show.Show.TheVariants.{Lines}
+use Rattle.ipg_app_text.specs.Order.{Order}
 use Rattle.ipg_app.specs.Reply.{load_in, parse_input}
-use Rattle.ipg_app.specs.Tables.{Loads}
+use Rattle.ipg_app_grammar.specs.Tables.{Loads}
 use Rattle.ipg_app.proofs.Settling.{held_goes_on, none_held}
 use Rattle.ipg_app.proofs.Replying.{replied_on, reply_exits}
 use Rattle.ipg_app.proofs.settle.load_in.Goals as goal

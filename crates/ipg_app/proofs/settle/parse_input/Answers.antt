@@ -1,9 +1,10 @@
 use Rattle.std.proofs.Common.{List, ℕ, ◌^◌}
 use Rattle.ipg_outside.specs.Files.{ReadWhole}
-use Rattle.ipg_app.specs.Found.{input_in_file, silence}
-use Rattle.ipg_app.specs.Order.{Order, says}
-use Rattle.ipg_app.specs.Run.{Settles}
-use Rattle.ipg_app.specs.Reply.{Parses, parse_input}
+use Rattle.ipg_app_text.specs.Found.{input_in_file, silence}
+use Rattle.ipg_app_text.specs.Order.{Order, says}
+use Rattle.ipg_app_text.specs.Settles.{Settles}
+use Rattle.ipg_app.specs.Reply.{parse_input}
+use Rattle.ipg_app_tree.specs.Parses.{Parses}
 use Rattle.ipg_app.proofs.Settling.{no_input_on, read_on}
 use Rattle.ipg_app.proofs.Replying.{reply_exits}
 use Rattle.ipg_app.proofs.settle.parse_input.Goals as goal

@@ -1,10 +1,11 @@
 use Rattle.std.proofs.Common.{◌≡◌, Some, None, ap, sym, subst, ◌∙◌}
 use Rattle.std.specs.Option.{option_map}
-use Rattle.ipg_app.specs.Found.{FoundText, bytes_of, silence}
-use Rattle.ipg_app.specs.Lines.{said_of}
-use Rattle.ipg_app.specs.Reply.{explain, explain_by, text_under}
-use Rattle.ipg_app.specs.Run.{Settles}
-use Rattle.ipg_app.proofs.Instead.{said_exits, said_on}
+use Rattle.ipg_app_text.specs.Found.{FoundText, bytes_of, silence}
+use Rattle.ipg_app_text.specs.Lines.{said_of}
+use Rattle.ipg_app.specs.Reply.{explain, explain_by}
+use Rattle.ipg_app_text.specs.Steps.{text_under}
+use Rattle.ipg_app_text.specs.Settles.{Settles}
+use Rattle.ipg_app_text.specs.Instead.{said_exits, said_on}
 use Rattle.ipg_app.proofs.Settling.{found_bytes, found_is, refused_by, settles_then, text_on, these_bytes, no_text_on, too_many}
 use Rattle.ipg_app.proofs.settle.settle_explain.Goals as goal
 

@@ -1,11 +1,13 @@
 use Rattle.std.proofs.Common.{◌≡◌, List, ℕ, Ok, Err, inl}
-use Rattle.ipg_app.specs.CoreOf.{grammar_in}
-use Rattle.ipg_app.specs.Found.{FoundText, silence}
-use Rattle.ipg_app.specs.Lines.{said_of}
-use Rattle.ipg_app.specs.Order.{Order}
-use Rattle.ipg_app.specs.Reply.{fmt, formatted, grammar_of, text_under}
-use Rattle.ipg_app.specs.Run.{Settles}
-use Rattle.ipg_app.proofs.Instead.{said_exits}
+use Rattle.ipg_app_text.specs.CoreOf.{grammar_in}
+use Rattle.ipg_app_text.specs.Found.{FoundText, silence}
+use Rattle.ipg_app_text.specs.Lines.{said_of}
+use Rattle.ipg_app_text.specs.Order.{Order}
+use Rattle.ipg_app.specs.Reply.{fmt}
+use Rattle.ipg_app_grammar.specs.Commands.{formatted}
+use Rattle.ipg_app_text.specs.Steps.{grammar_of, text_under}
+use Rattle.ipg_app_text.specs.Settles.{Settles}
+use Rattle.ipg_app_text.specs.Instead.{said_exits}
 use Rattle.ipg_app.proofs.Settling.{grammar_on, no_grammar_on, found_bytes, found_is, text_on, no_text_on}
 use Rattle.ipg_app.proofs.settle.settle_fmt.Goals as goal
 

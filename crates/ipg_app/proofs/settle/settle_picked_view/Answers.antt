@@ -1,8 +1,8 @@
 use Rattle.std.proofs.Common.{Err, subst}
 use Rattle.ipg_query_path.specs.declared.path.Query.{Query}
-use Rattle.ipg_app.specs.declared.task.Show.TheVariants.{PickedView}
-use Rattle.ipg_app.specs.Order.{Order}
-use Rattle.ipg_app.specs.Path.{ReadsPath}
+use Rattle.ipg_app_tree.specs.declared.show.Show.TheVariants.{PickedView}
+use Rattle.ipg_app_text.specs.Order.{Order}
+use Rattle.ipg_app_tree.specs.Path.{ReadsPath}
 use Rattle.ipg_app.specs.Reply.{Parse, picked_view, use_order}
 use Rattle.ipg_app.specs.Settled.{IsReplied}
 use Rattle.ipg_app.proofs.Settling.{path_goes_on, no_path}

@@ -1,9 +1,10 @@
 use Rattle.std.proofs.Common.{List, ℕ, Ok, Err}
-use Rattle.ipg_app.specs.CoreOf.{CoreOf}
-use Rattle.ipg_app.specs.Found.{FoundText, silence}
-use Rattle.ipg_app.specs.Order.{Order}
-use Rattle.ipg_app.specs.Reply.{core_of, order_by, text_under, use_order}
-use Rattle.ipg_app.specs.Run.{Settles}
+use Rattle.ipg_app_text.specs.CoreOf.{CoreOf}
+use Rattle.ipg_app_text.specs.Found.{FoundText, silence}
+use Rattle.ipg_app_text.specs.Order.{Order}
+use Rattle.ipg_app.specs.Reply.{order_by, use_order}
+use Rattle.ipg_app_text.specs.Steps.{core_of, text_under}
+use Rattle.ipg_app_text.specs.Settles.{Settles}
 use Rattle.ipg_app.specs.Settled.{task_seen}
 use Rattle.ipg_app.proofs.Nesting.{core_nests}
 use Rattle.ipg_app.proofs.Settling.{core_on, no_core_on, found_bytes, found_is, text_on, no_text_on, settles_then}

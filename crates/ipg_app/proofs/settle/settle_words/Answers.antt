@@ -3,9 +3,9 @@ use Rattle.std.specs.Option.{option_map}
 use Rattle.std.specs.String.{string_bytes}
 use Rattle.ipg_app_words.specs.Request.{Trial, request_of}
 use Rattle.ipg_app_words.specs.Seen.{seen}
-use Rattle.ipg_app.specs.Found.{Says}
+use Rattle.ipg_app_text.specs.Found.{Says}
 use Rattle.ipg_app.specs.Reply.{order_of, order_on, trial}
-use Rattle.ipg_app.specs.Run.{Settles}
+use Rattle.ipg_app_text.specs.Settles.{Settles}
 use Rattle.ipg_app.proofs.Replying.{reply_exits}
 use Rattle.ipg_app.proofs.settle.settle_words.Goals as goal
 

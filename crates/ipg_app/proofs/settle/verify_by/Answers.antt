@@ -1,12 +1,13 @@
 use Rattle.std.proofs.Common.{List, ℕ, ◌^◌, subst}
 use Rattle.ipg_outside.specs.Files.{ReadWhole}
-use Rattle.ipg_app.specs.Found.{input_in_file, silence}
-use Rattle.ipg_app.specs.Order.{Order}
-use Rattle.ipg_app.specs.Run.{Settles}
-use Rattle.ipg_app.specs.Early.{IsSaid}
-use Rattle.ipg_app.specs.Found.{Says}
-use Rattle.ipg_app.specs.Reply.{judge, verify}
-use Rattle.ipg_app.proofs.Instead.{said_exits, said_on}
+use Rattle.ipg_app_text.specs.Found.{input_in_file, silence}
+use Rattle.ipg_app_text.specs.Order.{Order}
+use Rattle.ipg_app_text.specs.Settles.{Settles}
+use Rattle.ipg_app_text.specs.Early.{IsSaid}
+use Rattle.ipg_app_text.specs.Found.{Says}
+use Rattle.ipg_app.specs.Reply.{verify}
+use Rattle.ipg_app_grammar.specs.Commands.{judge}
+use Rattle.ipg_app_text.specs.Instead.{said_exits, said_on}
 use Rattle.ipg_app.proofs.Settling.{no_input_on, read_on}
 use Rattle.ipg_app.proofs.settle.verify_by.Goals as goal
 

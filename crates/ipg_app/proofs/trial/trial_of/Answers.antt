@@ -1,13 +1,14 @@
 use Rattle.std.proofs.Common.{◌≡◌, Ok, Err, ap, arith, cond, sym, subst}
 use Rattle.std.proofs.lemmas.Bool.{le-leb}
 use Rattle.ipg_formats.specs.Text.{text_of}
-use Rattle.ipg_app.specs.CoreOf.{CoreOf}
-use Rattle.ipg_app.specs.Found.{Says}
-use Rattle.ipg_app.specs.Order.{Answers, have}
-use Rattle.ipg_app.specs.Reply.{core_of, trial_of, try_core}
-use Rattle.ipg_app.specs.Said.{usage}
+use Rattle.ipg_app_text.specs.CoreOf.{CoreOf}
+use Rattle.ipg_app_text.specs.Found.{Says}
+use Rattle.ipg_app_text.specs.Order.{Answers, have}
+use Rattle.ipg_app.specs.Reply.{trial_of, try_core}
+use Rattle.ipg_app_text.specs.Steps.{core_of}
+use Rattle.ipg_app_text.specs.Said.{usage}
 use Rattle.ipg_app.specs.Trial.{max_parts, parts_in}
-use Rattle.ipg_app.proofs.Instead.{said_on}
+use Rattle.ipg_app_text.specs.Instead.{said_on}
 use Rattle.ipg_app.proofs.trial.trial_of.Goals as goal
 
 pub returns : goal.returns

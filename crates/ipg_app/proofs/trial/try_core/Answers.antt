@@ -1,8 +1,8 @@
 use Rattle.std.proofs.Common.{Ok, Err, refl}
-use Rattle.ipg_app.specs.Checks.{Checks}
+use Rattle.ipg_app_grammar.specs.Checks.{Checks}
 use Rattle.ipg_app.specs.Reply.{try_core}
-use Rattle.ipg_app.specs.Found.{Says}
-use Rattle.ipg_app.proofs.Instead.{said_exits}
+use Rattle.ipg_app_text.specs.Found.{Says}
+use Rattle.ipg_app_text.specs.Instead.{said_exits}
 use Rattle.ipg_app.proofs.trial.try_core.Goals as goal
 
 pub returns-in_err-checked : goal.returns-in_err-checked

@@ -1,6 +1,6 @@
 use Rattle.std.proofs.Common.{◌∙◌, ap, subst, map, List, ℕ}
 use Rattle.std.specs.String.{string_bytes}
-use Rattle.ipg_app.specs.Code.{code_of}
+use Rattle.ipg_app_text.specs.Code.{code_of}
 use Rattle.ipg_c.specs.Handed.{told_of}
 use Rattle.ipg_c.specs.Answered.{Replies}
 use Rattle.ipg_c.proofs.answer.reply_to.Goals as goal

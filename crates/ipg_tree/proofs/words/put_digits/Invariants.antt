@@ -1,11 +1,11 @@
 use Rattle.std.proofs.Common.{length}
-use Rattle.ipg_core.specs.Lines as spec
+use Rattle.hex.specs.Hex.{encode_lower}
 use Rattle.ipg_tree.specs.Putting.{Progress}
 use Rattle.ipg_tree.proofs.words.put_digits.Given as goal
 
 abbrev pub invariant-loop-left : goal.invariant-loop-left
 invariant-loop-left g l =
-    Progress (spec.hex_digits l.bytes) (spec.hex_digits l.left)
+    Progress (encode_lower l.bytes) (encode_lower l.left)
     (g.S.Sink.output l.initial.out) (g.S.Sink.faults l.initial.out) (g.S.Sink.output l.out) (g.S.Sink.faults l.out)
 
 abbrev pub decreases-loop-left : goal.decreases-loop-left

@@ -1,9 +1,0 @@
-use Rattle.std.proofs.Common.{refl}
-use Rattle.ipg_app.proofs.Meant.{printable}
-use Rattle.ipg_app.proofs.answering.put_json.Goals as goal
-
-pub returns-in-Ok : goal.returns-in-Ok
-returns-in-Ok g c src grammar one h = (refl, c.in-Ok.ensures.json src grammar one (printable _ src grammar one h))
-
-pub returns-in-Err : goal.returns-in-Err
-returns-in-Err g c src grammar one h = c.in-Err.ensures.json src grammar one (printable _ src grammar one h)

@@ -1,0 +1,15 @@
+-- What is said to who asks for help.
+use Rattle.std.specs.Prelude.{ℕ, List, Option, None, Some}
+use Rattle.ipg_app_help.specs.Help.{help_of, version_text}
+use Rattle.ipg_app_text.specs.Said.{Said, done, usage}
+
+-- a name that is no command's is usage
+abbrev pub help_or_usage : Option (List ℕ) → Said
+help_or_usage None = usage
+help_or_usage (Some text) = done text
+
+abbrev pub help_said : Option (List ℕ) → Said
+help_said command = help_or_usage (help_of command)
+
+abbrev pub version_said : Said
+version_said = done version_text
