@@ -9,8 +9,9 @@ export LC_ALL=C
 seeds=$2
 text=$seeds/text
 
+# disk NAME SIZE PROGRAM: zeros for a program to write on, where it is there
 disk() {
-  truncate -s "$2" "$1"
+  command -v "$3" >/dev/null && truncate -s "$2" "$1"
 }
 
 # film NAME WORDS..: some pictures and sound, written as the words say
@@ -52,7 +53,7 @@ case $1 in
     for v in '-p 100' '-S 4096' '-R 4'; do dtc -q -I dts -O dtb $v -o "t$v.dtb" t.dts; done
     rm t.dts
     ;;
-  exfat) for c in 512 4K 32K; do disk "$c.img" 8M && mkfs.exfat -c "$c" -L red "$c.img" >/dev/null; done ;;
+  exfat) for c in 512 4K 32K; do disk "$c.img" 8M mkfs.exfat && mkfs.exfat -c "$c" -L red "$c.img" >/dev/null; done ;;
   ext)
     for t in ext2 ext3 ext4; do
       for b in 1024 4096; do "mkfs.$t" -q -F -b "$b" "$t$b.img" 8M; done
@@ -60,9 +61,9 @@ case $1 in
     mkfs.ext4 -q -F -O 64bit,meta_bg,^resize_inode m.img 40M
     ;;
   fat)
-    disk 12 1M && mkfs.fat -F 12 12
-    disk 16 20M && mkfs.fat -F 16 16
-    disk 32 40M && mkfs.fat -F 32 32
+    disk 12 1M mkfs.fat && mkfs.fat -F 12 12
+    disk 16 20M mkfs.fat && mkfs.fat -F 16 16
+    disk 32 40M mkfs.fat && mkfs.fat -F 32 32
     ;;
   flac)
     for r in 8000 44100 96000; do
@@ -83,7 +84,7 @@ case $1 in
     ;;
   gpt)
     for n in 1 4; do
-      disk "$n.img" 4M && for i in $(seq "$n"); do sgdisk -n "$i:+0:+512K" "$n.img"; done
+      disk "$n.img" 4M sgdisk && for i in $(seq "$n"); do sgdisk -n "$i:+0:+512K" "$n.img"; done
     done >/dev/null
     ;;
   gzip) for f in "$seeds"/*; do gzip -c "$f" >"${f##*/}.gz" && gzip -nc "$f" >"${f##*/}.n.gz"; done ;;
@@ -108,7 +109,7 @@ case $1 in
     ;;
   luks)
     for v in 1 2; do
-      disk "l$v.img" 20M && echo -n red | cryptsetup luksFormat -q --type "luks$v" --pbkdf pbkdf2 --pbkdf-force-iterations 1000 "l$v.img" -
+      disk "l$v.img" 20M cryptsetup && echo -n red | cryptsetup luksFormat -q --type "luks$v" --pbkdf pbkdf2 --pbkdf-force-iterations 1000 "l$v.img" -
     done
     ;;
   lz4)
@@ -130,7 +131,7 @@ case $1 in
     ;;
   mbr)
     for n in 1 2; do
-      disk "$n.img" 4M && printf ',1M\n,1M\n' | head -n "$n" | sfdisk -q "$n.img" && head -c 512 "$n.img" >"$n.sector"
+      disk "$n.img" 4M sfdisk && printf ',1M\n,1M\n' | head -n "$n" | sfdisk -q "$n.img" && head -c 512 "$n.img" >"$n.sector"
     done
     ;;
   mo)
@@ -143,7 +144,7 @@ case $1 in
     film d.mp4 -c:v mpeg4 -c:a aac -movflags frag_keyframe+empty_moov && film e.mp4 -c:v libx264 -bf 2 -c:a aac -movflags +faststart
     film f.mp4 -c:v libx264 -c:a flac -strict -2 -movflags frag_keyframe+default_base_moof
     ;;
-  ntfs) for c in 512 4096; do disk "$c.img" 8M && mkntfs -qF -c "$c" "$c.img" >/dev/null; done ;;
+  ntfs) for c in 512 4096; do disk "$c.img" 8M mkntfs && mkntfs -qF -c "$c" "$c.img" >/dev/null; done ;;
   ogg)
     for r in 8000 44100; do
       for c in 1 2; do sox -n -r "$r" -c "$c" "s$r$c.ogg" synth 0.5 sine 440; done
