@@ -1,7 +1,7 @@
 """The front door: README's commands on a machine where nothing of ours is installed, and what `ipg-open` guesses.
 
   front.py readme                 installs and runs what stands in README's blocks, in their order, in a shell with PATH=/usr/bin:/bin
-  front.py formats IPG            `@NAME` and `-`, by an installed program
+  front.py formats IPG            `@NAME`, `-` and the list of formats, by an installed program
   front.py samples IPG-OPEN       the first answer for each sample of formats/, and for a picture
   front.py words IPG-OPEN         options, statuses, several files, names that are hard to pass, a pager
   front.py files IPG-OPEN MOST    the first answer for files of this machine, of kinds that `file` tells; by kind at -v
@@ -104,6 +104,7 @@ def is_due(folder, number, row):
 
 # ---- formats by name, and the standard input
 
+BUILT_IN = ["@elf", "@pe", "@gif", "@pcap"]
 MINE = b"# All \x1b[31mthat is there\r\nFile -> Bytes ;\n"
 READ_FAULT = (5, b"read fault\n")
 ACCEPTED = (0, b"accepted\n")
@@ -114,6 +115,15 @@ def run(command, folder, data=b"", **variables):
     environment = {name: text for name, text in dict(os.environ, **variables).items() if text is not None}
     done = subprocess.run(command, cwd=folder, env=environment, input=data, capture_output=True, timeout=60)
     return (done.returncode, done.stdout) if not done.stderr else (done.returncode, done.stderr)
+
+
+def listed(formats):
+    """The lines that are due of a folder of grammars."""
+    lines = []
+    for name in sorted(name[:-4] for name in os.listdir(formats) if name.endswith(".ipg")):
+        with open(os.path.join(formats, name + ".ipg"), "rb") as file:
+            lines.append(f"@{name:<15}" + file.readline().decode().removeprefix("#").strip() + "\n")
+    return "".join(lines).encode()
 
 
 def folder_of_own(top):
@@ -143,6 +153,15 @@ def by_name(ipg, top, formats, shared):
     return due
 
 
+def list_due(ipg, top, formats, shared):
+    front = run([ipg, "formats"], top, IPG_FORMATS=os.path.join(top, "none"))[1]
+    there = b"         All ?[31mthat is there\n"
+    closed = there if os.geteuid() == 0 else b"\n"
+    return front, [
+        (["formats"], {"IPG_FORMATS": None}, (0, front + listed(shared))),
+        (["formats"], {"IPG_FORMATS": formats}, (0, front + b"@closed" + closed + b"@folder\n@mine  " + there + b"@plain\n"))]
+
+
 def of_input(ipg, top):
     """The standard input is the file `-`, from a pipe and from a file, and a file so named is `./-`."""
     png = samples.SAMPLES["png"]()
@@ -163,8 +182,10 @@ def of_formats(ipg):
         formats = folder_of_own(top)
         with open(os.path.join(top, "@here"), "wb") as file:
             file.write(b'A -> "" ; A -> "" ;')
-        rows = [(words, run([ipg, *words], top, **variables), due) for words, variables, due in by_name(ipg, top, formats, shared)]
+        front, lists = list_due(ipg, top, formats, shared)
+        rows = [(words, run([ipg, *words], top, **variables), due) for words, variables, due in by_name(ipg, top, formats, shared) + lists]
         rows += of_input(ipg, top)
+        rows.append(("the built-in ones", [line.split()[0].decode() for line in front.splitlines()], BUILT_IN))
         os.chmod(os.path.join(formats, "closed.ipg"), 0o600)
     wrong = [row for row in rows if row[1] != row[2]]
     for row in wrong:

@@ -153,6 +153,15 @@ if [ $? -ne 0 ] || [ "$(wc -l <"$folder/out")" -ne 15002 ]; then
   echo "program: a call for each of 7,500 bytes in one MiB, --memo off"
   failed=1
 fi
+for command in json view; do
+  expect 7 '' "$command" "$folder/calls.ipg" "$folder/calls" --arena 1
+  ./ipg "$command" "$folder/calls.ipg" "$folder/calls" --arena 1 --memo off >"$folder/out"
+  if [ "$?" -ne 0 ]; then
+    echo "program: $command of a call for each of 7,500 bytes in one MiB, --memo off"
+    failed=1
+  fi
+done
+expect 7 '' explain "$folder/calls.ipg" "$folder/calls" --arena 1
 expect 0 $'0 S 0 4 start=0 end=4\n1 U32LE 0 4 val=2\n1 for Bytes 2\n2 Bytes 4 4 -\n2 Bytes 4 4 -\n' parse "$folder/items.ipg" "$folder/two" --arena 1
 # conditions and completed intervals that would take gigabytes are told before they are made; smaller ones are made
 test='EOI > 9'

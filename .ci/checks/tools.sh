@@ -44,7 +44,11 @@ complete_by_bash_open() {
 }
 expect 'parse' complete_by_bash ipg p
 expect 'check cert cover' complete_by_bash ipg c
-expect '@gif' complete_by_bash ipg parse @g
+expect '@gif' complete_by_bash no-ipg parse @g
+expect '@gif @git-idx @git-index @glb @gpt @gzip' complete_by_bash ./ipg parse @g
+expect 'formats' complete_by_bash ipg fo
+expect '--memo' complete_by_bash ipg json @gif x --m
+expect '--arena' complete_by_bash ipg explain @gif x --
 expect 'formats/png.ipg' complete_by_bash ipg parse formats/png
 expect '--memo' complete_by_bash ipg parse @gif x --m
 expect 'on off' complete_by_bash ipg parse @gif x --memo ''

@@ -13,3 +13,4 @@ pub mod Rebuilt
 pub mod OneEdits
 pub mod OneTrial
 pub mod OneReply
+pub mod Loaded

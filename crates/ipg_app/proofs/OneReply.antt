@@ -1,4 +1,4 @@
--- For words, and files of which something is told, the program says one thing.
+-- For words, and files of which something is told, the program says one thing, or two that prove one grammar.
 use Rattle.std.proofs.Common.{◌≡◌, ◌≢◌, ℕ, suc, zero, ◌+◌, ◌<◌, ◌≤◌, ◌⊎◌, inl, inr}
 use Rattle.std.proofs.Common.{List, [], ◌∷◌, ◌++◌, length, take, drop, Result, Ok, Err, Option, Some, None, refl, sym, ap, ◌∙◌, subst, arith, append_assoc}
 use Rattle.ipg_core.specs.Grammar.{Grammar}
@@ -20,29 +20,29 @@ use Rattle.ipg_query_path.specs.declared.path.Query as paths
 use Rattle.ipg_query_path.specs.Laws.{OnePath}
 use Rattle.ipg_query_path.specs.Paths.{path_text, FitsPath}
 use Rattle.ipg_app_words.specs.Request as words
-use Rattle.ipg_app_words.specs.Request.{Request, Use, Fmt, Trial, Query, View, Load, Explain, Help, Version, request_of}
+use Rattle.ipg_app_words.specs.Request.{Request, Use, Fmt, Trial, Query, View, Load, Explain, Formats, Help, Version, request_of}
 use Rattle.ipg_app_tree.specs.declared.show.Show.{Show}
 use Rattle.ipg_app_tree.specs.declared.show.Show.TheVariants.{Lines, Picked, Bytes, Json, PickedView}
 use Rattle.ipg_app_tree.specs.declared.show.Show.TheVariants as show
-use Rattle.ipg_app_grammar.specs.Certificate.{Reads, Judges, cert_text, proof_said}
+use Rattle.ipg_app_grammar.specs.Certificate.{Certifies, Reads, Judges, cert_text, proof_said}
 use Rattle.ipg_app_grammar.specs.Checks.{Checks}
 use Rattle.ipg_app_tree.specs.Editing.{ReadsScript, Edits, edit_text}
 use Rattle.ipg_app_text.specs.CoreOf.{CoreOf, grammar_in}
-use Rattle.ipg_app.specs.Laws.{OneCore, OneCheck, OneParse, OneEdits, OneExplained, OneCleared, OneFollowed, OneTrial, OneReply, HasOneReply}
+use Rattle.ipg_app.specs.Laws.{OneCore, OneCheck, OneParse, OneEdits, OneExplained, OneCleared, OneFollowed, OneTrial, OneReply, Alike, BothOf}
 use Rattle.ipg_app_text.specs.Order.{Order, Answers, says, finds, reads, only, have}
 use Rattle.ipg_app_tree.specs.Path.{ReadsPath, query_syntax}
 use Rattle.ipg_app.specs.Reply.{Task, Parse, Check, Cert, Verify, Table, Cover, Edit, parse_input}
 use Rattle.ipg_app_text.specs.Steps.{text_by, core_of, input_in}
 use Rattle.ipg_app_grammar.specs.Commands.{accepted, judge, formatted}
-use Rattle.ipg_app.specs.Reply.{order_by, order_on, use_order, load_in, edit_file, edit_input, edits_of, explain_text, follow, trial_of, try_core}
+use Rattle.ipg_app.specs.Reply.{installed, order_by, order_on, use_order, load_in, edit_file, edit_input, edits_of, explain_text, follow, trial_of, try_core}
 use Rattle.ipg_app_tree.specs.Parses.{Parses}
 use Rattle.ipg_app_grammar.specs.Explained.{Explains}
 use Rattle.ipg_app_grammar.specs.Followed.{Cleared, Clears, Follows, or_told, subject}
-use Rattle.ipg_app_grammar.specs.Helped.{help_said, version_said}
+use Rattle.ipg_app_grammar.specs.Helped.{formats_said, help_said, version_said}
 use Rattle.ipg_app.specs.Trial.{kind_by, parts_in, Tries}
 use Rattle.ipg_app_grammar.specs.Covering.{CoverSays, may_gap}
 use Rattle.ipg_cover.specs.Laws.{CoveredHasNoGap, OneGap}
-use Rattle.ipg_app_grammar.specs.Tables.{Loads, load_said}
+use Rattle.ipg_app_grammar.specs.Tables.{Loads, Tables, load_said}
 use Rattle.ipg_store.specs.declared.fault.LoadFault.{LoadFault}
 use Rattle.ipg_store.specs.declared.fault.LoadFault.TheVariants as none
 use Rattle.ipg_store.specs.Laws.{LoadOnce}
@@ -125,7 +125,7 @@ unloaded fault said e is = let none = sym (ap load_said e) ∙ is in absurd (cc)
 load_same : (fault other : LoadFault) (one two : Said) → fault ≡ other → load_said fault ≡ Some one → load_said other ≡ Some two → one ≡ two
 load_same fault other one two e p q = let both : Some one ≡ Some two = sym p ∙ ap load_said e ∙ q in cc
 
-loads_same : LoadOnce → (file : List ℕ) (x y : Result Grammar Said) → Loads file x → Loads file y → x ≡ y
+pub loads_same : LoadOnce → (file : List ℕ) (x y : Result Grammar Said) → Loads file x → Loads file y → x ≡ y
 loads_same once file (Ok g) (Ok h) p q = elim (once file (Ok g) (Ok h) p q) [
   | inl e ↦ absurd (cc)
   | inr more ↦ elim more [ inl e ↦ absurd (cc) | inr e ↦ cc ]
@@ -166,6 +166,67 @@ covers_same no_gap one_gap g one other (inr p) (inr q) =
     let same = one_gap g p.place q.place p.at p.eoi q.at q.eoi p.gap q.gap in
     p.is ∙ ap (λ place. may_gap g place p.at p.eoi) same.0 ∙ ap (λ at. may_gap g q.place at p.eoi) same.1 ∙ ap (may_gap g q.place q.at) same.2 ∙ sym q.is
 
+-- ---- orders whose answers are alike
+
+module _ (told : List ℕ → Told) (Like : Said → Said → Type 0) (equal : (one other : Said) → one ≡ other → Like one other) where
+  abbrev AreLike : Order → Type 0
+  AreLike order = (one other : Said) → Answers told order one → Answers told order other → Like one other
+
+  like_only : (said : Said) → AreLike (only said)
+  like_only said one other a b = equal one other (a ∙ sym b)
+
+  like_have : {A : Type 0} (r : Result A Said) (next : A → Order) → ((a : A) → AreLike (next a)) → AreLike (have r next)
+  like_have (Ok a) next each = each a
+  like_have (Err said) next each = like_only said
+
+  like_found : {A : Type 0} (P : A → Type 0) (next : A → Order) → ((x y : A) → P x → P y → x ≡ y) → ((a : A) → AreLike (next a)) → AreLike (finds P next)
+  like_found P next same each one other (x, p, a) (y, q, b) =
+      each x one other a (subst (λ z. Answers told (next z) other) (same y x q p) b)
+
+  like_in : (t : Told) (next : List ℕ → Order) → t ≢ untold → ((bytes : List ℕ) → AreLike (next bytes)) → (one other : Said)
+      → ((t ≡ absent) × (one ≡ read_fault)) ⊎ ((bytes : List ℕ) × MayHold t bytes × Answers told (next bytes) one)
+      → ((t ≡ absent) × (other ≡ read_fault)) ⊎ ((bytes : List ℕ) × MayHold t bytes × Answers told (next bytes) other) → Like one other
+  like_in untold next known each one other a b = absurd (known refl)
+  like_in absent next known each one other (inl a) (inl b) = equal one other (a.1 ∙ sym b.1)
+  like_in absent next known each one other (inl a) (inr b) = absurd b.1
+  like_in absent next known each one other (inr a) b = absurd a.1
+  like_in (holds bytes) next known each one other (inl a) b = absurd (cc)
+  like_in (holds bytes) next known each one other (inr a) (inl b) = absurd (cc)
+  like_in (holds bytes) next known each one other (inr a) (inr b) =
+      each bytes one other (subst (λ these. Answers told (next these) one) a.1 a.2) (subst (λ these. Answers told (next these) other) b.1 b.2)
+
+  like_read : (name : List ℕ) (next : List ℕ → Order) → told name ≢ untold → ((bytes : List ℕ) → AreLike (next bytes)) → AreLike (reads name next)
+  like_read name next known each one other a b = like_in (told name) next known each one other a b
+
+  like_text : (k : Option Kind) (name : List ℕ) (next : List ℕ → Order) → told name ≢ untold → ((text : List ℕ) → AreLike (next text))
+      → AreLike (text_by k name next)
+  like_text (Some kind) name next known each = each (text_of kind)
+  like_text None name next known each = like_read name next known each
+
+  module _ (one_core : OneCore) (one_check : OneCheck) (known : (name : List ℕ) → told name ≢ untold) where
+    like_accepted : (g : Grammar) (next : Grammar → Order) → ((same : Grammar) → AreLike (next same)) → AreLike (accepted g next)
+    like_accepted g next each =
+        like_found (Checks g) (λ answer. have answer next) (one_check g) (λ answer. like_have answer next each)
+
+    like_core_of : (text : List ℕ) (next : Grammar → Order) → ((g : Grammar) → AreLike (next g)) → AreLike (core_of text next)
+    like_core_of text next each =
+        like_found (CoreOf text) (λ answer. have answer next) (one_core text) (λ answer. like_have answer next each)
+
+    like_use : (grammar : List ℕ) (task : Task) → ((g : Grammar) → AreLike (order_by task g)) → AreLike (use_order grammar task)
+    like_use grammar task each =
+        like_text (kind_of grammar) grammar (λ text. core_of text (order_by task)) (known grammar)
+        (λ text. like_core_of text (order_by task) each)
+
+abbrev Same : Said → Said → Type 0
+Same one other = one ≡ other
+
+-- the same, or two things that are so of one grammar
+abbrev SameOr : (Grammar → Said → Type 0) → Said → Said → Type 0
+SameOr P one other = (one ≡ other) ⊎ BothOf P one other
+
+same_or : (P : Grammar → Said → Type 0) (one other : Said) → one ≡ other → SameOr P one other
+same_or P one other e = inl e
+
 -- ---- orders that say one thing
 
 abbrev IsNoCert : Task → Type 0
@@ -178,52 +239,37 @@ IsNoCert Cover = Unit {0}
 IsNoCert (Edit input script) = Unit {0}
 
 module _ (told : List ℕ → Told) where
+  equal : (one other : Said) → one ≡ other → Same one other
+  equal one other e = e
+
   abbrev IsOne : Order → Type 0
   IsOne order = (one other : Said) → Answers told order one → Answers told order other → one ≡ other
 
   one_only : (said : Said) → IsOne (only said)
-  one_only said one other a b = a ∙ sym b
+  one_only said = like_only told Same equal said
 
   one_have : {A : Type 0} (r : Result A Said) (next : A → Order) → ((a : A) → IsOne (next a)) → IsOne (have r next)
-  one_have (Ok a) next each = each a
-  one_have (Err said) next each = one_only said
+  one_have r next each = like_have told Same equal r next each
 
   one_found : {A : Type 0} (P : A → Type 0) (next : A → Order) → ((x y : A) → P x → P y → x ≡ y) → ((a : A) → IsOne (next a)) → IsOne (finds P next)
-  one_found P next same each one other (x, p, a) (y, q, b) =
-      each x one other a (subst (λ z. Answers told (next z) other) (same y x q p) b)
-
-  one_in : (t : Told) (next : List ℕ → Order) (P : Said → Type 0) → t ≢ untold → ((one other : Said) → P one → P other → one ≡ other)
-      → ((bytes : List ℕ) → IsOne (next bytes)) → (one other : Said)
-      → ((t ≡ absent) × P one) ⊎ ((bytes : List ℕ) × MayHold t bytes × Answers told (next bytes) one)
-      → ((t ≡ absent) × P other) ⊎ ((bytes : List ℕ) × MayHold t bytes × Answers told (next bytes) other) → one ≡ other
-  one_in untold next P known same each one other a b = absurd (known refl)
-  one_in absent next P known same each one other (inl a) (inl b) = same one other a.1 b.1
-  one_in absent next P known same each one other (inl a) (inr b) = absurd b.1
-  one_in absent next P known same each one other (inr a) b = absurd a.1
-  one_in (holds bytes) next P known same each one other (inl a) b = absurd (cc)
-  one_in (holds bytes) next P known same each one other (inr a) (inl b) = absurd (cc)
-  one_in (holds bytes) next P known same each one other (inr a) (inr b) =
-      each bytes one other (subst (λ these. Answers told (next these) one) a.1 a.2) (subst (λ these. Answers told (next these) other) b.1 b.2)
+  one_found P next same each = like_found told Same equal P next same each
 
   one_read : (name : List ℕ) (next : List ℕ → Order) → told name ≢ untold → ((bytes : List ℕ) → IsOne (next bytes)) → IsOne (reads name next)
-  one_read name next known each one other a b =
-      one_in (told name) next (λ s. s ≡ read_fault) known (λ s t p q. p ∙ sym q) each one other a b
+  one_read name next known each = like_read told Same equal name next known each
 
   one_text : (k : Option Kind) (name : List ℕ) (next : List ℕ → Order) → told name ≢ untold → ((text : List ℕ) → IsOne (next text))
       → IsOne (text_by k name next)
-  one_text (Some kind) name next known each = each (text_of kind)
-  one_text None name next known each = one_read name next known each
+  one_text k name next known each = like_text told Same equal k name next known each
 
   module _ (one_core : OneCore) (one_check : OneCheck) (one_parse : OneParse) (one_path : OnePath) (no_fault : ProvesIsNoFault) (is_one : FaultIsOne)
       (load_once : LoadOnce) (no_gap : CoveredHasNoGap) (one_gap : OneGap)
       (one_edits : OneEdits) (one_script : OneScript) (one_explained : OneExplained) (one_cleared : OneCleared) (one_followed : OneFollowed)
       (one_trial : OneTrial) (known : (name : List ℕ) → told name ≢ untold) where
     one_accepted : (g : Grammar) (next : Grammar → Order) → ((same : Grammar) → IsOne (next same)) → IsOne (accepted g next)
-    one_accepted g next each =
-        one_found (Checks g) (λ answer. have answer next) (one_check g) (λ answer. one_have answer next each)
+    one_accepted g next each = like_accepted told Same equal one_core one_check known g next each
 
     one_core_of : (text : List ℕ) (next : Grammar → Order) → ((g : Grammar) → IsOne (next g)) → IsOne (core_of text next)
-    one_core_of text next each = one_found (CoreOf text) (λ answer. have answer next) (one_core text) (λ answer. one_have answer next each)
+    one_core_of text next each = like_core_of told Same equal one_core one_check known text next each
 
     one_judge : (text : List ℕ) (g : Grammar) → IsOne (judge text g)
     one_judge text g =
@@ -281,28 +327,38 @@ module _ (told : List ℕ → Told) where
         (λ answer. one_have (or_told name text answer) (follow name text input) (one_follow name text input))
 
     one_use : (grammar : List ℕ) (task : Task) → IsNoCert task → IsOne (use_order grammar task)
-    one_use grammar task settled =
-        one_text (kind_of grammar) grammar (λ text. core_of text (order_by task)) (known grammar)
-        (λ text. one_core_of text (order_by task) (λ g. one_task task g settled))
+    one_use grammar task settled = like_use told Same equal one_core one_check known grammar task (λ g. one_task task g settled)
 
-    one_request : (request : Option Request) → HasOneReply request → IsOne (order_on request)
-    one_request None settled = one_only usage
-    one_request (Some (Use grammar (words.Parse input memo mib))) settled = one_use grammar (Parse Lines input) tt
-    one_request (Some (Use grammar words.Check)) settled = one_use grammar Check tt
-    one_request (Some (Use grammar words.Cert)) settled = absurd settled
-    one_request (Some (Use grammar (words.Verify certificate))) settled = one_use grammar (Verify certificate) tt
-    one_request (Some (Use grammar words.Table)) settled = absurd settled
-    one_request (Some (Use grammar words.Cover)) settled = one_use grammar Cover tt
-    one_request (Some (Use grammar (words.Rebuild input))) settled = one_use grammar (Parse Bytes input) tt
-    one_request (Some (Use grammar (words.Json input))) settled = one_use grammar (Parse Json input) tt
-    one_request (Some (Use grammar (words.Edit input script))) settled = one_use grammar (Edit input script) tt
-    one_request (Some (Load table input)) settled =
+    -- what is written of an accepted grammar is so of it
+    like_written : (P : Grammar → Said → Type 0) (g : Grammar) → AreLike told (SameOr P) (same_or P) (accepted g (λ same. says (P same)))
+    like_written P g =
+        like_accepted told (SameOr P) (same_or P) one_core one_check known g (λ same. says (P same)) (λ same one other p q. inr (same, p, q))
+
+    like_cert : (grammar : List ℕ) → AreLike told (SameOr Certifies) (same_or Certifies) (use_order grammar Cert)
+    like_cert grammar = like_use told (SameOr Certifies) (same_or Certifies) one_core one_check known grammar Cert (like_written Certifies)
+
+    like_table : (grammar : List ℕ) → AreLike told (SameOr Tables) (same_or Tables) (use_order grammar Table)
+    like_table grammar = like_use told (SameOr Tables) (same_or Tables) one_core one_check known grammar Table (like_written Tables)
+
+    one_request : (request : Option Request) (one other : Said) → Answers told (order_on request) one → Answers told (order_on request) other
+        → Alike request one other
+    one_request None = one_only usage
+    one_request (Some (Use grammar (words.Parse input memo mib))) = one_use grammar (Parse Lines input) tt
+    one_request (Some (Use grammar words.Check)) = one_use grammar Check tt
+    one_request (Some (Use grammar words.Cert)) = like_cert grammar
+    one_request (Some (Use grammar (words.Verify certificate))) = one_use grammar (Verify certificate) tt
+    one_request (Some (Use grammar words.Table)) = like_table grammar
+    one_request (Some (Use grammar words.Cover)) = one_use grammar Cover tt
+    one_request (Some (Use grammar (words.Rebuild input))) = one_use grammar (Parse Bytes input) tt
+    one_request (Some (Use grammar (words.Json input memo mib))) = one_use grammar (Parse Json input) tt
+    one_request (Some (Use grammar (words.Edit input script))) = one_use grammar (Edit input script) tt
+    one_request (Some (Load table input)) =
         one_read table (λ bytes. have (input_in bytes) (load_in input)) (known table)
         (λ bytes. one_bytes bytes (load_in input) (λ file. one_load file input))
-    one_request (Some (Fmt grammar)) settled =
+    one_request (Some (Fmt grammar)) =
         one_text (kind_of grammar) grammar (λ text. have (grammar_in text) formatted) (known grammar)
         (λ text. one_have (grammar_in text) formatted (λ g. one_only (done (canonical_text g))))
-    one_request (Some (Trial name n)) settled =
+    one_request (Some (Trial name n)) =
         one_have (kind_by name) (trial_of name n) (λ kind.
         one_have (parts_in n) (tried name kind) (λ parts.
         one_core_of (text_of kind) (try_core name kind parts) (λ g.
@@ -310,24 +366,27 @@ module _ (told : List ℕ → Told) where
       where
         tried : List ℕ → Kind → ℕ → Order
         tried name kind parts = core_of (text_of kind) (try_core name kind parts)
-    one_request (Some (Explain grammar (Some input))) settled =
+    one_request (Some (Explain grammar (Some input) mib)) =
         one_text (kind_of grammar) grammar (λ text. explain_text grammar input text) (known grammar) (λ text. one_explain grammar input text)
-    one_request (Some (Explain grammar None)) settled =
+    one_request (Some (Explain grammar None mib)) =
         one_text (kind_of grammar) grammar (λ text. says (Explains grammar text)) (known grammar) (one_explained grammar)
-    one_request (Some (Help command)) settled = one_only (help_said command)
-    one_request (Some Version) settled = one_only version_said
-    one_request (Some (View grammar input None)) settled = one_use grammar (Parse show.View input) tt
-    one_request (Some (View grammar input (Some path))) settled =
+    one_request (Some Formats) =
+        one_read installed (λ bytes. have (input_in bytes) (λ list. only (formats_said list))) (known installed)
+        (λ bytes. one_bytes bytes (λ list. only (formats_said list)) (λ list. one_only (formats_said list)))
+    one_request (Some (Help command)) = one_only (help_said command)
+    one_request (Some Version) = one_only version_said
+    one_request (Some (View grammar input None memo mib)) = one_use grammar (Parse show.View input) tt
+    one_request (Some (View grammar input (Some path) memo mib)) =
         one_found (ReadsPath path) (λ read. have read (λ query. use_order grammar (Parse (PickedView query) input))) (path_same one_path path)
         (λ read. one_have read (λ query. use_order grammar (Parse (PickedView query) input)) (λ query. one_use grammar (Parse (PickedView query) input) tt))
-    one_request (Some (Query grammar input path)) settled =
+    one_request (Some (Query grammar input path)) =
         one_found (ReadsPath path) (λ read. have read (λ query. use_order grammar (Parse (Picked query) input))) (path_same one_path path)
         (λ read. one_have read (λ query. use_order grammar (Parse (Picked query) input)) (λ query. one_use grammar (Parse (Picked query) input) tt))
 
 pub one_reply : OneCore → OneCheck → OneParse → OnePath → ProvesIsNoFault → FaultIsOne → LoadOnce → CoveredHasNoGap → OneGap → OneEdits → OneScript
     → OneExplained → OneCleared → OneFollowed → OneTrial → OneReply
 one_reply one_core one_check one_parse one_path no_fault is_one load_once no_gap one_gap one_edits one_script one_explained one_cleared one_followed one_trial
-    told words one other known plain =
+    told words one other known =
     one_request told one_core one_check one_parse one_path no_fault is_one load_once no_gap one_gap one_edits one_script one_explained one_cleared
     one_followed one_trial
-    known (request_of words) plain one other
+    known (request_of words) one other

@@ -1,9 +1,9 @@
 -- What holds of core grammars and refusals.
-use Rattle.std.specs.Prelude.{◌≡◌, ◌≢◌, ◌≤◌, ℕ, List, ◌++◌, length, Option, Some, None, Result, Ok}
+use Rattle.std.specs.Prelude.{◌≡◌, ◌≢◌, ◌≤◌, ◌⊎◌, ◌↔◌, ℕ, List, ◌++◌, length, Option, Some, None, Result, Ok}
 use Rattle.ipg_outside.specs.Files.{Told, untold, holds}
 use Rattle.ipg_core.specs.Grammar.{Grammar}
 use Rattle.ipg_app_words.specs.Request as words
-use Rattle.ipg_app_words.specs.Request.{Request, Use, Fmt, Trial, Query, View, Load, Explain, Help, Version, request_of}
+use Rattle.ipg_app_words.specs.Request.{Request, Use, Fmt, Trial, Query, View, Load, Explain, Formats, Help, Version, request_of}
 use Rattle.ipg_core.specs.Good.{Good}
 use Rattle.ipg_core.specs.Grown.{IsInput}
 use Rattle.ipg_core.specs.Meaning.{Means}
@@ -13,7 +13,7 @@ use Rattle.ipg_app_tree.specs.declared.show.Show.TheVariants.{Bytes, Lines}
 use Rattle.ipg_app_text.specs.Said.{Said, done}
 use Rattle.ipg_app_text.specs.Order.{Answers}
 use Rattle.ipg_app_tree.specs.declared.show.Show.{Show}
-use Rattle.ipg_app.specs.Reply.{use_order, order_of, Check, verify}
+use Rattle.ipg_app.specs.Reply.{use_order, order_of, Check, load, parse, verify}
 use Rattle.ipg_app_text.specs.Steps.{core_of, max_input}
 use Rattle.ipg_app_grammar.specs.Commands.{check}
 use Rattle.ipg_app_tree.specs.Parses.{Parses}
@@ -25,6 +25,7 @@ use Rattle.ipg_app_text.specs.Found.{Says}
 use Rattle.ipg_app.specs.Trial.{Tries}
 use Rattle.ipg_formats.specs.declared.Kind.{Kind}
 use Rattle.ipg_app_grammar.specs.Certificate.{Certifies, verified}
+use Rattle.ipg_app_grammar.specs.Tables.{Tables}
 use Rattle.ipg_app_text.specs.CoreOf.{Answer, CoreOf}
 use Rattle.ipg_app_grammar.specs.Checks.{Checks}
 use Rattle.ipg_app_tree.specs.Editing.{Edits}
@@ -88,33 +89,45 @@ abbrev pub CertIsVerified : Type 0
 CertIsVerified = (g : Grammar) (text : List ℕ) → Certifies g (done text) → length text ≤ max_input
     → (told : List ℕ → Told) (name : List ℕ) (said : Said) → told name ≡ holds text → Answers told (verify name g) said → said ≡ verified
 
--- `cert` and `table` may write any certificate that proves the grammar
-abbrev pub HasOneReply : Option Request → Type 0
-HasOneReply None = Unit {0}
-HasOneReply (Some (Use grammar (words.Parse input memo mib))) = Unit {0}
-HasOneReply (Some (Use grammar words.Check)) = Unit {0}
-HasOneReply (Some (Use grammar words.Cert)) = ⊥
-HasOneReply (Some (Use grammar (words.Verify certificate))) = Unit {0}
-HasOneReply (Some (Use grammar words.Table)) = ⊥
-HasOneReply (Some (Use grammar words.Cover)) = Unit {0}
-HasOneReply (Some (Use grammar (words.Rebuild input))) = Unit {0}
-HasOneReply (Some (Use grammar (words.Json input))) = Unit {0}
-HasOneReply (Some (Use grammar (words.Edit input script))) = Unit {0}
-HasOneReply (Some (Fmt grammar)) = Unit {0}
-HasOneReply (Some (Trial kind n)) = Unit {0}
-HasOneReply (Some (Query grammar input path)) = Unit {0}
-HasOneReply (Some (View grammar input path)) = Unit {0}
-HasOneReply (Some (Load table input)) = Unit {0}
-HasOneReply (Some (Explain grammar input)) = Unit {0}
-HasOneReply (Some (Help command)) = Unit {0}
-HasOneReply (Some Version) = Unit {0}
+-- of a file that holds what `table` writes of a grammar, `load` says of an input just what `parse` says of it by that grammar, if the file has at most
+-- 2^30 bytes
+abbrev pub TableIsLoaded : Type 0
+TableIsLoaded = (g : Grammar) (file : List ℕ) → Tables g (done file) → length file ≤ max_input
+    → (told : List ℕ → Told) (name input : List ℕ) (said : Said) → told name ≡ holds file
+    → Answers told (load name input) said ↔ Answers told (parse Lines input g) said
+
+-- two things that are so of one grammar
+abbrev pub BothOf : (Grammar → Said → Type 0) → Said → Said → Type 0
+BothOf P one other = (g : Grammar) × P g one × P g other
+
+-- what is said to the same words is one thing; but `cert` and `table` may write any certificate that proves the one grammar
+abbrev pub Alike : Option Request → Said → Said → Type 0
+Alike None one other = one ≡ other
+Alike (Some (Use grammar (words.Parse input memo mib))) one other = one ≡ other
+Alike (Some (Use grammar words.Check)) one other = one ≡ other
+Alike (Some (Use grammar words.Cert)) one other = (one ≡ other) ⊎ BothOf Certifies one other
+Alike (Some (Use grammar (words.Verify certificate))) one other = one ≡ other
+Alike (Some (Use grammar words.Table)) one other = (one ≡ other) ⊎ BothOf Tables one other
+Alike (Some (Use grammar words.Cover)) one other = one ≡ other
+Alike (Some (Use grammar (words.Rebuild input))) one other = one ≡ other
+Alike (Some (Use grammar (words.Json input memo mib))) one other = one ≡ other
+Alike (Some (Use grammar (words.Edit input script))) one other = one ≡ other
+Alike (Some (Fmt grammar)) one other = one ≡ other
+Alike (Some (Trial kind n)) one other = one ≡ other
+Alike (Some (Query grammar input path)) one other = one ≡ other
+Alike (Some (View grammar input path memo mib)) one other = one ≡ other
+Alike (Some (Load table input)) one other = one ≡ other
+Alike (Some (Explain grammar input mib)) one other = one ≡ other
+Alike (Some Formats) one other = one ≡ other
+Alike (Some (Help command)) one other = one ≡ other
+Alike (Some Version) one other = one ≡ other
 
 -- where `cover` says that a grammar leaves no byte out, `rebuild` says of an input that has a tree just that input
 abbrev pub CoveredIsRebuilt : Type 0
 CoveredIsRebuilt = (g : Grammar) (input : List ℕ) (tree : Tree) (covered said : Said) → Good g → IsInput input → IsCovered g covered
     → Means g input (Ok tree) → Parses Bytes g input said → said ≡ done input
 
--- to other words the program says one thing, where something is told of each file
+-- two replies to the same words are alike, where something is told of each file
 abbrev pub OneReply : Type 0
-OneReply = (told : List ℕ → Told) (words : List (List ℕ)) (one other : Said) → ((name : List ℕ) → told name ≢ untold) → HasOneReply (request_of words)
-    → Answers told (order_of words) one → Answers told (order_of words) other → one ≡ other
+OneReply = (told : List ℕ → Told) (words : List (List ℕ)) (one other : Said) → ((name : List ℕ) → told name ≢ untold)
+    → Answers told (order_of words) one → Answers told (order_of words) other → Alike (request_of words) one other

@@ -1,12 +1,12 @@
 -- The reply: for the program's words, the order in which it answers.
-use Rattle.std.specs.Prelude.{ℕ, List, Option, None, Some}
+use Rattle.std.specs.Prelude.{ℕ, List, codes, Option, None, Some}
 use Rattle.ipg_core.specs.Grammar.{Grammar}
 use Rattle.ipg_formats.specs.declared.Kind.{Kind}
 use Rattle.ipg_query_path.specs.declared.path.Query as paths
 use Rattle.ipg_edit_script.specs.declared.script.Edit as scripts
 use Rattle.ipg_formats.specs.Text.{text_of}
 use Rattle.ipg_app_words.specs.Request as words
-use Rattle.ipg_app_words.specs.Request.{Request, Use, Fmt, Trial, Query, View, Load, Explain, Help, Version, request_of}
+use Rattle.ipg_app_words.specs.Request.{Request, Use, Fmt, Trial, Query, View, Load, Explain, Formats, Help, Version, request_of}
 use Rattle.ipg_app_tree.specs.declared.show.Show.{Show}
 use Rattle.ipg_app_tree.specs.declared.show.Show.TheVariants.{Lines, Picked, Bytes, Json, PickedView}
 use Rattle.ipg_app_tree.specs.declared.show.Show.TheVariants as show
@@ -15,7 +15,7 @@ use Rattle.ipg_app_tree.specs.Editing.{ReadsScript, Edits}
 use Rattle.ipg_app_tree.specs.Path.{ReadsPath}
 use Rattle.ipg_app_grammar.specs.Explained.{Explains}
 use Rattle.ipg_app_grammar.specs.Followed.{Cleared, Follows, subject}
-use Rattle.ipg_app_grammar.specs.Helped.{help_said, version_said}
+use Rattle.ipg_app_grammar.specs.Helped.{formats_said, help_said, version_said}
 use Rattle.ipg_app.specs.Trial.{Tries, kind_by, parts_in}
 use Rattle.ipg_app_text.specs.Order.{Order, Step, says, only, found, have, contents, ◌>>=◌}
 use Rattle.ipg_app_text.specs.Steps.{core_of, core_under, grammar_under, input_in, text_under}
@@ -142,6 +142,18 @@ explain name input = do
   text ← text_under name
   explain_by name input text
 
+-- ---- the command that lists formats
+
+-- the name under which the list of installed formats is read
+abbrev pub installed : List ℕ
+installed = codes "@"
+
+abbrev pub formats : Order
+formats = do
+  bytes ← contents installed
+  list ← have (input_in bytes)
+  only (formats_said list)
+
 -- ---- words
 
 -- what is done with a core grammar
@@ -163,7 +175,7 @@ task_of (words.Verify certificate) = Verify certificate
 task_of words.Table = Table
 task_of words.Cover = Cover
 task_of (words.Rebuild input) = Parse Bytes input
-task_of (words.Json input) = Parse Json input
+task_of (words.Json input memo mib) = Parse Json input
 task_of (words.Edit input script) = Edit input script
 
 abbrev pub order_by : Task → Grammar → Order
@@ -201,9 +213,10 @@ order_on (Some (Use grammar task)) = use_order grammar (task_of task)
 order_on (Some (Fmt grammar)) = fmt grammar
 order_on (Some (Trial kind n)) = trial kind n
 order_on (Some (Query grammar input path)) = query grammar input path
-order_on (Some (View grammar input path)) = view grammar input path
+order_on (Some (View grammar input path memo mib)) = view grammar input path
 order_on (Some (Load table input)) = load table input
-order_on (Some (Explain grammar input)) = explain grammar input
+order_on (Some (Explain grammar input mib)) = explain grammar input
+order_on (Some Formats) = formats
 order_on (Some (Help command)) = only (help_said command)
 order_on (Some Version) = only version_said
 order_on None = only usage

@@ -1,7 +1,7 @@
 //! What holds of core grammars, the contract of a function that does nothing.
 
 ghost use Rattle.ipg_app.specs.Laws.{BeginsAsCheck, CertIsVerified, CoveredIsRebuilt, OneCore, OneCheck, OneEdits, OneExplained};
-ghost use Rattle.ipg_app.specs.Laws.{FollowEndsAsParse, OneCleared, OneFollowed, OneParse, OneReply, OneTrial, OneVerdict};
+ghost use Rattle.ipg_app.specs.Laws.{FollowEndsAsParse, OneCleared, OneFollowed, OneParse, OneReply, OneTrial, OneVerdict, TableIsLoaded};
 
 use ipg_app_values::laws::noted_once;
 use ipg_core::laws::heights_agree;
@@ -15,7 +15,7 @@ use ipg_mach_count_laws::laws::{
 };
 use ipg_mach_watch::laws::{end_is_meant, one_findings};
 use ipg_order::laws::{good_is_not_stuck, orders_once, stuck_once};
-use ipg_proof::laws::{fault_is_one, proves_is_no_fault};
+use ipg_proof::laws::{fault_is_one, proves_is_accepted, proves_is_no_fault};
 use ipg_query_path::laws::one_path;
 use ipg_store::laws::load_once;
 use ipg_term::laws::{loops_arent_accepted, one_loops};
@@ -128,6 +128,15 @@ pub fn cert_is_verified()
     one_limit();
 }
 
+/// Of a file that holds what `table` writes of a grammar, and an input, `load` says what `parse` says by that grammar.
+pub fn table_is_loaded()
+    ensures { TableIsLoaded }
+{
+    load_once();
+    one_check();
+    proves_is_accepted();
+}
+
 /// Where `cover` says that a grammar leaves no byte out, `rebuild` gives back each input that has a tree.
 pub fn covered_is_rebuilt()
     ensures { CoveredIsRebuilt }
@@ -136,8 +145,8 @@ pub fn covered_is_rebuilt()
     covered_comes_back();
 }
 
-/// To words that ask for no certificate and no table file, and files of each of which something is told, the program says one thing: one
-/// status and one text.
+/// To words, and files of each of which something is told, the program says one thing: one status and one text. `cert` and `table` alone may
+/// say several, the texts or table files of certificates that prove the one grammar.
 pub fn one_reply()
     ensures { OneReply }
 {

@@ -7,7 +7,7 @@ ghost use Rattle.ipg_app_grammar.specs.Explained.{Refuses};
 ghost use Rattle.ipg_app_grammar.specs.Followed.{Follows, subject};
 ghost use Rattle.ipg_app_text.specs.Lines.{said_of};
 ghost use Rattle.ipg_app.specs.Reply.{parse_input, parse, verify, fmt, query, view, picked_view, load, load_in, use_order, order_by, order_of, task_of, Parse};
-ghost use Rattle.ipg_app.specs.Reply.{edit, edit_file, edit_input, edits_of, explain, explain_by, explain_text, follow};
+ghost use Rattle.ipg_app.specs.Reply.{edit, edit_file, edit_input, edits_of, explain, explain_by, explain_text, follow, formats};
 ghost use Rattle.ipg_app_text.specs.Settles.{Settles};
 ghost use Rattle.ipg_app.specs.Settled.{IsReplied, IsSettled, remember_of, task_seen};
 ghost use Rattle.ipg_app_words.specs.Seen as words;
@@ -23,7 +23,7 @@ use ipg_app_grammar::covering::say_cover;
 use ipg_app_grammar::explaining::{Cleared, clear, explain_text, told};
 use ipg_app_grammar::following::follow;
 use ipg_app_grammar::formatting::format;
-use ipg_app_grammar::helping::{say_help, say_version};
+use ipg_app_grammar::helping::{say_formats, say_help, say_version};
 use ipg_app_grammar::loading::held_in;
 use ipg_app_grammar::verifying::judge;
 use ipg_app_text::early::Early;
@@ -50,6 +50,9 @@ const TREE_ROOM: Room = Room {
     remember: Remember::Answers,
     mib: 512,
 };
+
+/// The name under which the list of installed formats is read.
+const INSTALLED: &str = "@";
 
 /// Answers in order: to the words, to the grammar, and then what the grammar is wanted for.
 pub fn settle<F: Files>(alloc: Global, words: &[String], files: &mut F) -> Result<Reply, AllocError>
@@ -85,14 +88,21 @@ fn settle_words<F: Files>(
                 grammar,
                 input,
                 path,
+                memo,
+                mib,
             },
-        ) => settle_view(alloc, grammar, input, path, files),
+        ) => settle_view(alloc, grammar, input, path, room_of(memo, mib), files),
         Some(Asked::Load { table, input }) => settle_load(alloc, table, input, files),
         Some(Asked::Fmt { grammar }) => Ok(Reply::Text(settle_fmt(alloc, grammar, files)?)),
         Some(Asked::Trial { kind, count }) => Ok(Reply::Text(trial(alloc, kind, count)?)),
-        Some(Asked::Explain { grammar, input }) => {
-            Ok(Reply::Text(settle_explain(alloc, grammar, input, files)?))
-        }
+        Some(
+            Asked::Explain {
+                grammar,
+                input,
+                mib,
+            },
+        ) => Ok(Reply::Text(settle_explain(alloc, grammar, input, mib, files)?)),
+        Some(Asked::Formats) => Ok(Reply::Text(settle_formats(alloc, files)?)),
         Some(Asked::Help { command }) => Ok(Reply::Text(say_help(alloc, command)?)),
         Some(Asked::Version) => Ok(Reply::Text(say_version(alloc)?)),
         None => Ok(Reply::Text(usage(alloc)?)),
@@ -104,16 +114,9 @@ fn task_of(task: Wanted<'_>) -> Task<'_>
     ensures { task_seen result ≡ task_of (words.task_seen task.entry) }
 {
     match task {
-        Wanted::Parse { input, memo, mib } => Task::Parse {
-            input,
-            room: Room {
-                remember: remember(memo),
-                mib,
-            },
-            show: Show::Lines,
-        },
-        Wanted::Rebuild { input } => shown(input, Show::Bytes),
-        Wanted::Json { input } => shown(input, Show::Json),
+        Wanted::Parse { input, memo, mib } => shown(input, room_of(memo, mib), Show::Lines),
+        Wanted::Rebuild { input } => shown(input, TREE_ROOM, Show::Bytes),
+        Wanted::Json { input, memo, mib } => shown(input, room_of(memo, mib), Show::Json),
         Wanted::Check => Task::Check,
         Wanted::Cert => Task::Cert,
         Wanted::Verify { certificate } => Task::Verify { certificate },
@@ -124,13 +127,20 @@ fn task_of(task: Wanted<'_>) -> Task<'_>
 }
 
 /// A parse of which this is shown.
-fn shown(input: &str, show: Show) -> Task<'_>
+fn shown(input: &str, room: Room, show: Show) -> Task<'_>
     ensures { task_seen result ≡ Parse show input.now }
 {
-    Task::Parse {
-        input,
-        room: TREE_ROOM,
-        show,
+    Task::Parse { input, room, show }
+}
+
+/// What a parse may use, by the words.
+fn room_of(memo: Memo, mib: u32) -> Room
+    ensures remember { result.remember ≡ remember_of memo }
+    ensures mib { result.mib ≡ mib }
+{
+    Room {
+        remember: remember(memo),
+        mib,
     }
 }
 
@@ -146,7 +156,12 @@ fn settle_query<F: Files>(
     ensures told { (n : List ℕ) → F.told files.new n ≡ F.told files.old n }
 {
     let path = path_in(alloc, path)?;
-    settle_use(alloc, grammar, shown(input, Show::Picked(path)), files)
+    settle_use(
+        alloc,
+        grammar,
+        shown(input, TREE_ROOM, Show::Picked(path)),
+        files,
+    )
 }
 
 fn settle_view<F: Files>(
@@ -154,6 +169,7 @@ fn settle_view<F: Files>(
     grammar: &str,
     input: &str,
     path: Option<&str>,
+    room: Room,
     files: &mut F,
 ) -> Result<Reply, Early<Settled>>
     ensures settled { IsReplied (F.told files.old) (F.faults files.old) (F.faults files.new)
@@ -161,8 +177,8 @@ fn settle_view<F: Files>(
     ensures told { (n : List ℕ) → F.told files.new n ≡ F.told files.old n }
 {
     match path {
-        None => settle_use(alloc, grammar, shown(input, Show::View), files),
-        Some(path) => settle_picked_view(alloc, grammar, input, path, files),
+        None => settle_use(alloc, grammar, shown(input, room, Show::View), files),
+        Some(path) => settle_picked_view(alloc, grammar, input, path, room, files),
     }
 }
 
@@ -172,13 +188,19 @@ fn settle_picked_view<F: Files>(
     grammar: &str,
     input: &str,
     path: &str,
+    room: Room,
     files: &mut F,
 ) -> Result<Reply, Early<Settled>>
     ensures settled { IsReplied (F.told files.old) (F.faults files.old) (F.faults files.new) (picked_view grammar.now input.now path.now) result }
     ensures told { (n : List ℕ) → F.told files.new n ≡ F.told files.old n }
 {
     let path = path_in(alloc, path)?;
-    settle_use(alloc, grammar, shown(input, Show::PickedView(path)), files)
+    settle_use(
+        alloc,
+        grammar,
+        shown(input, room, Show::PickedView(path)),
+        files,
+    )
 }
 
 fn settle_load<F: Files>(
@@ -236,10 +258,19 @@ fn settle_fmt<F: Files>(
     Ok(format(alloc, &grammar)?)
 }
 
+fn settle_formats<F: Files>(alloc: Global, files: &mut F) -> Result<Settled, Early<Settled>>
+    ensures settled { IsSaid result (Settles (F.told files.old) (F.faults files.old) (F.faults files.new) formats) }
+    ensures told { (n : List ℕ) → F.told files.new n ≡ F.told files.old n }
+{
+    let list = input_in_file(alloc, INSTALLED, files)?;
+    Ok(say_formats(alloc, &list)?)
+}
+
 fn settle_explain<F: Files>(
     alloc: Global,
     grammar: &str,
     input: Option<&str>,
+    mib: u32,
     files: &mut F,
 ) -> Result<Settled, Early<Settled>>
     ensures settled { IsSaid result (Settles (F.told files.old) (F.faults files.old) (F.faults files.new)
@@ -248,7 +279,7 @@ fn settle_explain<F: Files>(
 {
     let text = text_under(alloc, grammar, files)?;
     match text.bytes() {
-        Some(text) => explain_by(alloc, grammar, text, input, files),
+        Some(text) => explain_by(alloc, grammar, text, input, mib, files),
         None => Ok(explain_too_long(alloc, grammar)?),
     }
 }
@@ -267,6 +298,7 @@ fn explain_by<F: Files>(
     name: &str,
     text: &[u8],
     input: Option<&str>,
+    mib: u32,
     files: &mut F,
 ) -> Result<Settled, Early<Settled>>
     ensures settled { IsSaid result (Settles (F.told files.old) (F.faults files.old) (F.faults files.new)
@@ -275,8 +307,15 @@ fn explain_by<F: Files>(
 {
     match input {
         None => Ok(explain_text(alloc, name, text)?),
-        Some(input) => follow_text(alloc, name, text, input, files),
+        Some(input) => follow_text(alloc, name, text, Followed { input, mib }, files),
     }
+}
+
+/// An input that is to be followed, in so many MiB.
+#[derive(Clone, Copy)]
+struct Followed<'a> {
+    input: &'a str,
+    mib: u32,
 }
 
 /// What is said of an input by the grammar of a text under a name.
@@ -284,14 +323,15 @@ fn follow_text<F: Files>(
     alloc: Global,
     name: &str,
     text: &[u8],
-    input: &str,
+    followed: Followed<'_>,
     files: &mut F,
 ) -> Result<Settled, Early<Settled>>
-    ensures settled { IsSaid result (Settles (F.told files.old) (F.faults files.old) (F.faults files.new) (explain_text name.now input.now text.now)) }
+    ensures settled { IsSaid result (Settles (F.told files.old) (F.faults files.old) (F.faults files.new)
+        (explain_text name.now followed.entry.input.now text.now)) }
     ensures told { (n : List ℕ) → F.told files.new n ≡ F.told files.old n }
 {
     match clear(alloc, text) {
-        Ok(made) => follow_input(alloc, name, text, &made, input, files),
+        Ok(made) => follow_input(alloc, name, text, &made, followed, files),
         Err(Early::Said(reason)) => Ok(told(alloc, name, text, &reason)?),
         Err(Early::Memory) => Err(Early::Memory),
     }
@@ -302,15 +342,15 @@ fn follow_input<F: Files>(
     name: &str,
     text: &[u8],
     made: &Cleared,
-    input: &str,
+    followed: Followed<'_>,
     files: &mut F,
 ) -> Result<Settled, Early<Settled>>
     ensures settled { IsSaid result (Settles (F.told files.old) (F.faults files.old) (F.faults files.new)
-        (follow name.now text.now input.now (made.now.grammar, made.now.core))) }
+        (follow name.now text.now followed.entry.input.now (made.now.grammar, made.now.core))) }
     ensures told { (n : List ℕ) → F.told files.new n ≡ F.told files.old n }
 {
-    let input = input_in_file(alloc, input, files)?;
-    Ok(follow_bytes(alloc, name, text, made, &input)?)
+    let input = input_in_file(alloc, followed.input, files)?;
+    Ok(follow_bytes(alloc, name, text, made, &input, followed.mib)?)
 }
 
 fn follow_bytes(
@@ -319,6 +359,7 @@ fn follow_bytes(
     text: &[u8],
     made: &Cleared,
     input: &[u8],
+    mib: u32,
 ) -> Result<Settled, AllocError>
     requires { length input.now ≤ 2 ^ 30 }
     ensures { IfOk result (λ settled. Follows (subject name.now text.now made.now.grammar input.now) made.now.core (said_of settled)) }
@@ -331,7 +372,7 @@ fn follow_bytes(
         grammar: &made.grammar,
         input,
     };
-    follow(alloc, subject, &made.core)
+    follow(alloc, subject, &made.core, mib)
 }
 
 fn settle_task<F: Files>(

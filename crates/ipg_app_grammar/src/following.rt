@@ -15,8 +15,6 @@ use ipg_table::tables::compile;
 use linked_list_allocator::LocalHeap;
 use std::alloc::{AllocError, Global};
 
-const FOLLOW_MIB: usize = 512;
-
 fn ending_of(end: End) -> Ending
     ensures { result ≡ spec.ending_of end }
 {
@@ -39,13 +37,18 @@ fn status_of(end: End) -> Status
 }
 
 /// What `explain` says of an input: what it came to, and the furthest failures. It is parsed by the core grammar of the text, with a
-/// memo, in a heap of 512 MiB.
-pub fn follow(alloc: Global, subject: Subject<'_>, core: &Checked) -> Result<Settled, AllocError>
+/// memo, in a heap of so many MiB.
+pub fn follow(
+    alloc: Global,
+    subject: Subject<'_>,
+    core: &Checked,
+    mib: u32,
+) -> Result<Settled, AllocError>
     requires { length subject.input.now ≤ 2 ^ 30 }
     ensures { IfOk result (λ settled. Follows (subject_of subject.entry) core.now (said_of settled)) }
 {
     let tables = compile(alloc, core)?;
-    let heap = LocalHeap::new(alloc, FOLLOW_MIB * BYTES_PER_MIB)?;
+    let heap = LocalHeap::new(alloc, mib as usize * BYTES_PER_MIB)?;
     let findings = watch(&heap, &tables, subject.input)?;
     let end = findings.end;
     let told = tell(

@@ -1,4 +1,4 @@
-//! What `help` and `version` write.
+//! What `help` and `version` write, and what `formats` says of built-in grammars.
 #![tactic(auto)]
 
 mod texts;
@@ -7,7 +7,7 @@ mod topic;
 ghost use Rattle.std.specs.Prelude.{◌≡◌};
 ghost use Rattle.std.specs.Option.{option_map};
 ghost use Rattle.ipg_app_help.specs.Help as spec;
-ghost use Rattle.ipg_app_help.specs.Help.{topic_by, topic_of, text_of, help_of, version_text};
+ghost use Rattle.ipg_app_help.specs.Help.{topic_by, topic_of, text_of, help_of, built_in_text, version_text};
 
 pub use topic::Topic;
 
@@ -31,6 +31,7 @@ fn topic_by(name: &str) -> Option<Topic>
         "rebuild" => Some(Topic::Rebuild),
         "edit" => Some(Topic::Edit),
         "trial" => Some(Topic::Trial),
+        "formats" => Some(Topic::Formats),
         "help" => Some(Topic::Help),
         "version" => Some(Topic::Version),
         _ => None,
@@ -68,6 +69,7 @@ fn text(topic: Topic) -> &'static [u8]
         Topic::Rebuild => texts::REBUILD,
         Topic::Edit => texts::EDIT,
         Topic::Trial => texts::TRIAL,
+        Topic::Formats => texts::FORMATS,
         Topic::Help => texts::HELP,
         Topic::Version => texts::VERSION,
     }
@@ -88,4 +90,11 @@ pub fn version() -> &'static [u8]
     ensures { result.now ≡ version_text }
 {
     texts::PROGRAM
+}
+
+/// The built-in grammars, a line each.
+pub fn built_in() -> &'static [u8]
+    ensures { result.now ≡ built_in_text }
+{
+    texts::BUILT_IN
 }

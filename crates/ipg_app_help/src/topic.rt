@@ -17,6 +17,7 @@ pub enum Topic {
     Rebuild,
     Edit,
     Trial,
+    Formats,
     Help,
     Version,
 }

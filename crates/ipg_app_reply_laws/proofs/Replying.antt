@@ -34,7 +34,7 @@ use Rattle.ipg_formats.specs.Names.{kind_of}
 use Rattle.ipg_formats.specs.Text.{text_of}
 use Rattle.ipg_query_path.specs.declared.path.Query as paths
 use Rattle.ipg_app_words.specs.Request as words
-use Rattle.ipg_app_words.specs.Request.{Request, Use, Fmt, Trial, Query, View, Load, Explain, Help, Version, request_of}
+use Rattle.ipg_app_words.specs.Request.{Request, Use, Fmt, Trial, Query, View, Load, Explain, Formats, Help, Version, request_of}
 use Rattle.ipg_app_tree.specs.declared.show.Show.{Show}
 use Rattle.ipg_app_tree.specs.declared.show.Show.TheVariants.{Lines, Picked, Bytes, Json, PickedView}
 use Rattle.ipg_app_tree.specs.declared.show.Show.TheVariants as show
@@ -45,14 +45,14 @@ use Rattle.ipg_app_text.specs.CoreOf.{CoreOf, grammar_in}
 use Rattle.ipg_app_tree.specs.Editing.{ReadsScript, Edits, edit_text}
 use Rattle.ipg_app_grammar.specs.Explained.{Explains}
 use Rattle.ipg_app_grammar.specs.Followed.{Cleared, Clears, Follows, or_told, subject}
-use Rattle.ipg_app_grammar.specs.Helped.{help_said, version_said}
+use Rattle.ipg_app_grammar.specs.Helped.{formats_said, help_said, version_said}
 use Rattle.ipg_app_text.specs.Order.{Order, says, finds, reads, only, have}
 use Rattle.ipg_app_tree.specs.Path.{ReadsPath, query_syntax}
 use Rattle.ipg_app_text.specs.Reasons.{Reason}
 use Rattle.ipg_app.specs.Reply.{Task, Parse, Check, Cert, Verify, Table, Cover, Edit, parse_input}
 use Rattle.ipg_app_text.specs.Steps.{text_by, core_of, input_in}
 use Rattle.ipg_app_grammar.specs.Commands.{accepted, judge, formatted}
-use Rattle.ipg_app.specs.Reply.{order_by, order_on, use_order, load_in, edit_file, edit_input, edits_of, explain_text, follow, trial_of, try_core}
+use Rattle.ipg_app.specs.Reply.{installed, order_by, order_on, use_order, load_in, edit_file, edit_input, edits_of, explain_text, follow, trial_of, try_core}
 use Rattle.ipg_app_tree.specs.Parses.{Parses}
 use Rattle.ipg_app_text.specs.Said.{Said, done, done_line, usage, too_large, bad_proof}
 use Rattle.ipg_app_grammar.specs.Tables.{Loads}
@@ -280,22 +280,24 @@ module _ (laws : Known) (told : List ℕ → Told) (known : (name : List ℕ) �
   by_request (Some (Use grammar words.Table)) has = absurd has
   by_request (Some (Use grammar words.Cover)) has = by_use grammar Cover tt
   by_request (Some (Use grammar (words.Rebuild input))) has = by_use grammar (Parse Bytes input) tt
-  by_request (Some (Use grammar (words.Json input))) has = by_use grammar (Parse Json input) tt
+  by_request (Some (Use grammar (words.Json input memo mib))) has = by_use grammar (Parse Json input) tt
   by_request (Some (Use grammar (words.Edit input script))) has = by_use grammar (Edit input script) tt
   by_request (Some (Load table input)) has = by_file table (load_in input) (by_load input)
   by_request (Some (Fmt grammar)) has =
       by_text (kind_of grammar) grammar (λ text. have (grammar_in text) formatted) (λ text.
       replies_have told (grammar_in text) formatted (λ g e. replies_only told (done (canonical_text g))))
   by_request (Some (Trial name n)) has = replies_have told (kind_by name) (trial_of name n) (λ kind e. by_trial name n kind)
-  by_request (Some (Explain grammar (Some input))) has =
+  by_request (Some (Explain grammar (Some input) mib)) has =
       by_text (kind_of grammar) grammar (λ text. explain_text grammar input text) (λ text. by_explain grammar input text)
-  by_request (Some (Explain grammar None)) has =
+  by_request (Some (Explain grammar None mib)) has =
       by_text (kind_of grammar) grammar (λ text. says (Explains grammar text)) (λ text. replies_says told (Explains grammar text)
       (explains laws.readable laws.faultless laws.completing laws.as_ordered laws.are_parts laws.is_part laws.noted grammar text))
+  by_request (Some Formats) has =
+      by_file installed (λ list. only (formats_said list)) (λ list is. replies_only told (formats_said list))
   by_request (Some (Help command)) has = replies_only told (help_said command)
   by_request (Some Version) has = replies_only told version_said
-  by_request (Some (View grammar input None)) has = by_use grammar (Parse show.View input) tt
-  by_request (Some (View grammar input (Some path))) has = by_path path grammar (λ query. Parse (PickedView query) input) (λ query. tt)
+  by_request (Some (View grammar input None memo mib)) has = by_use grammar (Parse show.View input) tt
+  by_request (Some (View grammar input (Some path) memo mib)) has = by_path path grammar (λ query. Parse (PickedView query) input) (λ query. tt)
   by_request (Some (Query grammar input path)) has = by_path path grammar (λ query. Parse (Picked query) input) (λ query. tt)
 
 pub some_reply : Known → SomeReply

@@ -2,7 +2,7 @@
 use Rattle.std.specs.Prelude.{ℕ, List, Option, Some, None}
 use Rattle.ipg_outside.specs.Files.{Told, untold, absent, holds, AreBytes}
 use Rattle.ipg_app_words.specs.Request as words
-use Rattle.ipg_app_words.specs.Request.{Request, Use, Fmt, Trial, Query, View, Load, Explain, Help, Version, request_of}
+use Rattle.ipg_app_words.specs.Request.{Request, Use, Fmt, Trial, Query, View, Load, Explain, Formats, Help, Version, request_of}
 use Rattle.ipg_app_text.specs.Order.{Order, Answers}
 use Rattle.ipg_app.specs.Reply.{order_of}
 use Rattle.ipg_app_text.specs.Said.{Said}
@@ -27,14 +27,15 @@ HasReply (Some (Use grammar (words.Verify certificate))) = Unit {0}
 HasReply (Some (Use grammar words.Table)) = ⊥
 HasReply (Some (Use grammar words.Cover)) = Unit {0}
 HasReply (Some (Use grammar (words.Rebuild input))) = Unit {0}
-HasReply (Some (Use grammar (words.Json input))) = Unit {0}
+HasReply (Some (Use grammar (words.Json input memo mib))) = Unit {0}
 HasReply (Some (Use grammar (words.Edit input script))) = Unit {0}
 HasReply (Some (Fmt grammar)) = Unit {0}
 HasReply (Some (Trial kind n)) = Unit {0}
 HasReply (Some (Query grammar input path)) = Unit {0}
-HasReply (Some (View grammar input path)) = Unit {0}
+HasReply (Some (View grammar input path memo mib)) = Unit {0}
 HasReply (Some (Load table input)) = Unit {0}
-HasReply (Some (Explain grammar input)) = Unit {0}
+HasReply (Some (Explain grammar input mib)) = Unit {0}
+HasReply (Some Formats) = Unit {0}
 HasReply (Some (Help command)) = Unit {0}
 HasReply (Some Version) = Unit {0}
 

@@ -16,8 +16,12 @@ option name = record (new_rule name) { long = Some name }
 abbrev pub on_grammar : Text → App
 on_grammar name = with_rule (new_app name) (required (codes "G"))
 
+-- what a parse may use: `--memo on|off`, `--arena MIB`
+abbrev pub with_options : App → App
+with_options app = with_rule (with_rule app (option (codes "memo"))) (option (codes "arena"))
+
 abbrev pub parse : App
-parse = with_rule (with_rule (with_rule (on_grammar (codes "parse")) (required (codes "FILE"))) (option (codes "memo"))) (option (codes "arena"))
+parse = with_options (with_rule (on_grammar (codes "parse")) (required (codes "FILE")))
 
 abbrev pub check : App
 check = on_grammar (codes "check")
@@ -41,11 +45,11 @@ abbrev pub rebuild : App
 rebuild = with_rule (on_grammar (codes "rebuild")) (required (codes "FILE"))
 
 abbrev pub json : App
-json = with_rule (on_grammar (codes "json")) (required (codes "FILE"))
+json = with_options (with_rule (on_grammar (codes "json")) (required (codes "FILE")))
 
 -- a path may be there
 abbrev pub view : App
-view = with_rule (with_rule (on_grammar (codes "view")) (required (codes "FILE"))) (new_rule (codes "PATH"))
+view = with_options (with_rule (with_rule (on_grammar (codes "view")) (required (codes "FILE"))) (new_rule (codes "PATH")))
 
 abbrev pub edit : App
 edit = with_rule (with_rule (on_grammar (codes "edit")) (required (codes "FILE"))) (required (codes "SCRIPT"))
@@ -61,7 +65,10 @@ fmt = on_grammar (codes "fmt")
 
 -- a file may be there
 abbrev pub explain : App
-explain = with_rule (on_grammar (codes "explain")) (new_rule (codes "FILE"))
+explain = with_rule (with_rule (on_grammar (codes "explain")) (new_rule (codes "FILE"))) (option (codes "arena"))
+
+abbrev pub formats : App
+formats = new_app (codes "formats")
 
 -- the name of a command may be there
 abbrev pub help : App

@@ -21,7 +21,7 @@ pub data Task : Type 0 where
   Table : Task
   Cover : Task
   Rebuild : (input : Text) → Task
-  Json : (input : Text) → Task
+  Json : (input : Text) (memo : Memo) (mib : ℕ) → Task
   Edit : (input script : Text) → Task
 
 pub data Request : Type 0 where
@@ -29,9 +29,10 @@ pub data Request : Type 0 where
   Fmt : (grammar : Text) → Request
   Trial : (kind : Text) (count : ℕ) → Request
   Query : (grammar input path : Text) → Request
-  View : (grammar input : Text) (path : Option Text) → Request
+  View : (grammar input : Text) (path : Option Text) (memo : Memo) (mib : ℕ) → Request
   Load : (table input : Text) → Request
-  Explain : (grammar : Text) (input : Option Text) → Request
+  Explain : (grammar : Text) (input : Option Text) (mib : ℕ) → Request
+  Formats : Request
   Help : (command : Option Text) → Request
   Version : Request
 
@@ -55,7 +56,9 @@ rebuild_task rows = do
 abbrev pub json_task : List Row → Option Task
 json_task rows = do
   input ← first_of (codes "FILE") rows
-  Some (Json input)
+  memo ← memo_in (first_of (codes "memo") rows)
+  mib ← mib_in (first_of (codes "arena") rows)
+  Some (Json input memo mib)
 
 abbrev pub edit_task : List Row → Option Task
 edit_task rows = do
@@ -92,12 +95,15 @@ abbrev pub view_by : List Row → Option Request
 view_by rows = do
   grammar ← first_of (codes "G") rows
   input ← first_of (codes "FILE") rows
-  Some (View grammar input (first_of (codes "PATH") rows))
+  memo ← memo_in (first_of (codes "memo") rows)
+  mib ← mib_in (first_of (codes "arena") rows)
+  Some (View grammar input (first_of (codes "PATH") rows) memo mib)
 
 abbrev pub explain_by : List Row → Option Request
 explain_by rows = do
   grammar ← first_of (codes "G") rows
-  Some (Explain grammar (first_of (codes "FILE") rows))
+  mib ← mib_in (first_of (codes "arena") rows)
+  Some (Explain grammar (first_of (codes "FILE") rows) mib)
 
 abbrev pub help_by : List Row → Option Request
 help_by rows = Some (Help (first_of (codes "COMMAND") rows))
@@ -144,6 +150,11 @@ explain_words words = do
   rows ← taken command.explain words
   explain_by rows
 
+abbrev pub formats_words : List Text → Option Request
+formats_words words = do
+  rows ← taken command.formats words
+  Some Formats
+
 abbrev pub help_words : List Text → Option Request
 help_words words = do
   rows ← taken command.help words
@@ -171,9 +182,10 @@ request_by name words = if bytes_eq name (codes "parse") then use_words command.
     else (if bytes_eq name (codes "json") then use_words command.json json_task words
     else (if bytes_eq name (codes "view") then view_words words
     else (if bytes_eq name (codes "explain") then explain_words words
+    else (if bytes_eq name (codes "formats") then formats_words words
     else (if bytes_eq name (codes "help") then help_words words
     else (if bytes_eq name (codes "version") then version_words words
-    else None))))))))))))))))
+    else None)))))))))))))))))
 
 -- nothing where the words are no command's
 abbrev pub request_of : List Text → Option Request

@@ -27,9 +27,11 @@ pub enum Wanted<'a> {
     Rebuild {
         input: &'a str,
     },
-    /// The tree of an input as a JSON text.
+    /// The tree of an input as a JSON text, in so many MiB.
     Json {
         input: &'a str,
+        memo: Memo,
+        mib: u32,
     },
     /// The answers of an input that a script edits.
     Edit {
@@ -64,6 +66,8 @@ pub enum Asked<'a> {
         grammar: &'a str,
         input: &'a str,
         path: Option<&'a str>,
+        memo: Memo,
+        mib: u32,
     },
     /// An input is parsed by the grammar of a table file.
     Load {
@@ -74,7 +78,10 @@ pub enum Asked<'a> {
     Explain {
         grammar: &'a str,
         input: Option<&'a str>,
+        mib: u32,
     },
+    /// Which formats have a grammar.
+    Formats,
     /// What a command does, or which there are.
     Help {
         command: Option<&'a str>,

@@ -22,6 +22,15 @@ fn option<'a>(alloc: Global, name: &'a str) -> Arg<'a>
     Arg::new(alloc, name).long(name)
 }
 
+/// What a parse may use: `--memo on|off`, `--arena MIB`.
+fn with_options<'a>(alloc: Global, command: Command<'a>) -> Result<Command<'a>, AllocError>
+    ensures { IfOk result (λ made. app_of made ≡ spec.with_options (app_of command.entry)) }
+{
+    command
+        .arg(option(alloc, "memo"))?
+        .arg(option(alloc, "arena"))
+}
+
 /// A command that takes the name of a grammar.
 pub fn on_grammar<'a>(alloc: Global, name: &'a str) -> Result<Command<'a>, AllocError>
     ensures { IfOk result (λ command. app_of command ≡ spec.on_grammar name.now) }
@@ -32,10 +41,8 @@ pub fn on_grammar<'a>(alloc: Global, name: &'a str) -> Result<Command<'a>, Alloc
 pub fn parse<'a>(alloc: Global) -> Result<Command<'a>, AllocError>
     ensures { IfOk result (λ command. app_of command ≡ spec.parse) }
 {
-    on_grammar(alloc, "parse")?
-        .arg(required(alloc, "FILE"))?
-        .arg(option(alloc, "memo"))?
-        .arg(option(alloc, "arena"))
+    let command = on_grammar(alloc, "parse")?.arg(required(alloc, "FILE"))?;
+    with_options(alloc, command)
 }
 
 pub fn query<'a>(alloc: Global) -> Result<Command<'a>, AllocError>
@@ -62,6 +69,12 @@ pub fn load<'a>(alloc: Global) -> Result<Command<'a>, AllocError>
         .arg(required(alloc, "FILE"))
 }
 
+pub fn formats<'a>(alloc: Global) -> Command<'a>
+    ensures { app_of result ≡ spec.formats }
+{
+    Command::new(alloc, "formats")
+}
+
 /// The name of a command may be there.
 pub fn help<'a>(alloc: Global) -> Result<Command<'a>, AllocError>
     ensures { IfOk result (λ command. app_of command ≡ spec.help) }
@@ -84,23 +97,27 @@ pub fn rebuild<'a>(alloc: Global) -> Result<Command<'a>, AllocError>
 pub fn json<'a>(alloc: Global) -> Result<Command<'a>, AllocError>
     ensures { IfOk result (λ command. app_of command ≡ spec.json) }
 {
-    on_grammar(alloc, "json")?.arg(required(alloc, "FILE"))
+    let command = on_grammar(alloc, "json")?.arg(required(alloc, "FILE"))?;
+    with_options(alloc, command)
 }
 
 /// A path may be there.
 pub fn view<'a>(alloc: Global) -> Result<Command<'a>, AllocError>
     ensures { IfOk result (λ command. app_of command ≡ spec.view) }
 {
-    on_grammar(alloc, "view")?
+    let command = on_grammar(alloc, "view")?
         .arg(required(alloc, "FILE"))?
-        .arg(Arg::new(alloc, "PATH"))
+        .arg(Arg::new(alloc, "PATH"))?;
+    with_options(alloc, command)
 }
 
 /// A file may be there.
 pub fn explain<'a>(alloc: Global) -> Result<Command<'a>, AllocError>
     ensures { IfOk result (λ command. app_of command ≡ spec.explain) }
 {
-    on_grammar(alloc, "explain")?.arg(Arg::new(alloc, "FILE"))
+    on_grammar(alloc, "explain")?
+        .arg(Arg::new(alloc, "FILE"))?
+        .arg(option(alloc, "arena"))
 }
 
 pub fn edit<'a>(alloc: Global) -> Result<Command<'a>, AllocError>

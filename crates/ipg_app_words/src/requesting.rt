@@ -9,8 +9,8 @@ ghost use Rattle.ipg_app_words.specs.Seen.{seen, task_seen};
 
 use crate::asking::{Asked, Wanted};
 use crate::commands::{
-    edit, explain, help, json, load, on_grammar, parse, query, rebuild, trial, verify, version,
-    view,
+    edit, explain, formats, help, json, load, on_grammar, parse, query, rebuild, trial, verify,
+    version, view,
 };
 use crate::matching::{taken, value};
 use crate::settings::{count, memo, mib};
@@ -50,6 +50,7 @@ fn request_by<'a>(
         "json" => json_request(alloc, words),
         "view" => view_request(alloc, words),
         "explain" => explain_request(alloc, words),
+        "formats" => formats_request(alloc, words),
         "help" => help_request(alloc, words),
         "version" => version_request(alloc, words),
         _ => Ok(None),
@@ -144,6 +145,15 @@ fn explain_request<'a>(alloc: Global, words: &'a [String]) -> Result<Option<Aske
     }
 }
 
+fn formats_request<'a>(alloc: Global, words: &'a [String]) -> Result<Option<Asked<'a>>, AllocError>
+    ensures { IfOk result (λ asked. option_map seen asked ≡ spec.formats_words (map string_bytes words.now)) }
+{
+    match taken(formats(alloc), words)? {
+        Some(_) => Ok(Some(Asked::Formats)),
+        None => Ok(None),
+    }
+}
+
 fn help_request<'a>(alloc: Global, words: &'a [String]) -> Result<Option<Asked<'a>>, AllocError>
     ensures { IfOk result (λ asked. option_map seen asked ≡ spec.help_words (map string_bytes words.now)) }
 {
@@ -210,6 +220,7 @@ fn explain_of<'a>(matches: &ArgMatches<'a>) -> Option<Asked<'a>>
     Some(Asked::Explain {
         grammar: value(matches, "G")?,
         input: value(matches, "FILE"),
+        mib: mib(value(matches, "arena"))?,
     })
 }
 
@@ -246,6 +257,8 @@ fn view_of<'a>(matches: &ArgMatches<'a>) -> Option<Asked<'a>>
         grammar: value(matches, "G")?,
         input: value(matches, "FILE")?,
         path: value(matches, "PATH"),
+        memo: memo(value(matches, "memo"))?,
+        mib: mib(value(matches, "arena"))?,
     })
 }
 
@@ -280,6 +293,8 @@ fn json_wanted<'a>(matches: &ArgMatches<'a>) -> Option<Wanted<'a>>
 {
     Some(Wanted::Json {
         input: value(matches, "FILE")?,
+        memo: memo(value(matches, "memo"))?,
+        mib: mib(value(matches, "arena"))?,
     })
 }
 

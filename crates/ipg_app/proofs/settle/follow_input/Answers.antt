@@ -17,7 +17,7 @@ returns-in_err-input-clause-settled g c =
     let after = g.F.Files.faults c.input_in_file.new.files in
     let name = c.args.name.now in
     let text = c.args.text.now in
-    let input = c.args.input.now in
+    let input = c.args.followed.input.now in
     let made : Cleared = (c.args.made.now.grammar, c.args.made.now.core) in
     let next : List ℕ → Order = λ these. says (Follows (subject name text made.0 these) made.1) in
     said_exits c.from_residual.result c.in_err-input.field-0.0 (Settles told before after (input_in_file input (λ input. silence)))
@@ -31,7 +31,7 @@ returns-clause-settled g c =
     let after = g.F.Files.faults c.input_in_file.new.files in
     let name = c.args.name.now in
     let text = c.args.text.now in
-    let input = c.args.input.now in
+    let input = c.args.followed.input.now in
     let made : Cleared = (c.args.made.now.grammar, c.args.made.now.core) in
     let bytes = c.in_ok-input.input.items in
     let whole : ReadWhole (told input) (2 ^ 30) bytes = c.in_ok-input.ensures.found in

@@ -15,7 +15,7 @@ returns-in-Ok-clause-settled g c =
     let after = g.F.Files.faults c.follow_input.new.files in
     let name = c.args.name.now in
     let text = c.args.text.now in
-    let input = c.args.input.now in
+    let input = c.args.followed.input.now in
     let made : Cleared = (c.in-Ok.made.grammar, c.in-Ok.made.core) in
     let clears : Clears text (Ok made) = c.in-Ok.ensures in
     said_on c.follow_input.result (Settles told before after (follow name text input made)) (Settles told before after (explain_text name input text))
@@ -30,5 +30,5 @@ returns-in_ok-told-in-Err-Said-clause-settled g c =
     let text = c.args.text.now in
     let reason = reason_of c.in-Err-Said.reason in
     let clears : Clears text (Err reason) = rw c.in-Err-Said.field-0-is at c.in-Err-Said.ensures in
-    not_cleared told counts counts name text (follow name text c.args.input.now) (said_of c.in_ok-told-in-Err-Said.field-0) reason clears
+    not_cleared told counts counts name text (follow name text c.args.followed.input.now) (said_of c.in_ok-told-in-Err-Said.field-0) reason clears
     c.in_ok-told-in-Err-Said.ensures
