@@ -1,14 +1,15 @@
 """Wrong bodies: each edit is put into a copy of its crate, and the prover must refuse the very function that it changes.
 
-  wrong_bodies.py [--all] [CRATE..]
+  wrong_bodies.py [--all] [--minutes N] [CRATE..]
 
 The edits are those of crates/*/wrong-bodies/, with --all those of must-fail/ and more-edits/ too. One function of a crate is
-proved in some twenty seconds, where the gate's own try proves the crate. The libraries below must have been proved and
-built in this checkout, as `rt ci` leaves them. What was refused is kept by the checksums of all that it stands on, below
-the user's cache, and not tried again. A line for each edit that isn't refused, and last how many there are; ends with
-status 1 where one isn't refused, and with 77 where a library is missing.
+proved in some twenty seconds to two minutes, where the gate's own try proves the crate. The libraries below must have been
+proved and built in this checkout, as `rt ci` leaves them. What was refused is kept by the checksums of all that it stands
+on, below the user's cache, and not tried again. With --minutes none is begun after so many. A line for each edit that isn't
+refused, and last how many there are; ends with status 1 where one isn't refused, and with 77 where a library is missing.
 """
 
+import argparse
 import concurrent.futures
 import hashlib
 import os
@@ -17,11 +18,13 @@ import shutil
 import subprocess
 import sys
 import tempfile
+import time
 
 PARTS = ("src", "specs", "proofs")
 FUNCTION = re.compile(r"^( {4})?(?:pub(?:\(crate\))? )?(?:const |unsafe )*fn (\w+)")
 IMPL = re.compile(r"^(?:pub )?(?:impl|trait)\b(?:<[^{]*?>)? ?(?:(\w+)(?:<.*>)? for )?&?(?:'\w+ )?([\w:]+)")
 BYTES_EACH = 2 << 30
+WAY = "1"  # of trying an edit: another number, and nothing that was kept counts
 
 
 def kit():
@@ -166,14 +169,16 @@ def is_named(crate, function, text):
 
 def kept_at(crates_sum, edit):
     cache = os.environ.get("XDG_CACHE_HOME") or os.path.expanduser("~/.cache")
-    return os.path.join(cache, "ipg", "wrong-bodies", hashlib.sha256((crates_sum + read(edit.path) + read(__file__)).encode()).hexdigest())
+    return os.path.join(cache, "ipg", "wrong-bodies", hashlib.sha256((crates_sum + read(edit.path) + WAY).encode()).hexdigest())
 
 
-def tried(crates, sums, edit):
-    """Whether the edit is refused; says so where it isn't."""
+def tried(crates, sums, edit, until):
+    """Whether the edit is refused, and None where its turn comes too late; says so where it isn't refused."""
     kept = kept_at(sums[edit.crate], edit)
     if os.path.exists(kept):
         return True
+    if time.monotonic() > until:
+        return None
     fault = refused(crates, edit)
     if fault:
         print(f"wrong_bodies: {edit.path}: {fault}", flush=True)
@@ -189,24 +194,36 @@ def at_once():
     return max(1, min(len(os.sched_getaffinity(0)), free // 2 // BYTES_EACH))
 
 
+def words_of(arguments):
+    parser = argparse.ArgumentParser()
+    parser.add_argument("--all", action="store_true")
+    parser.add_argument("--minutes", type=float, default=float("inf"))
+    parser.add_argument("crates", nargs="*")
+    return parser.parse_args(arguments)
+
+
+def edits_of(crates, words):
+    rooms = ("wrong-bodies", "must-fail", "more-edits") if words.all else ("wrong-bodies",)
+    folders = [f"crates/{name}/{room}" for name in sorted(crates.uses) if not words.crates or name in words.crates for room in rooms]
+    return [Edit(f"{folder}/{file}") for folder in folders if os.path.isdir(folder) for file in sorted(os.listdir(folder)) if file.endswith(".edit")]
+
+
 def main():
+    words = words_of(sys.argv[1:])
     os.chdir(os.path.join(os.path.dirname(os.path.abspath(__file__)), ".."))
-    every = "--all" in sys.argv[1:]
-    names = [word for word in sys.argv[1:] if word != "--all"]
     crates = Crates()
-    rooms = ("wrong-bodies", "must-fail", "more-edits") if every else ("wrong-bodies",)
-    paths = [f"crates/{name}/{room}/{file}" for name in sorted(crates.uses) if not names or name in names for room in rooms
-             if os.path.isdir(f"crates/{name}/{room}") for file in sorted(os.listdir(f"crates/{name}/{room}")) if file.endswith(".edit")]
-    edits = [Edit(path) for path in paths]
+    edits = edits_of(crates, words)
     missing = sorted({use for edit in edits for use in crates.missing(edit.crate)})
     if missing:
         print(f"wrong_bodies: not built here: {' '.join(missing)}")
         return 77
     sums = {name: crates.sum(name) for name in {edit.crate for edit in edits}}
+    until = time.monotonic() + 60 * words.minutes
     with concurrent.futures.ThreadPoolExecutor(at_once()) as pool:
-        right = list(pool.map(lambda edit: tried(crates, sums, edit), edits))
-    print(f"wrong_bodies: {len(edits)} edits in {len(sums)} crates, {sum(right)} refused")
-    return 0 if all(right) else 1
+        answers = list(pool.map(lambda edit: tried(crates, sums, edit, until), edits))
+    late = f", {answers.count(None)} not reached in {words.minutes:g} minutes" if None in answers else ""
+    print(f"wrong_bodies: {len(edits)} edits in {len(sums)} crates, {answers.count(True)} refused{late}")
+    return 1 if False in answers else 0
 
 
 if __name__ == "__main__":
