@@ -31,6 +31,8 @@ Switch = namedtuple("Switch", "cases other")  # cases: (condition, slot)
 WIDTHS = {"U8": 1, "U16LE": 2, "U16BE": 2, "U32LE": 4, "U32BE": 4, "U64LE": 8, "U64BE": 8}
 LEVELS = [["||"], ["&&"], ["==", "!=", "<", "<=", ">", ">="], ["|"], ["^"], ["&"], ["<<", ">>"], ["+", "-"], ["*", "/", "%"]]
 LEVEL = {op: n + 1 for n, ops in enumerate(LEVELS) for op in ops}
+# so many raw bytes stand in a line of a tree
+LONGEST_RAW = 32
 
 
 class NoTree(Exception):
@@ -216,6 +218,10 @@ class Grammar:
             left += more
         return found
 
+    def shown(self, what):
+        """How a symbol or an attribute stands in a tree's lines."""
+        return what
+
     def providers(self, r, a, terms, u):
         needs = {m[1] for m in term_mentions(terms[u]) if m[0] in ("seen", "item", "after")}
         attrs = {m[1] for m in term_mentions(terms[u]) if m[0] == "own"}
@@ -269,9 +275,9 @@ Done = namedtuple("Done", "sym from_ to start end what")  # a result, its ends a
 class Run:
     """An alternative at work on a part."""
 
-    def __init__(self, parse, part, outer, count):
-        self.parse, self.part, self.outer = parse, part, outer
-        self.own, self.done, self.loop = {}, [None] * count, None
+    def __init__(self, parse, part, outer, terms):
+        self.parse, self.part, self.outer, self.terms = parse, part, outer, terms
+        self.own, self.done, self.loop = {}, [None] * len(terms), None
 
     def field(self, done, name):
         if name in ("start", "end"):
@@ -280,11 +286,14 @@ class Run:
             raise NoTree
         return done.what["attrs"][name]
 
+    def is_read_by(self, u, sym):
+        """Whether a reference by the symbol may read the term's result: only of a switch is it asked for, and no text's."""
+        return not isinstance(self.terms[u], Switch) or sym is None or isinstance(sym, bytes) or sym == self.done[u].sym
+
     def seen(self, u, sym, name):
-        done = self.done[u]
-        if done is None or sym not in (None, done.sym):
+        if self.done[u] is None or not self.is_read_by(u, sym):
             raise NoTree
-        return self.field(done, name)
+        return self.field(self.done[u], name)
 
     def value(self, e):
         self.parse.step()
@@ -382,6 +391,8 @@ class Run:
 class Parse:
     """A parse of an input; each result is a dictionary with its start and end in its own part."""
 
+    run_of = Run
+
     def __init__(self, grammar, steps=20000):
         self.grammar, self.left = grammar, steps
 
@@ -415,7 +426,7 @@ class Parse:
     def rule(self, r, part, outer):
         self.step()
         for a, terms in enumerate(self.grammar.alts[r]):
-            run = Run(self, part, outer, len(terms))
+            run = self.run_of(self, part, outer, terms)
             try:
                 for u in self.grammar.orders[r][a]:
                     run.term((r, a), u, terms[u])
@@ -437,36 +448,40 @@ class Parse:
         if "token" in what:
             yield "%d tok %d %d %s" % (depth, at, at + size, what["token"].hex() or "-")
         elif "raw" in what:
-            yield "%d Bytes %d %d %s" % (depth, at, at + size, what["raw"].hex() or "-")
+            more = "+%d" % (size - LONGEST_RAW) if size > LONGEST_RAW else ""
+            yield "%d Bytes %d %d %s" % (depth, at, at + size, what["raw"][:LONGEST_RAW].hex() or "-") + more
         elif "number" in what:
-            yield "%d %s %d %d" % (depth, what["number"], at, at + size) + told(what["attrs"])
+            yield "%d %s %d %d" % (depth, what["number"], at, at + size) + self.told(what["attrs"])
         else:
             name = self.grammar.entries[what["rule"]][0].name
             ends = (at, at + size, at + what["start"], at + what["end"])
-            yield "%d %s %d %d start=%d end=%d" % ((depth, name) + ends) + told(what["attrs"])
+            yield "%d %s %d %d start=%d end=%d" % ((depth, name) + ends) + self.told(what["attrs"])
             for term, done in what["kids"]:
                 if isinstance(done, list):
                     kind = "many" if isinstance(term, Many) else "for"
-                    yield "%d %s %s %d" % (depth + 1, kind, term.sym, len(done))
+                    yield "%d %s %s %d" % (depth + 1, kind, self.grammar.shown(term.sym), len(done))
                     for one in done:
                         yield from self.lines(one.what, at + one.from_, one.to - one.from_, depth + 2)
                 else:
                     yield from self.lines(done.what, at + done.from_, done.to - done.from_, depth + 1)
 
+    def told(self, attrs):
+        return "".join(" %s=%d" % (self.grammar.shown(name), value) for name, value in attrs.items())
 
-def told(attrs):
-    return "".join(" %s=%d" % pair for pair in attrs.items())
+    def answer(self, data):
+        """The status, and the text."""
+        try:
+            tree = self.rule(0, data, {})
+            return 0, "".join(line + "\n" for line in self.lines(tree, 0, len(data), 0))
+        except NoTree:
+            return 1, "no parse\n"
+        except Range:
+            return 3, "range\n"
 
 
 def answer(rules, data):
     try:
-        parse = Parse(Grammar(rules))
-        tree = parse.rule(0, data, {})
-        return 0, "".join(line + "\n" for line in parse.lines(tree, 0, len(data), 0))
-    except NoTree:
-        return 1, "no parse\n"
-    except Range:
-        return 3, "range\n"
+        return Parse(Grammar(rules)).answer(data)
     except Refused as why:
         return 2, "refused %s\n" % why
 

@@ -140,11 +140,11 @@ ENDS = {1: "start", 2: "end"}
 
 
 class Table(Grammar):
-    """The grammar of a table file. A rule is known by its number, `("rule", N)`, an attribute of an alternative by its number."""
+    """The grammar of a table file. A rule is known by its number, `("rule", N)`."""
 
     def __init__(self, names, rules):
         self.names = names
-        self.entries = [(Rule(name, alts), holder) for name, holder, alts in rules]
+        self.entries = [(Rule(name.decode("latin-1"), alts), holder) for name, holder, alts in rules]
         self.numbers = {("rule", r): r for r in range(len(rules))}
         self.alts = [[[self.term(t) for t in terms] for terms in alts] for _, _, alts in rules]
         if not self.is_well_formed():
@@ -158,22 +158,28 @@ class Table(Grammar):
         kind, what = sym
         return what if kind == "text" else PRIMITIVES[what] if kind == "number" else sym
 
-    def field(self, field):
+    def shown(self, what):
+        return what if isinstance(what, str) else self.entries[what[1]][0].name if what[0] == "rule" else what[1]
+
+    def attribute(self, number):
         """An attribute by its name, apart from `start` and `end`; by its number where it has no name."""
+        if number >= len(self.names):
+            return number
+        name = self.names[number].decode("latin-1")
+        return ("named", name) if name in ENDS.values() else name
+
+    def field(self, field):
         kind, what = field
-        if kind == "end":
-            return ENDS[what]
-        if what >= len(self.names):
-            return what
-        name = self.names[what].decode("latin-1")
-        return ("named", name) if name in ("start", "end") else name
+        return ENDS[what] if kind == "end" else self.attribute(what)
 
     def expression(self, e):
         kind, *parts = e
         if kind in (1, 4):
             return ("eoi",) if kind == 1 else ("loop",)
-        if kind in (0, 2, 3):
-            return {0: "num", 2: "own", 3: "outer"}[kind], parts[0]
+        if kind == 0:
+            return "num", parts[0]
+        if kind in (2, 3):
+            return "own" if kind == 2 else "outer", self.attribute(parts[0])
         if kind == 5:
             return "seen", parts[0], self.symbol(parts[1]), self.field(parts[2])
         if kind == 6:
@@ -192,7 +198,7 @@ class Table(Grammar):
         if kind == 0:
             return self.slot(parts[0])
         if kind == 1:
-            return Set(parts[0], self.expression(parts[1]))
+            return Set(self.attribute(parts[0]), self.expression(parts[1]))
         if kind == 2:
             return Test(self.expression(parts[0]))
         if kind == 4:
@@ -221,7 +227,7 @@ class Table(Grammar):
     def is_good_alternative(self, r, a):
         terms = self.alts[r][a]
         attrs = [term.attr for term in terms if isinstance(term, Set)]
-        return (0 < len(terms) <= 256 and len(set(attrs)) == len(attrs) and all(attr < len(self.names) for attr in attrs)
+        return (0 < len(terms) <= 256 and len(set(attrs)) == len(attrs) and not any(isinstance(attr, int) for attr in attrs)
                 and all(self.is_good_term(r, a, u) for u in range(len(terms))))
 
     def is_good_term(self, r, a, u):
@@ -254,18 +260,26 @@ class Table(Grammar):
         return True
 
 
+def loaded(file):
+    """The grammar of a table file; else what `load` refuses it with is raised."""
+    names, rules, text = body_of(file)
+    grammar = Table(names, rules)
+    try:
+        faulty = second_checker.faulty_entry(grammar, second_checker.Certificate(text))
+    except second_checker.CertText as fault:
+        raise Refusal("L5 CertText %d" % fault.args)
+    if faulty is not None:
+        raise Refusal("L6 Proof %d" % faulty)
+    return grammar
+
+
 def refusal_of(file):
     """What `load` refuses the file with, or None where it goes on."""
     try:
-        names, rules, text = body_of(file)
-        grammar = Table(names, rules)
-        certificate = second_checker.Certificate(text)
-        faulty = second_checker.faulty_entry(grammar, certificate)
-        return None if faulty is None else "L6 Proof %d" % faulty
+        loaded(file)
     except Refusal as refusal:
         return refusal.args[0]
-    except second_checker.CertText as fault:
-        return "L5 CertText %d" % fault.args
+    return None
 
 
 # ---- against the program
