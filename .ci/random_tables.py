@@ -50,7 +50,8 @@ class Alternative:
     def term(self, attrs):
         kind = self.rng.random()
         if attrs and kind < 0.3:
-            return Set(attrs.pop(), self.expression())
+            attr = attrs.pop()
+            return Set(attr, ("own", attr) if self.often(0.05) else self.expression())
         if kind < 0.35:
             return Test(self.expression())
         if kind < 0.45:
@@ -85,7 +86,7 @@ class Alternative:
         if depth == 0 or kind < 0.75:
             return self.pick(("eoi",), *[("num", n) for n in (0, 0, 1, 1, 2, 3)])
         if kind < 0.8:
-            return "num", self.pick(2 ** 63 - 1, -2 ** 63)
+            return "+", ("num", self.pick(2 ** 63 - 1, -2 ** 63)), self.expression(depth - 1)
         if kind < 0.85:
             return self.pick("-", "!"), self.expression(depth - 1)
         if kind < 0.9:
@@ -95,7 +96,7 @@ class Alternative:
     def reference(self):
         """What a term has, mostly of one before; an attribute of the holder; the loop variable, be it there or not."""
         if self.often(0.03):
-            return ("loop",) if self.often(0.4) else self.seen(len(self.terms) + self.rng.randrange(2))
+            return ("loop",) if self.often(0.3) else self.seen(len(self.terms) + self.pick(0, 0, 1))
         if self.outer and self.often(0.2):
             return "outer", self.rng.choice(self.outer)
         v = self.rng.randrange(len(self.terms)) if self.terms else None
@@ -209,6 +210,8 @@ class Watched(Run):
     def attribute(self, e):
         if e[0] == "loop" and self.loop is None:
             self.parse.met.add("loop variables outside")
+        if e[0] == "own" and e[1] not in self.own:
+            self.parse.met.add("own terms")
         return super().attribute(e)
 
 
