@@ -3,7 +3,7 @@ which were written from docs/TABLE.md, docs/CERTIFICATE.md and docs/MEANING.md.
 
   random_tables.py COMMAND [COUNT [SEED]]
 
-References of a body read any term by any symbol, also a field that isn't there, the very term that they stand in, and the loop variable.
+References of a body read any term by any symbol, also a field that isn't there, the term that they stand in, and the loop variable.
 Its certificate refutes a call or a cycle by two facts at most; where more are needed it proves nothing. The evaluator is itself
 held to answers from outside. Ends with status 1 where something differs, or a kind of answer or of reference never comes.
 """
@@ -184,7 +184,7 @@ def random_file(rng):
 
 # ---- answers
 
-# references that no text has: reads by another symbol than that of what was parsed, and reads of what isn't there
+# reads by another symbol than that of what was parsed, and reads of what isn't there
 KINDS = ["%s by a %s" % (what, sym) for what in ("slots", "switches") for sym in ("primitive", "rule", "text")]
 KINDS += ["missing attributes", "own terms", "loop variables outside"]
 
@@ -240,7 +240,7 @@ SHARES = {0: 1, 1: 0.3, 3: 0.1, 9: 0.2}
 
 
 def random_cases(rng, count):
-    """Files, inputs, the answers due, and references met; each case is refused or meets one that no text has."""
+    """Files, inputs, the answers due, and which of the kinds were met; each case is refused or meets one."""
     cases, ends = [], Counter()
     while len(cases) < count:
         file, inputs = random_file(rng), [random_input(rng) + random_input(rng) for _ in range(4)]
