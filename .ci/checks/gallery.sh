@@ -1,5 +1,6 @@
 #!/usr/bin/env bash
-# The grammars of formats/ on samples, against what other programs and python3's own modules say of them; and on files of this machine.
+# The grammars of formats/ on samples, against what other programs and python3's own modules say of them; whether each number in them has
+# a name; and on files of this machine.
 set -u
 cd "$(dirname "$0")/../.." || exit 1
 . .ci/skips.sh
@@ -16,5 +17,6 @@ for tool in $(python3 .ci/gallery.py --missing); do
 done
 python3 .ci/gallery.py "$program"
 status=$?
+python3 -B .ci/labels.py "$program" || status=1
 python3 -B .ci/gallery_files.py "$program" || status=1
 exit "$status"
