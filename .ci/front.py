@@ -46,6 +46,7 @@ KINDS = [(re.compile(said), name) for said, name in (
     (r"Ogg data", "ogg"), (r"Standard MIDI", "midi"), (r"ISO Media", "mp4"), (r"Matroska|WebM", "matroska"),
     (r"TrueType Font|OpenType font", "sfnt"), (r"Web Open Font Format,", "woff"), (r"Adobe Photoshop Image", "psd"),
     (r"DirectDraw Surface|Microsoft DirectDraw", "dds"), (r"NumPy data", "npy"), (r"Git index", "git-index"), (r"Git pack index", "git-idx"),
+    (r"Git pack,", "git-pack"),
     (r"Certificate, Version=3", "x509"), (r"Device Tree Blob", "dtb"), (r"Squashfs filesystem", "squashfs"), (r"ISO 9660", "iso9660"),
     (r"QEMU QCOW", "qcow2"), (r"(ColorSync )?color profile|ICC Profile", "icc"), (r"OpenPGP (Public|Secret)|PGP.*key public ring", "openpgp"),
     (r"MSVC program database", "pdb"), (r"Hierarchical Data Format \(version 5\)", "hdf5"), (r"Apache Parquet", "parquet"),

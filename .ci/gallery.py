@@ -12,6 +12,7 @@ import concurrent.futures
 import functools
 import gettext
 import gzip
+import hashlib
 import io
 import os
 import re
@@ -210,6 +211,9 @@ HAND = {
     "ext": {"Super.blocks_count": [64], "Super.inodes_count": [16], "Ext.block": [1024], "Group.inode_table": [5], "Group.used_dirs": [2]},
     "git-idx": {"Idx.n": [2], "Offset.offset": [12, 300], "Crc.crc": [0x11223344, 0x55667788], "Idx/Name:hex": ["05" + "01" * 19, "c8" + "02" * 19],
                 "Fanout.count": [0] * 5 + [1] * 195 + [2] * 56},
+    "git-pack": {"GitPack.objects": [1], "Object.type": [3], "Object.size": [6], "GitPack/Checksum:hex": [hashlib.sha1(samples.git_pack()[:-20]).hexdigest()]},
+    "arrow": {"Kind.header_type": [1, 3], "Length.length": [0, 8], "Message/Body": ["", "batch"], "Version.version": [4], "Block.offset": [64],
+              "Block.metaDataLength": [56], "Block.bodyLength": [8], "Text/Letters": ["a"], "Nullable.nullable": [1], "Type.type": [2]},
     "git-index": {"Entry.mode": [0o100644, 0o100755], "Entry.size": [6, 700], "Entry/Name": ["a.txt", "dir/b.sh"], "Extension.size": [3],
                   "Entry.mtimenano": [500] * 2},
     "glb": {"Json.chunkLength": [28], "Chunk.chunkLength": [8], "Chunk.chunkType": [0x4e4942], "Chunk/Data:hex": ["0000c03f000000c0"]},
@@ -375,6 +379,7 @@ TOOLS = [
      ["Exfat.VolumeLength", "Exfat.ClusterCount", "Exfat.VolumeSerialNumber:x"], str),
     ("ext", "dumpe2fs -h {}", r"(?s)Inode count: +(\d+)\nBlock count: +(\d+)\n.*Free blocks: +(\d+)",
      ["Super.inodes_count", "Super.blocks_count", "Super.free_blocks_count"], str),
+    ("git-pack", "sh -c 'git index-pack -o {}.idx {}'", r"^(\w{40})$", ["GitPack/Checksum:hex"], str),
     ("git-idx", "sh -c 'git show-index <{}'", r"^(\d+) (\w{40}) \((\w{8})\)", ["Offset.offset", "Idx/Name:hex", "Crc.crc:08x"], str),
     ("git-index", "file -b {}", r"version (\d+), (\d+) entries", ["Index.version", "Index.n"], str),
     ("glb", "file -b {}", r"version (\d), length (\d+)", ["Glb.version", "Glb.length"], str),

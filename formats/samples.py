@@ -720,6 +720,14 @@ def git_idx():
     return out + hashlib.sha1(out).digest()
 
 
+def git_pack():
+    """One file of six bytes, stored without compression."""
+    data = b"hello\n"
+    stored = b"\x78\x01\x01" + le("HH", len(data), 65535 - len(data)) + data + be("I", zlib.adler32(data))
+    out = b"PACK" + be("II", 2, 1) + b"\x36" + stored
+    return out + hashlib.sha1(out).digest()
+
+
 # ---- values, texts, messages, further ones
 
 def bson_element(kind, name, data):
@@ -870,6 +878,24 @@ def parquet():
     return b"PAR1" + b"data" + footer + le("I", len(footer)) + b"PAR1"
 
 
+def arrow_message(kind, size):
+    """A message's head: a table of FlatBuffers with version, kind, an empty table and the body's size."""
+    fields = le("hBBQI", 4, kind, 0, size, 8)
+    table = le("I", 16) + le("6H", 12, 20, 4, 6, 16, 8) + le("i", 12) + fields + le("HHi", 4, 4, 4) + b"\0" * 4
+    return b"\xff" * 4 + le("I", len(table)) + table
+
+
+def arrow():
+    """A schema of one column of whole numbers, and one batch."""
+    stream = b"ARROW1\0\0" + arrow_message(1, 0) + arrow_message(3, 8) + b"batch\0\0\0" + b"\xff" * 4 + b"\0" * 4
+    root = le("I", 16) + le("6H", 12, 16, 4, 8, 0, 12) + le("ihHII", 12, 4, 0, 48, 8)
+    batches = b"\0" * 4 + le("I", 1) + le("QIIQ", 64, 56, 0, 8)
+    schema = le("4H", 8, 8, 0, 4) + le("iI", 8, 4) + le("II", 1, 16)
+    column = le("6H", 12, 16, 4, 8, 9, 12) + le("iIBBHI", 12, 32, 1, 2, 0, 12)
+    footer = root + batches + schema + column + le("4H", 8, 9, 4, 8) + le("iiB3x", 8, 32, 1) + le("I", 1) + b"a\0\0\0"
+    return stream + footer + le("I", len(footer)) + b"ARROW1"
+
+
 def hdf5():
     """A superblock of version 0, whose root has its heads behind it; no more than that is there."""
     none = (1 << 64) - 1
@@ -987,7 +1013,8 @@ SAMPLES = {
     "flac": flac, "gpt": gpt, "gzip": gzip_, "ico": ico, "java-class": java_class, "macho": macho, "mbr": mbr, "midi": midi,
     "mp4": mp4, "msgpack": msgpack, "ogg": ogg, "pcapng": pcapng, "png": png, "riff": riff, "sqlite": sqlite, "tar": tar,
     "tiff": tiff, "tls": tls, "utf8": utf8, "wasm": wasm, "wav": wav, "zip": zip_,
-    "bson": bson, "dds": dds, "dex": dex, "dtb": dtb, "exfat": exfat, "ext": ext, "git-idx": git_idx, "git-index": git_index, "glb": glb,
+    "bson": bson, "dds": dds, "dex": dex, "dtb": dtb, "exfat": exfat, "ext": ext, "git-idx": git_idx, "git-index": git_index,
+    "git-pack": git_pack, "arrow": arrow, "glb": glb,
     "icc": icc, "iso9660": iso9660, "jpeg": jpeg, "lnk": lnk, "luks": luks, "lz4": lz4, "matroska": matroska, "mo": mo, "npy": npy,
     "ntfs": ntfs, "openpgp": openpgp, "packets": packets, "pe-imports": pe_imports, "elf-dynamic": elf_dynamic, "psd": psd, "pyc": pyc, "qcow2": qcow2,
     "sevenzip": sevenzip, "sfnt": sfnt, "sqlite-wal": sqlite_wal,
