@@ -522,6 +522,26 @@ def little_capture():
     return struct.pack("<IHHiIII4I", 0xa1b23c4d, 2, 4, 0, 0, 65535, 101, 5, 999999999, len(packet), len(packet)) + packet
 
 
+def small_picture():
+    """A picture stands behind the directories of EXIF, as cameras have it."""
+    return b"\xff\xd8" + samples.jpeg_segment(0xe1, b"Exif\0\0" + samples.exif() + b"\xff\xd8\xff\xd9") + samples.jpeg()[2:]
+
+
+def bright_png():
+    """Numbers of BT.2020's colours, 1,000 candela and less, as the standard's examples have them."""
+    light = struct.pack(">8H2I", 35400, 14600, 8500, 39850, 6550, 2300, 15635, 16450, 10000000, 1)
+    chunks = [(b"bKGD", struct.pack(">3H", 1, 2, 3)), (b"tRNS", struct.pack(">3H", 1, 2, 3)), (b"mDCV", light),
+              (b"cLLI", struct.pack(">2I", 4000000, 1000000)), (b"eXIf", samples.exif())]
+    whole = samples.png()
+    return whole[:33] + b"".join(samples.png_chunk(*chunk) for chunk in chunks) + whole[33:]
+
+
+def thin_pack():
+    """An object of 300 bytes that is told by its difference to one of another pack: 300 is 12 and 18 times 16."""
+    data = b"PACK" + struct.pack(">II", 2, 1) + bytes([0x80 | 7 << 4 | 12, 18]) + b"\5" * 20 + zlib.compress(b"red")
+    return data + hashlib.sha1(data).digest()
+
+
 WIDE = b"ds64" + struct.pack("<IQQQI", 28, 84, 4, 2, 0)
 # by wat2wasm, out of a text: two functions, globals of -5, 2^63 - 1 and 1.5, a start, a table of both functions, two data, names
 WASM = bytes.fromhex(
@@ -549,6 +569,12 @@ VARIANTS = [
     ("tiff", "in little order, with EXIF", samples.exif, {"Field.tag": [271, 282, 34665, 33434, 34855], "Field/Ascii": ["Maker"],
      "Rational.denominator": [1, 125],
                                                          "ShortValue.value": [400]}),
+    ("jpeg", "with a small picture in EXIF", small_picture, {"Segment.marker": [0xe1, 0xe0, 0xe1, 0xdb, 0xc0, 0xc4, 0xc4, 0xda], "Frame.width": [8]}),
+    ("png", "with EXIF, a background, alphas and what its light is", bright_png,
+     {"Field/Ascii": ["Maker"], "Rational.denominator": [1, 125], "Bkgd.red": [1], "Bkgd.blue": [3], "Alpha.alpha": [0, 1, 0, 2, 0, 3],
+      "Mdcv.whitex": [15635], "Mdcv.most": [10000000], "Mdcv.least": [1], "Clli.content": [4000000], "Clli.average": [1000000],
+      "Chunk.size": [6, 6, 24, 8, len(samples.exif()), 4, 9, 9, 7, 31]}),
+    ("git-pack", "with a change to an object elsewhere", thin_pack, {"Object.type": [7], "Object.size": [300], "Object/Base:hex": ["05" * 20]}),
     ("wasm", "with all sections", lambda: WASM, {"Section.id": [1, 3, 4, 5, 6, 7, 8, 9, 10, 11, 0], "Signed.val": [-5, 1, 16],
      "Constant.high": [0x3ff80000],
                                                 "Start.function": [1], "Locals.kind": [0x7e, 0x7d], "Block/Bytes": ["hello", "passive"],
