@@ -738,6 +738,23 @@ def check(command, name, folder):
     return all([has_words(row, lines, wrapped) for row in rows]) and fine
 
 
+def reads_long_directory(command, folder):
+    """An image of ISO 9660 whose directory has 302 files, itself and the one above: all are read that `isoinfo` lists, at their places."""
+    if not (shutil.which("genisoimage") and shutil.which("isoinfo")):
+        return True
+    files, image = os.path.join(folder, "files"), os.path.join(folder, "image")
+    os.mkdir(files)
+    for number in range(302):
+        with open(os.path.join(files, f"a_name_that_is_long_{number}"), "wb") as file:
+            file.write(b"%d" % number)
+    run("genisoimage", "-quiet", "-R", "-o", image, files)
+    listed = re.findall(r"\[ *(\d+) 0[02]\]", run("isoinfo", "-l", "-i", image).stdout.decode("latin-1"))
+    status, text = parse(command, os.path.join(FOLDER, "iso9660.ipg"), image)
+    with open(image, "rb") as file:
+        read = seen(tree(text, file.read()), "Sector/Record.extent")
+    return status == 0 and len(listed) == 304 and read == listed or failed("iso9660", f"of {len(listed)} records {len(read)} are read")
+
+
 def main():
     if sys.argv[1:] == ["--missing"]:
         print("\n".join(missing()))
@@ -752,6 +769,8 @@ def main():
             os.mkdir(own)
         fine = pool.map(check, [sys.argv[1]] * len(names), names, folders)
         wrong = [name for name, right in zip(names, fine) if not right]
+        if not reads_long_directory(sys.argv[1], folder):
+            wrong.append("iso9660")
     rows = [row for row in TOOLS if shutil.which(tool(row))]
     print(f"gallery: {len(names)} grammars, {len(wrong)} of them wrong; {len(rows)} of {len(TOOLS)} questions to other programs asked")
     return 1 if wrong else 0
