@@ -39,7 +39,8 @@ put_program() {
     put 644 "$top/editors/completions/ipg-open.bash" share/bash-completion/completions/ipg-open &&
     put 644 "$top/editors/completions/_ipg" share/zsh/site-functions/_ipg &&
     put 644 "$top/editors/completions/_ipg-open" share/zsh/site-functions/_ipg-open &&
-    put 644 "$top/LICENSE-MIT" share/licenses/ipg/LICENSE-MIT && put 644 "$top/LICENSE-APACHE" share/licenses/ipg/LICENSE-APACHE
+    put 644 "$top/LICENSE-MIT" share/licenses/ipg/LICENSE-MIT && put 644 "$top/LICENSE-APACHE" share/licenses/ipg/LICENSE-APACHE &&
+    put 644 "$top/NOTICE" share/licenses/ipg/NOTICE
 }
 
 # the page in which grammars are written beside files

@@ -119,3 +119,13 @@ library_sources() {
 build_library() {
   (cd "$top/crates/ipg_c" && proving rt lib) && rm -rf "$top/lib/out" && make -s -C "$top/lib" >&2
 }
+
+# needs_kit WHO WHAT: whether the toolchain is there; else says what can't be done without it, and what can. Its status is 70 then.
+needs_kit() {
+  command -v rt >/dev/null && return
+  cat >&2 <<MISSING
+$1: the toolchain is missing: there is no \`rt\` in PATH, and $2 wants it.
+Without it ./install.sh installs the program and the library that are kept in dist/, and .ci/kept checks these (docs/INSTALL.md).
+MISSING
+  return 70
+}

@@ -30,7 +30,7 @@ says() {
 }
 
 # a copy, so that nothing is built in the checkout; the library is the one that was built here, where it is
-mkdir "$folder/copy" && cp -r LICENSE-* formats lib dist "$folder/copy" || exit 1
+mkdir "$folder/copy" && cp -r LICENSE-* NOTICE formats lib dist "$folder/copy" || exit 1
 if [ -f lib/out/libipg.so ]; then cp lib/out/libipg.so "$folder/copy/dist/libipg.so"; fi
 says "a wheel" "$python" -m pip wheel -q --no-index --no-deps --disable-pip-version-check -w "$folder" "$folder/copy/lib/python"
 "$python" -m venv --without-pip "$folder/env" || exit 1

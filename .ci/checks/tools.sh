@@ -62,7 +62,7 @@ expect 'formats/png.ipg' complete_by_bash_open ipg-open formats/png
 due() {
   printf '%s\n' bin/ipg bin/ipg-open bin/ipg-studio include/ipg.h lib/libipg.so lib/libipg.so.1 lib/pkgconfig/ipg.pc \
     share/bash-completion/completions/{ipg,ipg-open,ipg-studio} share/ipg/installed share/ipg/studio.html \
-    share/licenses/ipg/{LICENSE-APACHE,LICENSE-MIT} \
+    share/licenses/ipg/{LICENSE-APACHE,LICENSE-MIT,NOTICE} \
     share/man/man1/{ipg,ipg-open,ipg-studio}.1 share/zsh/site-functions/{_ipg,_ipg-open,_ipg-studio} "$@"
   find formats editors/{README.md,ipg.tmLanguage.json,emacs,vim} -type f ! -name '*.pyc' -printf 'share/ipg/%p\n'
 }

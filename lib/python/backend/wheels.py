@@ -52,7 +52,7 @@ def files() -> Iterator[tuple[str, str]]:
     for name in sorted(os.listdir(FORMATS)):
         if name.endswith(".ipg"):
             yield f"ipg/formats/{name}", os.path.join(FORMATS, name)
-    for name in ("LICENSE-APACHE", "LICENSE-MIT"):
+    for name in ("LICENSE-APACHE", "LICENSE-MIT", "NOTICE"):
         yield f"ipg-{version()}.dist-info/{name}", os.path.join(TOP, name)
 
 
