@@ -19,7 +19,8 @@ for tool in git gzip npm python3 sha256sum tar xz zip dpkg-deb; do command -v "$
 [ "${#missing[@]}" -eq 0 ] || fail "missing: ${missing[*]}. Without them ./install.sh installs what dist/ keeps." 70
 [ -z "$(git -C "$top" status --porcelain)" ] || fail "there are changes that no commit has"
 SOURCE_DATE_EPOCH=$(git -C "$top" log -1 --format=%ct)
-export SOURCE_DATE_EPOCH
+MAINTAINER=$(git -C "$top" log -1 --format='%an <%ae>')
+export SOURCE_DATE_EPOCH MAINTAINER
 room="$(mktemp -d)"
 trap 'rm -rf "$room"' EXIT
 mkdir "$room/src"
@@ -52,6 +53,7 @@ packed() {
 staged() {
   DESTDIR="$room" ./install.sh /stage >/dev/null || fail "it can't be installed"
   rm "$room/stage/share/ipg/installed"
+  # shellcheck disable=SC2016
   sed -i '1s|.*|prefix=${pcfiledir}/../..|' "$room/stage/lib/pkgconfig/ipg.pc"
   pages "$room/stage/share/doc/ipg"
 }
@@ -64,14 +66,14 @@ linux() {
   if [ -n "${3-}" ]; then
     install -m 755 "dist/$3" "$room/$name/lib/libipg.so.1"
   else
-    rm -r "$room/$name/lib" "$room/$name/include"
+    rm -r "${room:?}/$name/lib" "$room/$name/include"
   fi
-  if ! readelf_needs "dist/$2"; then cp release/licences/LGPL-2.1 "$room/$name/share/licenses/ipg/"; fi
+  if ! is_dynamic "dist/$2"; then cp release/licences/LGPL-2.1 "$room/$name/share/licenses/ipg/"; fi
   packed "$name"
 }
 
-# readelf_needs FILE: whether a program takes the system's C library; one that doesn't brings glibc
-readelf_needs() {
+# is_dynamic FILE: whether a program takes the system's C library; one that doesn't brings glibc
+is_dynamic() {
   grep -q 'libc\.so\.6' "$1"
 }
 

@@ -1,13 +1,12 @@
 #!/usr/bin/env bash
 # For ../release.sh: packages for Debian on amd64, of an install.
-#   debs.sh STAGE VERSION OUT     with SOURCE_DATE_EPOCH
+#   debs.sh STAGE VERSION OUT     with SOURCE_DATE_EPOCH and MAINTAINER
 set -eu
 umask 022
 cd "$(dirname -- "$0")/.."
 stage=$1 version=$2 out=$3
 room="$(mktemp -d)"
 trap 'rm -rf "$room"' EXIT
-maintainer='ipg <ipg@users.noreply.github.com>'
 libraries=usr/lib/x86_64-linux-gnu
 python=usr/lib/python3/dist-packages
 
@@ -25,9 +24,10 @@ begin() {
 
 # about SECTION DEPENDS SUMMARY TEXT: the package's control file
 about() {
-  printf '%s\n' "Package: $package" "Version: $version" 'Architecture: amd64' "Maintainer: $maintainer" \
+  printf '%s\n' "Package: $package" "Version: $version" 'Architecture: amd64' "Maintainer: $MAINTAINER" \
     "Installed-Size: $(du -k --apparent-size -s "$root/usr" | cut -f 1)" "Section: $1" 'Priority: optional' \
-    ${2:+"Depends: $2"} "Description: $3" " $4" >"$root/DEBIAN/control"
+    "Depends: $2" "Description: $3" >"$root/DEBIAN/control"
+  fold -s -w 72 <<<"$4" | sed 's/^/ /; s/ *$//' >>"$root/DEBIAN/control"
 }
 
 # its licence, its changes, and why a lintian's remark is passed over
@@ -39,7 +39,7 @@ doc() {
       ' That of MIT, and what else is linked in:' ' .'
     cat LICENSE-MIT NOTICE | sed 's/^$/./; s/^/ /'
   } >"$folder/copyright"
-  printf 'ipg (%s) unstable; urgency=medium\n\n  * See CHANGELOG.md of the sources.\n\n -- %s  %s\n' "$version" "$maintainer" \
+  printf 'ipg (%s) unstable; urgency=medium\n\n  * See CHANGELOG.md of the sources.\n\n -- %s  %s\n' "$version" "$MAINTAINER" \
     "$(date -u -R -d "@$SOURCE_DATE_EPOCH")" | gzip -9n >"$folder/changelog.gz"
 }
 
@@ -57,7 +57,6 @@ build() {
 }
 
 program() {
-  local name
   begin ipg
   take bin usr/bin
   take share/man usr/share/man
@@ -65,7 +64,7 @@ program() {
   take share/bash-completion usr/share/bash-completion
   take share/zsh/site-functions usr/share/zsh/vendor-completions
   take share/ipg usr/share/ipg
-  for name in $(find "$root/usr/share/ipg/editors" -name README.md); do rm "$name"; done
+  chmod 755 "$root/usr/share/ipg/formats/each.sh"
   doc
   passed 'unstripped-binary-or-object [usr/bin/ipg]' "it is the program that was proved and built, byte for byte"
   about utils 'libc6 (>= 2.34)' 'parse binary files by Interval Parsing Grammars' \
@@ -76,6 +75,7 @@ program() {
 library() {
   begin libipg1
   take lib/libipg.so.1 "$libraries/libipg.so.1"
+  chmod 644 "$root/$libraries/libipg.so.1"
   printf 'activate-noawait ldconfig\n' >"$root/DEBIAN/triggers"
   printf 'libipg 1 libipg1 (>= %s)\n' "$version" >"$root/DEBIAN/shlibs"
   doc
@@ -90,6 +90,7 @@ headers() {
   take include/ipg.h usr/include/ipg.h
   take lib/libipg.so "$libraries/libipg.so"
   mkdir -p "$root/$libraries/pkgconfig"
+  # shellcheck disable=SC2016
   sed -e '1s|.*|prefix=/usr|' -e 's|^libdir=.*|libdir=${prefix}/lib/x86_64-linux-gnu|' "$stage/lib/pkgconfig/ipg.pc" >"$root/$libraries/pkgconfig/ipg.pc"
   doc
   about libdevel "libipg1 (= $version)" 'parse binary files by Interval Parsing Grammars: header' \
