@@ -104,7 +104,6 @@ packages() {
   mkdir -p "$root/$python/ipg-$version.dist-info"
   cp -r lib/python/ipg "$root/$python/ipg"
   ln -s ../../../x86_64-linux-gnu/libipg.so.1 "$root/$python/ipg/libipg.so"
-  ln -s ../../../../share/ipg/formats "$root/$python/ipg/formats"
   printf 'Metadata-Version: 2.1\nName: ipg\nVersion: %s\n' "$version" >"$root/$python/ipg-$version.dist-info/METADATA"
   printf '#!/bin/sh\nset -e\nif command -v py3compile >/dev/null; then py3compile -p python3-ipg; fi\n' >"$root/DEBIAN/postinst"
   printf '#!/bin/sh\nset -e\nif command -v py3clean >/dev/null; then py3clean -p python3-ipg; fi\n' >"$root/DEBIAN/prerm"

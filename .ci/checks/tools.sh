@@ -108,6 +108,7 @@ if DESTDIR="$folder/stage" ./install.sh --python /usr >/dev/null; then
   expect 'prefix=/usr' head -n 1 "$folder/stage/usr/lib/pkgconfig/ipg.pc"
   package=$(find "$folder/stage/usr" -path '*-packages/ipg')
   expect "$(./ipg version)" env PYTHONPATH="${package%/*}" python3 -m ipg version
+  expect True env PYTHONPATH="${package%/*}" python3 -c 'import ipg; print("png" in ipg.formats())'
   DESTDIR="$folder/stage" ./install.sh uninstall /usr
   expect 'usr usr/lib' eval 'echo $(cd "$folder/stage" && find . -mindepth 1 -printf "%P\n")'
 else

@@ -966,9 +966,10 @@ _LAST = ("riff", "fat", "mbr", "tls", "dns", "der", "ber", "cbor", "msgpack", "u
 
 
 def _folder() -> str:
-    """Where the grammars of formats are: beside this file, or where they lie in the repository or an installed copy of it."""
+    """Where the grammars of formats are: beside this file, in the repository, or below the PREFIX of an installed `PREFIX/lib/pythonX.Y/..`."""
     here = os.path.dirname(os.path.abspath(__file__))
-    places = [os.path.join(here, *up, "formats") for up in ((), ("..", ".."), ("..", "..", ".."))]
+    ups = ((), ("..", "..", ".."), ("..", "..", "..", "..", "share", "ipg"))
+    places = [os.path.join(here, *up, "formats") for up in ups]
     return next((place for place in places if os.path.isdir(place)), places[0])
 
 
