@@ -28,6 +28,7 @@ want() {
   fi
 }
 
+is_built tool_sample || command -v rt >/dev/null || { skip formats "the toolchain, or a tool_sample that was built" && exit 0; }
 is_built tool_sample || rt run -- gif 3 </dev/null >/dev/null 2>"$dir/log" || { cat "$dir/log" >&2; exit 1; }
 for name in elf pe gif pcap; do
   out/tool_sample "$name" >"$dir/$name.ipg" || failed=1

@@ -22,6 +22,17 @@ if command -v file >/dev/null; then
 else
   skip front-files file
 fi
+# without the toolchain: what wants it says so, and what can be done; make's own status is 2 where its script ends with 70
+bare=(env -i PATH=/usr/bin:/bin)
+for due in '70 ./prove' '2 make -C lib' '70 .ci/run'; do
+  read -ra words <<<"${due#* }"
+  if "${bare[@]}" sh -c "command -v rt || ! command -v ${words[0]}" >/dev/null; then continue; fi
+  said=$("${bare[@]}" "${words[@]}" 2>&1)
+  [ "$?" = "${due%% *}" ] && [[ $said = *'there is no `rt` in PATH'*'./install.sh installs'* ]] || {
+    echo "front: ${due#* } without the toolchain says: $said"
+    status=1
+  }
+done
 if command -v dash >/dev/null; then
   dash -n ipg-open || status=1
 fi

@@ -21,6 +21,10 @@ python3 .ci/vectors.py parses ./ipg parse || failed=1
 python3 .ci/vectors.py queries ./ipg query || failed=1
 python3 .ci/vectors.py certificates ./ipg verify || failed=1
 python3 .ci/vectors.py texts ./ipg || failed=1
+if ! command -v rt >/dev/null && ! { is_built tool_counts && is_built tool_conditions; }; then
+  skip vectors-tools "the toolchain, or small programs that were built"
+  exit "$failed"
+fi
 built tool_counts data/row.ipg data/row.bin
 python3 .ci/vectors.py counts crates/tool_counts/out/tool_counts || failed=1
 bash .ci/shared_calls.sh crates/tool_counts/out/tool_counts || failed=1

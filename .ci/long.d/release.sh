@@ -1,6 +1,7 @@
 #!/usr/bin/env bash
 # A release, twice and bit for bit; then, in a fresh root with Debian's base, gcc and python3: README's commands in their order from the
 # sources, and the packages for Debian, which leave nothing behind. It takes minutes, most of them for the root.
+# RELEASE_OUT may name the folder of a release that was made beforehand, RELEASE_ROOT a root that debootstrap made, which is copied.
 # matter: release.sh release dist install.sh lib docs README.md NOTICE
 set -u
 cd "$(dirname "$0")/../.." || exit 1
@@ -24,11 +25,13 @@ for tool in git npm zip dpkg-deb python3; do
   command -v "$tool" >/dev/null || { skip release "$tool" && exit 0; }
 done
 # what is released is a commit: that of a clone, in two places
-for copy in one another; do
-  git clone -q . "$folder/$copy" && "$folder/$copy/release.sh" "$folder/out.$copy" || exit 1
-done
-says "twice the same, bit for bit" diff -r "$folder/out.one" "$folder/out.another"
-out=$folder/out.one
+if [ -z "${RELEASE_OUT-}" ]; then
+  for copy in one another; do
+    git clone -q . "$folder/$copy" && "$folder/$copy/release.sh" "$folder/out.$copy" || exit 1
+  done
+  says "twice the same, bit for bit" diff -r "$folder/out.one" "$folder/out.another"
+fi
+out=${RELEASE_OUT-$folder/out.one}
 says "the sums" eval "cd '$out' && sha256sum --quiet -c SHA256SUMS && test \$(ls | wc -l) -eq \$((\$(wc -l <SHA256SUMS) + 1))"
 version=$(dist/ipg version | sed -n '1s/^ipg //p')
 
@@ -82,8 +85,16 @@ packages() {
   says "nothing is left" diff "$folder/before" "$folder/after"
 }
 
-if [ "$(id -u)" -eq 0 ] && command -v debootstrap >/dev/null &&
-  debootstrap --variant=minbase --include=gcc,libc6-dev,python3 bookworm "$folder/root" >"$folder/log" 2>&1; then
+# a fresh root
+made_root() {
+  if [ -n "${RELEASE_ROOT-}" ]; then
+    cp -a "$RELEASE_ROOT" "$folder/root"
+  else
+    debootstrap --variant=minbase --include=gcc,libc6-dev,python3 bookworm "$folder/root" >"$folder/log" 2>&1
+  fi
+}
+
+if [ "$(id -u)" -eq 0 ] && command -v debootstrap >/dev/null && made_root; then
   packages
   git clone -q . "$folder/root/src" || failed=1
   says "README's commands in a fresh root" inside python3 -B /src/.ci/front.py readme

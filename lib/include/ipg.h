@@ -13,6 +13,9 @@
 #ifndef IPG_H
 #define IPG_H
 
+/* The program's, as `ipg version` tells it. */
+#define IPG_VERSION "0.1.0"
+
 #include <stddef.h>
 #include <stdint.h>
 
