@@ -2,10 +2,11 @@
 
   release.py version        each place that has the version has the program's
   release.py systems        docs/INSTALL.md's table of systems says what the symbols of the kept files ask for, and which instructions they have
-  release.py audit          docs/AUDIT.md counts the lines of the definitions as they are
+  release.py audit          docs/AUDIT.md counts the lines of the definitions as they are, and names wrong bodies that are there
   release.py workflows      each step of .github/workflows runs a script that is there
 """
 
+import glob
 import os
 import re
 import subprocess
@@ -108,6 +109,9 @@ def audit():
         total, counted = total + have, counted + 1
         if have != int(lines):
             wrong.append(f"docs/AUDIT.md counts {lines} lines in {name}, which has {have}")
+    for edit in re.findall(r"^\|[^|]*\|[^|]*\| `(\w+)` \|$", text_of("docs/AUDIT.md"), re.M):
+        if not glob.glob(os.path.join(TOP, "crates", "*", "*", edit + ".edit")):
+            wrong.append(f"docs/AUDIT.md names the edit {edit}, which isn't there")
     if f"{total:,} lines" not in text_of("docs/AUDIT.md"):
         wrong.append(f"docs/AUDIT.md doesn't say {total:,} lines")
     return told(f"{counted} rows of definitions", wrong + ["no row"] * (not counted))

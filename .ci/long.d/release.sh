@@ -32,7 +32,7 @@ if [ -z "${RELEASE_OUT-}" ]; then
   says "twice the same, bit for bit" diff -r "$folder/out.one" "$folder/out.another"
 fi
 out=${RELEASE_OUT-$folder/out.one}
-says "the sums" eval "cd '$out' && sha256sum --quiet -c SHA256SUMS && test \$(ls | wc -l) -eq \$((\$(wc -l <SHA256SUMS) + 1))"
+says "the sums" sh -c 'cd "$1" && sha256sum --quiet -c SHA256SUMS && test "$(ls | wc -l)" -eq "$(($(wc -l <SHA256SUMS) + 1))"' sh "$out"
 version=$(dist/ipg version | sed -n '1s/^ipg //p')
 
 # an archive, unpacked anywhere: the programs are those that are kept, and the one of this machine runs
