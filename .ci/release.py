@@ -125,7 +125,7 @@ def workflows():
         for step in re.findall(r"^ +(?:- )?run: (.*)$", text_of(os.path.join(".github", "workflows", name)), re.M):
             count += 1
             for word in step.split():
-                if "/" in word and not word.startswith("/") and not os.path.exists(os.path.join(TOP, word)):
+                if "/" in word and word[0] not in "/\"$" and not os.path.exists(os.path.join(TOP, word)):
                     wrong.append(f"{name}: {step}: there is no {word}")
     return told(f"{count} steps of a host", wrong + ["no step"] * (not count))
 
