@@ -3,6 +3,7 @@
   release.py version        each place that has the version has the program's
   release.py systems        docs/INSTALL.md's table of systems says what the symbols of the kept files ask for, and which instructions they have
   release.py audit          docs/AUDIT.md counts the lines of the definitions as they are, and names wrong bodies that are there
+  release.py links          each link of a page leads to a file that is there
   release.py workflows      each step of .github/workflows runs a script that is there
 """
 
@@ -117,6 +118,20 @@ def audit():
     return told(f"{counted} rows of definitions", wrong + ["no row"] * (not counted))
 
 
+# ---- links
+
+def links():
+    wrong, count = [], 0
+    for name in glob.glob("*.md", root_dir=TOP) + glob.glob("*/**/*.md", root_dir=TOP, recursive=True):
+        # what stands in a block or in a word of code is no link
+        text = re.sub(r"^```.*?^```$|`[^`\n]*`", "", text_of(name), flags=re.M | re.S)
+        for link in re.findall(r"\]\(([^)#\s]+)[^)]*\)", text):
+            count += 1
+            if ":" not in link and not os.path.exists(os.path.join(TOP, os.path.dirname(name), link)):
+                wrong.append(f"{name} links to {link}, which isn't there")
+    return told(f"{count} links", wrong)
+
+
 # ---- what a host runs
 
 def workflows():
@@ -131,7 +146,7 @@ def workflows():
 
 
 def main(words):
-    parts = {"version": version, "systems": systems, "audit": audit, "workflows": workflows}
+    parts = {"version": version, "systems": systems, "audit": audit, "links": links, "workflows": workflows}
     if not words or any(word not in parts for word in words):
         print(__doc__, file=sys.stderr)
         return 2
