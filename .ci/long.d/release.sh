@@ -56,9 +56,11 @@ else
   skip release-lintian lintian
 fi
 
-# inside COMMAND..: in the fresh root, with nothing but the system's own path
+# inside COMMAND..: in the fresh root, with nothing but the system's own path; /proc is there as long as the command runs
 inside() {
-  chroot "$folder/root" env -i PATH=/usr/sbin:/usr/bin:/sbin:/bin HOME=/root LC_ALL=C.UTF-8 "$@"
+  # shellcheck disable=SC2016
+  unshare --mount sh -c 'mount -t proc proc "$1/proc" && exec chroot "$@"' sh "$folder/root" env -i PATH=/usr/sbin:/usr/bin:/sbin:/bin HOME=/root \
+    LC_ALL=C.UTF-8 "$@"
 }
 
 # what lies in the root, but for what dpkg and ldconfig write of themselves
@@ -94,11 +96,11 @@ made_root() {
   fi
 }
 
-if [ "$(id -u)" -eq 0 ] && command -v debootstrap >/dev/null && made_root; then
+if [ "$(id -u)" -eq 0 ] && command -v debootstrap >/dev/null && unshare --mount true && made_root; then
   packages
   git clone -q . "$folder/root/src" || failed=1
   says "README's commands in a fresh root" inside python3 -B /src/.ci/front.py readme
-  cat "$folder/said"
+  tail -n 1 "$folder/said"
 else
   skip release-root "root, debootstrap and its packages"
 fi
