@@ -3,6 +3,7 @@
   release.py version        each place that has the version has the program's
   release.py systems        docs/INSTALL.md's table of systems says what the symbols of the kept files ask for, and which instructions they have
   release.py audit          docs/AUDIT.md counts the lines of the definitions as they are, and names wrong bodies that are there
+  release.py counts         writes these counts into docs/AUDIT.md
   release.py links          each link of a page leads to a file that is there
   release.py workflows      each step of .github/workflows runs a script that is there
 """
@@ -101,21 +102,38 @@ def systems():
 
 # ---- what an auditor reads
 
+ROW = re.compile(r"^(\| \[`[^`]*`\]\(\.\./(crates/[^)]*)\) \| )(\d+)(?= \|)", re.M)
+TOTAL = re.compile(r"[\d,]+(?= lines; a wrong line)")
+
+
+def lines_in(name):
+    """The lines of a file of definitions, or of those of a folder."""
+    path = os.path.join(TOP, name)
+    files = [path] if os.path.isfile(path) else [os.path.join(path, file) for file in os.listdir(path)]
+    return sum(text_of(file).count("\n") for file in files if file.endswith(".antt"))
+
+
+def counted(page):
+    """The page with its counts as they are."""
+    page = ROW.sub(lambda row: f"{row[1]}{lines_in(row[2])}", page)
+    return TOTAL.sub(f"{sum(lines_in(row[2]) for row in ROW.finditer(page)):,}", page)
+
+
+def counts():
+    page = counted(text_of("docs/AUDIT.md"))
+    with open(os.path.join(TOP, "docs", "AUDIT.md"), "w", encoding="utf-8") as file:
+        file.write(page)
+    return True
+
+
 def audit():
-    wrong, total, counted = [], 0, 0
-    for name, lines in re.findall(r"^\| \[`[^`]*`\]\(\.\./(crates/[^)]*)\)[^|]*\| (\d+) \|", text_of("docs/AUDIT.md"), re.M):
-        path = os.path.join(TOP, name)
-        files = [path] if os.path.isfile(path) else [os.path.join(path, file) for file in os.listdir(path)]
-        have = sum(text_of(file).count("\n") for file in files if file.endswith(".antt"))
-        total, counted = total + have, counted + 1
-        if have != int(lines):
-            wrong.append(f"docs/AUDIT.md counts {lines} lines in {name}, which has {have}")
+    page = text_of("docs/AUDIT.md")
+    wrong = ["docs/AUDIT.md counts lines otherwise than they are: .ci/release.py counts"] * (counted(page) != page)
     for edit in re.findall(r"^\|[^|]*\|[^|]*\| `(\w+)` \|$", text_of("docs/AUDIT.md"), re.M):
         if not glob.glob(os.path.join(TOP, "crates", "*", "*", edit + ".edit")):
             wrong.append(f"docs/AUDIT.md names the edit {edit}, which isn't there")
-    if f"{total:,} lines" not in text_of("docs/AUDIT.md"):
-        wrong.append(f"docs/AUDIT.md doesn't say {total:,} lines")
-    return told(f"{counted} rows of definitions", wrong + ["no row"] * (not counted))
+    rows_there = len(ROW.findall(page))
+    return told(f"{rows_there} rows of definitions", wrong + ["no row"] * (not rows_there))
 
 
 # ---- links
@@ -146,7 +164,7 @@ def workflows():
 
 
 def main(words):
-    parts = {"version": version, "systems": systems, "audit": audit, "links": links, "workflows": workflows}
+    parts = {"version": version, "systems": systems, "audit": audit, "counts": counts, "links": links, "workflows": workflows}
     if not words or any(word not in parts for word in words):
         print(__doc__, file=sys.stderr)
         return 2
