@@ -42,10 +42,11 @@ asks() {
 # the package of npm, made in a copy and installed from its file: what is in it, and what its command says
 npm_package() {
   local app=$folder/app
-  mkdir -p "$folder/copy/dist" "$app" "$folder/samples" && cp -r targets formats LICENSE-* NOTICE "$folder/copy" && cp dist/ipg.wasm "$folder/copy/dist" || return 1
+  mkdir -p "$folder/copy/dist" "$app" "$folder/samples" && cp -r targets formats LICENSE-* NOTICE "$folder/copy" &&
+    cp dist/ipg.wasm "$folder/copy/dist" || return 1
   (cd "$folder/copy/targets" && npm pack --silent --offline --pack-destination "$folder") >/dev/null || return 1
   expect 'what npm packs' "$(tar tzf "$folder"/ipg-*.tgz | grep -v /formats/ | LC_ALL=C sort | xargs)" \
-    'package/LICENSE-APACHE package/LICENSE-MIT package/NOTICE package/README.md package/cli.mjs package/ipg.d.ts package/ipg.mjs package/ipg.wasm package/package.json'
+    "package/LICENSE-APACHE package/LICENSE-MIT package/NOTICE $(echo package/{README.md,cli.mjs,ipg.d.ts,ipg.mjs,ipg.wasm,package.json})"
   expect "the package's version" "$(basename "$folder"/ipg-*.tgz .tgz)" "$(dist/ipg version | sed -n '1s/^ipg /ipg-/p')"
   (cd "$app" && echo '{}' >package.json && npm install --silent --offline --no-audit --no-fund "$folder"/ipg-*.tgz) >/dev/null || return 1
   python3 -B formats/samples.py "$folder/samples"
