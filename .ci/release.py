@@ -97,7 +97,10 @@ def rows():
 def systems():
     page = text_of("docs/INSTALL.md")
     due = list(rows())
-    return told(f"{len(due)} systems", [f"docs/INSTALL.md lacks the row {row}" for row in due if row not in page])
+    wrong = [f"docs/INSTALL.md lacks the row {row}" for row in due if row not in page]
+    packages = text_of("release/debs.sh")
+    asked = [f"libc6 (>= {least(name)})" for name in ("dist/ipg", "dist/libipg.so")]
+    return told(f"{len(due)} systems", wrong + [f"release/debs.sh lacks {text}" for text in asked if text not in packages])
 
 
 # ---- what an auditor reads
