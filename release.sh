@@ -17,7 +17,7 @@ fail() {
 missing=()
 for tool in git gzip npm python3 sha256sum tar xz zip dpkg-deb; do command -v "$tool" >/dev/null || missing+=("$tool"); done
 [ "${#missing[@]}" -eq 0 ] || fail "missing: ${missing[*]}. Without them ./install.sh installs what dist/ keeps." 70
-[ -z "$(git -C "$top" status --porcelain)" ] || fail "there are changes that no commit has"
+[ -z "$(git -C "$top" status --porcelain --untracked-files=no)" ] || fail "there are changes that no commit has"
 SOURCE_DATE_EPOCH=$(git -C "$top" log -1 --format=%ct)
 MAINTAINER=$(git -C "$top" log -1 --format='%an <%ae>')
 export SOURCE_DATE_EPOCH MAINTAINER
