@@ -8,7 +8,7 @@ most=${2-300}
 missing=()
 while read -r command package _; do
   case $command in '' | '#'*) continue ;; esac
-  command -v "$command" >/dev/null || missing+=("$package")
+  command -v "$command" >/dev/null || [ -e "$command" ] || missing+=("$package")
 done <"$list"
 [ "${#missing[@]}" -gt 0 ] || exit 0
 if [ "${CI-}" != true ] || [ "$(id -u)" -ne 0 ] || ! command -v apt-get >/dev/null; then
