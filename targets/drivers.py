@@ -48,7 +48,7 @@ class Chromedriver:
 
     def post(self, path, body):
         request = urllib.request.Request(self.address + path, json.dumps(body).encode(), {"Content-Type": "application/json"})
-        with urllib.request.urlopen(request, timeout=120) as answer:
+        with urllib.request.urlopen(request, timeout=600) as answer:
             return json.load(answer)["value"]
 
     def open(self, address):
@@ -71,7 +71,7 @@ class Marionette:
     """WebDriver's commands over Firefox's own socket: each a JSON text behind its length."""
 
     def __init__(self, port):
-        self.socket = retried(lambda: socket.create_connection(("127.0.0.1", port), 120))
+        self.socket = retried(lambda: socket.create_connection(("127.0.0.1", port), 600))
         self.number = 0
         self.receive()
         self.ask("WebDriver:NewSession", {})

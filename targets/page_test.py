@@ -95,7 +95,8 @@ def main(words):
             with open(os.path.join(folder, name), "wb") as file:
                 file.write(data)
         address = site(os.path.join(folder, "site"), module)
-        return max(judge(word, address, folder) for word in words)
+        statuses = {judge(word, address, folder) for word in words}
+        return 1 if 1 in statuses else max(statuses)
 
 
 if __name__ == "__main__":

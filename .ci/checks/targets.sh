@@ -1,6 +1,6 @@
 #!/usr/bin/env bash
 # The kept builds for other machines: they are of the modules and files at hand, and some commands by each say what the program says.
-# `.ci/long.d/targets.sh` runs the whole list, and this with CI_LONG=1: wine, browsers and the package of npm take minutes beside other checks.
+# `.ci/long.d/targets.sh` runs the whole list on all targets, and this with CI_LONG=1: then the package of npm is tried, and no command here.
 set -u
 cd "$(dirname "$0")/../.." || exit 1
 . .ci/skips.sh
@@ -41,7 +41,7 @@ asks() {
 
 # the package of npm, made in a copy and installed from its file: what is in it, and what its command says
 npm_package() {
-  local app=$folder/app
+  local due app=$folder/app
   mkdir -p "$folder/copy/dist" "$app" "$folder/samples" && cp -r targets formats LICENSE-* NOTICE "$folder/copy" &&
     cp dist/ipg.wasm "$folder/copy/dist" || return 1
   (cd "$folder/copy/targets" && npm pack --silent --offline --pack-destination "$folder") >/dev/null || return 1
@@ -50,8 +50,10 @@ npm_package() {
   expect "the package's version" "$(basename "$folder"/ipg-*.tgz .tgz)" "$(dist/ipg version | sed -n '1s/^ipg /ipg-/p')"
   (cd "$app" && echo '{}' >package.json && npm install --silent --offline --no-audit --no-fund "$folder"/ipg-*.tgz) >/dev/null || return 1
   python3 -B formats/samples.py "$folder/samples"
-  expect 'npx ipg view @png' "$(cd "$app" && npx --offline ipg view @png - <"$folder/samples/png"; echo $?)" \
-    "$(dist/ipg view formats/png.ipg "$folder/samples/png"; echo $?)"
+  cp "$folder/samples/png" "$app/x.png"
+  due=$(dist/ipg view formats/png.ipg "$folder/samples/png"; echo $?)
+  expect 'npx ipg view @png x.png' "$(cd "$app" && npx --offline ipg view @png x.png; echo $?)" "$due"
+  expect 'npx ipg view @png -' "$(cd "$app" && npx --offline ipg view @png - <x.png; echo $?)" "$due"
   expect 'npx ipg version' "$(cd "$app" && npx --offline ipg version 2>&1; echo $?)" "$(dist/ipg version && echo 0)"
   printf 'no module' >"$app/node_modules/ipg/ipg.wasm"
   expect 'npx ipg without a module' "$(cd "$app" && npx --offline ipg version 2>&1; echo $?)" $'what was loaded as ipg.wasm isn\'t WebAssembly\n69'
@@ -92,21 +94,12 @@ else
 fi
 if command -v unzip >/dev/null; then wheels || failed=1; else skip targets-wheels unzip; fi
 
-# seen NAME COMMAND..: a command that ends with 3 where what it wants is wanting
-seen() {
-  local name=$1
-  shift
-  "$@"
+if [ "${CI_LONG-}" != 1 ]; then
+  python3 targets/runs.py --few --in dist x86_64-linux-static aarch64-linux-static
   case $? in
   0) ;;
-  3) skip "targets-$name" "its file in dist/, or what runs it" ;;
+  3) skip targets-list "a target's file in dist/, or what runs it" ;;
   *) failed=1 ;;
   esac
-}
-targets=(x86_64-linux-static aarch64-linux-static)
-[ "${CI_LONG-}" != 1 ] || targets+=(x86_64-windows wasm64-chromium aarch64-linux-library x86_64-windows-library)
-for target in "${targets[@]}"; do
-  seen "$target" python3 targets/runs.py --few --in dist "$target"
-done
-[ "${CI_LONG-}" != 1 ] || seen page python3 targets/page_test.py --in dist chromium
+fi
 exit "$failed"

@@ -8,20 +8,31 @@ cd "$(dirname "$0")/../.." || exit 1
 . .ci/skips.sh
 failed=0
 [ $# -gt 0 ] || CI_LONG=1 bash .ci/checks/targets.sh || failed=1
-[ $# -gt 0 ] || set -- x86_64-linux-static aarch64-linux-static x86_64-windows wasm64-chromium wasm64-firefox wasm64-node page-chromium page-firefox \
-  aarch64-linux-library x86_64-windows-library
+[ $# -gt 0 ] || set -- x86_64-linux-static wasm64-node wasm64-chromium wasm64-firefox x86_64-windows x86_64-windows-library \
+  aarch64-linux-static aarch64-linux-library page-chromium page-firefox
+targets=() pages=()
 for target in "$@"; do
   case $target in
-  page-*) python3 targets/page_test.py --in dist "${target#page-}" ;;
-  *) python3 targets/runs.py --in dist "$target" ;;
+  page-*) pages+=("${target#page-}") ;;
+  *) targets+=("$target") ;;
   esac
+done
+
+# seen NAME COMMAND..: a command that ends with 3 where it leaves something out
+seen() {
+  local name=$1
+  shift
+  "$@"
   case $? in
   0) ;;
   3)
-    skip "targets-$target" "its file in dist/, or what runs it"
+    skip "$name" "a target's file in dist/, or what runs it"
     [ "${CI_STRICT-}" != 1 ] || failed=1
     ;;
   *) failed=1 ;;
   esac
-done
+}
+# the list is made once for all targets
+[ "${#targets[@]}" -eq 0 ] || seen targets-list python3 -u targets/runs.py --in dist "${targets[@]}"
+[ "${#pages[@]}" -eq 0 ] || seen targets-page python3 targets/page_test.py --in dist "${pages[@]}"
 exit "$failed"
