@@ -5,7 +5,7 @@
  *   const tree = ipg.grammar("@gif").parse(bytes);
  *   tree.root.kids.map(kid => kid.rule)
  */
-const ROOM = 1 << 16; // bytes for a text at first, and 16 for each byte of a file, up to
+const ROOM = 1 << 16; // bytes for a text at first, and 64 for each byte of a file (an image's tree has 34), up to
 const MOST_ROOM = 1 << 26; // so many: a command whose text has more is run again
 const ROW = 72; // bytes of an `ipg_row`
 const PRIMITIVES = ["U8", "U16LE", "U16BE", "U32LE", "U32BE", "U64LE", "U64BE", "Bytes"];
@@ -174,7 +174,7 @@ export class Ipg {
       const lengths = lent.reduce((sum, [, size]) => sum + size, 0);
       const [word_count, file_count] = [words.length, named.length].map(BigInt);
       const call = (room, size, length) => memory.exports.ipg_run(told, word_count, given, file_count, room, size, length);
-      return texts(memory, take, call, Math.min(ROOM + 16 * lengths, MOST_ROOM));
+      return texts(memory, take, call, Math.min(ROOM + 64 * lengths, MOST_ROOM));
     });
   }
 

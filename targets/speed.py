@@ -1,8 +1,9 @@
-"""For bench/targets.sh: milliseconds and MiB of the same commands by each target and by the kept program. Of programs the time is a processor's, so
-that others at work change it little; of WebAssembly it is the clock's, and the MiB are those of the module's memory, with the room for a tree
-(512 MiB) that programs have too and touch in part."""
+"""For bench/targets.sh: milliseconds and MiB of the same commands by each target and by the kept program. Of programs and of Node the time is a
+processor's, so that others at work change it little; in browsers it is the clock's. Of WebAssembly the MiB are those of the module's memory, with
+the room for a tree (512 MiB) that programs have too and touch in part."""
 
 import contextlib
+import json
 import os
 import resource
 import shutil
@@ -68,6 +69,7 @@ def told_of(place, folder, commands):
             programs[target] = [*runner, program]
     with runs.wine_room() if "x86_64-windows" in programs else contextlib.nullcontext():
         figures = [native(programs, run, folder) for run in commands]
+    add_node(figures, runs.program_of(place, "ipg.wasm"), folder, commands)
     for level, name in (("-Os", "ipg.wasm"), ("-O3", "ipg-O3.wasm")):
         for browser in ("chromium", "firefox-esr"):
             add_web(figures, browser, level, runs.program_of(place, name), folder, commands)
@@ -76,12 +78,24 @@ def told_of(place, folder, commands):
 
 def add_web(figures, browser, level, module, folder, commands):
     """Rows of a browser, where it and the module are there."""
-    said = module and shutil.which(browser) and web.ask(browser, "web_speed.mjs", module, folder, commands)
-    for row, it in zip(figures, said or []):
+    if module and shutil.which(browser):
+        add(figures, f"wasm64-{browser} {level}", web.ask(browser, "web_speed.mjs", module, folder, commands) or [])
+
+
+def add_node(figures, module, folder, commands):
+    """Rows of Node, of a processor's time."""
+    if module and shutil.which("node"):
+        words = [*runs.node_words(), os.path.join(runs.node_package(module, folder), "node_speed.mjs")]
+        done = subprocess.run(words, cwd=folder, input=json.dumps(commands).encode(), stdout=subprocess.PIPE, check=True)
+        add(figures, "wasm64-node -Os", json.loads(done.stdout))
+
+
+def add(figures, name, said):
+    for row, it in zip(figures, said):
         if "error" in it:
             sys.exit(it["error"])
-        row[f"wasm64-{browser} {level}"] = (it["least"], it["memory"] / 2**20)
-        row[f"wasm64-{browser} {level}, with its start"] = (it["first"], it["memory"] / 2**20)
+        row[name] = (it["least"], it["memory"] / 2**20)
+        row[f"{name}, with its start"] = (it["first"], it["memory"] / 2**20)
 
 
 def main(words):
