@@ -1,8 +1,8 @@
 """Whether `.ci/wrong_bodies.py`, which proves the one function that an edit changes, answers as the gate does, which proves its crate.
 
-  compare_edits.py LOG [CRATE..]     LOG is what `rt ci` or `rt must-fail` said of the edits of must-fail/
+  compare_edits.py LOG [CRATE..]     LOG is what `rt ci` said of the edits of must-fail/, or bench/edits.sh of all
 
-Each edit of must-fail/ that the log has an answer on is tried on its functions alone; and the same functions as they stand are proved by
+Each edit that the log has an answer on is tried on its functions alone; and the same functions as they stand are proved by
 the same command. A line for each difference, then how many there are; ends with status 1 where there is one. The libraries below must
 have been proved and built in this checkout.
 """
@@ -21,9 +21,14 @@ import wrong_bodies  # noqa: E402
 ANSWER = re.compile(r"^rt: must-fail (\w+)/(\S+\.edit): (refused|NOT REFUSED)", re.M)
 
 
+def path_of(crate, name):
+    rooms = (f"crates/{crate}/{room}/{name}" for room in ("must-fail", "wrong-bodies", "more-edits"))
+    return next(path for path in rooms if os.path.exists(path))
+
+
 def answers_of(log, crates):
-    """What the gate said of each edit, by its path."""
-    return {f"crates/{crate}/must-fail/{name}": answer == "refused" for crate, name, answer in ANSWER.findall(log) if not crates or crate in crates}
+    """Whether the gate refuses each edit, by its path."""
+    return {path_of(crate, name): answer == "refused" for crate, name, answer in ANSWER.findall(log) if not crates or crate in crates}
 
 
 def is_proved(crates, edit):
@@ -45,8 +50,9 @@ def differences(crates, path, gate):
 
 def main():
     log, *names = sys.argv[1:]
-    answers = answers_of(wrong_bodies.read(log), names)
+    text = wrong_bodies.read(log)
     os.chdir(TOP)
+    answers = answers_of(text, names)
     crates = wrong_bodies.Crates()
     with concurrent.futures.ThreadPoolExecutor(wrong_bodies.at_once()) as pool:
         said = [line for lines in pool.map(lambda item: differences(crates, *item), sorted(answers.items())) for line in lines]

@@ -23,7 +23,8 @@ hosts() {
   local port=$((20000 + $$ % 20000))
   ssh-keygen -q -t ed25519 -N '' -f "$folder/host" && ssh-keygen -q -t ed25519 -N '' -f "$folder/key" || return 1
   printf '%s\n' "Port $port" 'ListenAddress 127.0.0.1' 'ListenAddress 127.0.0.2' "HostKey $folder/host" 'PidFile none' \
-    "AuthorizedKeysFile $folder/key.pub" 'StrictModes no' 'UsePAM no' 'PasswordAuthentication no' >"$folder/sshd"
+    "AuthorizedKeysFile $folder/key.pub" 'StrictModes no' 'UsePAM no' 'PasswordAuthentication no' \
+    'MaxStartups 1000' 'LoginGraceTime 0' >"$folder/sshd"
   printf '%s\n' 'Host one' '  HostName 127.0.0.1' 'Host two' '  HostName 127.0.0.2' 'Host *' "  Port $port" \
     "  IdentityFile $folder/key" '  StrictHostKeyChecking no' '  UserKnownHostsFile /dev/null' '  LogLevel ERROR' >"$folder/ssh"
   /usr/sbin/sshd -D -f "$folder/sshd" -E "$folder/log" &
@@ -69,6 +70,7 @@ if hosts; then
   for name in png second; do
     [ -z "$got" ] && cmp -s "$folder/png.tree" "$folder/work/corpus/$name.tree" || failed=1
   done
+  [ "$failed" -eq 0 ] || printf 'many: files that are sent, and their trees that come back\n%s\n' "$got"
 else
   skip many-ssh "an sshd that this user may run: $(tail -n 1 "$folder/log")"
 fi
