@@ -45,7 +45,7 @@ complete_by_bash_open() {
 expect 'parse' complete_by_bash ipg p
 expect 'check cert cover' complete_by_bash ipg c
 expect '@gif' complete_by_bash no-ipg parse @g
-expect '@gif @git-idx @git-index @glb @gpt @gzip' complete_by_bash ./ipg parse @g
+expect "@gif $(find formats -name 'g*.ipg' -printf '@%f\n' | LC_ALL=C sort | sed 's/\.ipg$//' | xargs)" complete_by_bash ./ipg parse @g
 expect 'formats' complete_by_bash ipg fo
 expect '--memo' complete_by_bash ipg json @gif x --m
 expect '--arena' complete_by_bash ipg explain @gif x --
