@@ -55,13 +55,15 @@ def shown(page, address, grammar, path):
     page.run("document.getElementById('grammar').value = ''")
     page.type("#grammar", grammar)
     page.type("#file", path)
-    page.click("#view")
-    for _ in range(600):
+    for turn in range(3000):
+        # a browser that has much to do may lose a click
+        if turn % 100 == 0:
+            page.click("#view")
         text = page.run("return document.getElementById('says').textContent")
         if text:
             return text
         time.sleep(0.1)
-    return "nothing in 60 seconds"
+    return "nothing in 300 seconds"
 
 
 def faults(browser, address, folder):
