@@ -21,7 +21,7 @@ import tempfile
 import time
 
 PARTS = ("src", "specs", "proofs")
-FUNCTION = re.compile(r"^( {4})?(?:pub(?:\(crate\))? )?(?:const |unsafe )*fn (\w+)")
+FUNCTION = re.compile(r"^( {4})?(?:pub(?:\(crate\))? )?(?:const |unsafe |extern \"C\" )*fn (\w+)")
 IMPL = re.compile(r"^(?:pub )?(?:impl|trait)\b(?:<[^{]*?>)? ?(?:(\w+)(?:<.*>)? for )?&?(?:'\w+ )?([\w:]+)")
 BYTES_EACH = 2 << 30
 WAY = "1"  # of trying an edit: another number, and nothing that was kept counts
