@@ -14,7 +14,8 @@ more_mark n = if nat_eq n 0 then [] else 43 ∷ decimal n
 -- as text and in hexadecimal
 abbrev pub bytes_words : List ℕ → List ℕ
 bytes_words bytes =
-    34 ∷ (map seen_byte (take most_shown bytes) ++ (codes "\" (" ++ (encode_lower (take most_shown bytes) ++ (more_mark (length bytes - most_shown) ++ codes ")"))))
+    34 ∷ (map seen_byte (take most_shown bytes) ++ (codes "\" ("
+    ++ (encode_lower (take most_shown bytes) ++ (more_mark (length bytes - most_shown) ++ codes ")"))))
 
 abbrev pub bytes_unit : ℕ → List ℕ
 bytes_unit n = if nat_eq n 1 then codes " byte" else codes " bytes"

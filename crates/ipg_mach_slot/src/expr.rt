@@ -160,6 +160,7 @@ pub fn pick<R: Results>(
 }
 
 /// An item of a repetition on what is left of its interval.
+#[inline(always)]
 pub fn turn(site: &PartSite<'_>, sym: u32, from: u32, to: u32) -> Found
     requires inside { (from ≤ to) × (to ≤ site.now.size) }
     ensures { (src : Source) (st : Stored) (at : ℕ) (f : Frame) (place : Place) (own : Values) (one : Sym)

@@ -83,6 +83,7 @@ fn big(bytes: &[u8]) -> u32
 }
 
 /// The number that the first bytes hold, in halves of 32 bits where it has 64.
+#[inline(always)]
 fn halves(prim: Primitive, bytes: &[u8]) -> (u32, u32)
     requires { wide prim ≤ length bytes.now }
     ensures { result ≡ spec.halves prim bytes.now }
@@ -119,6 +120,7 @@ fn token(sym: u32, ends: (u32, u32), bytes: &[u8], token: &[u8]) -> Found
 }
 
 /// A number, where there are enough bytes.
+#[inline(always)]
 #[tactic(auto, unfolding(ipg_core::specs::Meaning::number_on, ipg_core::specs::Run::finish, ipg_core::specs::Run::stop))]
 fn number(prim: Primitive, ends: (u32, u32), bytes: &[u8]) -> Found
     ensures { (src : Source) (st : Stored) (at : ℕ) (f : Frame) (own : Values) → IsInterval (length f.bytes) ends.0 ends.1

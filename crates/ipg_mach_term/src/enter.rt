@@ -99,7 +99,7 @@ fn array_between(first: i64, last: i64, sym: u32) -> Advance
 }
 
 /// An array with its first bound evaluated.
-#[inline(never)]
+#[inline(always)]
 fn array_from<R: Results>(
     site: &PartSite<'_>,
     results: &R,
@@ -161,7 +161,7 @@ fn many_between(size: u32, from: i64, to: i64) -> Advance
 }
 
 /// A repetition with its left end evaluated.
-#[inline(never)]
+#[inline(always)]
 fn many_from<R: Results>(
     site: &PartSite<'_>,
     results: &R,

@@ -112,6 +112,7 @@ fn item<R: Results, A: Allocator + Clone + Drop>(
 }
 
 /// An item of a repetition, on what is left of an interval of the part.
+#[inline(always)]
 fn turn_within(site: &PartSite<'_>, sym: u32, at: u32, to: u32) -> Found
     ensures { (src : Source) (st : Stored) (begin : ℕ) (f : Frame) (place : Place) (own : Values) (one : Sym) → at ≤ to → to ≤ site.now.size
         → slice_get site.now.tables.now.syms sym ≡ Some one → Shares src begin f site.now.tables.now site.now.bytes.now

@@ -24,5 +24,6 @@ returns g c src grammar one h same holds =
     let struck = c.deref.ensures.value ∙ c.in_ok-bare.ensures.bare src grammar one (printable c.args.parsed.now.parse src grammar one h) in
     let within = subst (λ bytes. TreeWithin (length bytes) one) same h.within in
     let is = input_of input c.requires c.type_inv.input in
-    let back = comes_back c.bare_is_not_put.ensures c.leaves_agree.ensures input one is.bytes holds within _ struck c.all_put_comes_back.ensures c.in-None.ensures in
+    let back = comes_back c.bare_is_not_put.ensures c.leaves_agree.ensures input one is.bytes holds within _ struck
+    c.all_put_comes_back.ensures c.in-None.ensures in
     puts_of show.Bytes grammar input one input c.put_text.result _ _ _ _ back c.put_text.ensures

@@ -27,7 +27,8 @@ pub returns-in-Number : goal.returns-in-Number
 returns-in-Number g c src grammar one shares shows =
     let visit = c.args.visit in
     let input = c.args.p.now.parse.input in
-    let value = ap (λ n. piece_of input visit.depth visit.from (end_of visit.from visit.to (width c.in-Number.prim)) (primitive_name c.in-Number.prim ++ 32 ∷ decimal n))
+    let value = ap (λ n. piece_of input visit.depth visit.from (end_of visit.from visit.to (width c.in-Number.prim))
+    (primitive_name c.in-Number.prim ++ 32 ∷ decimal n))
     c.value_of.ensures in
     as_text c.put_number.result _ _ _ _ _ _ (value ∙ leaf_seen src c.args.p.now.parse.store 0 visit grammar input one _ c.in-Number.is tt tt shows)
     (c.put_number.ensures shows.small)
